@@ -8,9 +8,8 @@ Each file is a sound one with one change of bytes or pages (grown_files.py). It 
 refuses it as the slow reader of files does; where it is opened, its questions are answered as by the slow machine, its bytes
 stay, and after one definition more it stands for that state. For one change of ten it is also counted what opening it takes:
 
-- it reads each page once, and where the file has more pages than are kept once more, and half of them again, since an index is read
-  once for each two megabytes of its table; a page that is cut off twice; and besides at most 64 bytes for each page of the file and
-  four times the bytes of the catalogue;
+- it reads each page once, however many there are; a page that is cut off twice; and besides at most 64 bytes for each page of the
+  file and four times the bytes of the catalogue;
 - it takes no more memory than 24 times the bytes of the file and a constant, whatever numbers stand in it. So each number of page
   0, of the directory and of the catalogue is also set to its greatest value, and to 2^63 where it is that wide.
 
@@ -41,8 +40,6 @@ COUNTED = 10  # of so many changes one is counted
 # How many of 200 batches are of files of each size.
 WEIGHTS = dict(zip(SIZES, (50, 45, 40, 30, 20, 9, 3, 1, 1, 1)))
 FEW = {1_000: 5, 3_000: 2}  # changes of a batch of such large files
-
-KEPT = 256  # pages
 
 # How much memory a run may take beside this constant, for each byte of the file: a record of the narrowest row is 30 bytes, and
 # some 700 in memory, where those of one route are together.
@@ -78,9 +75,9 @@ def check_opened(program, case, answer):
     took = opened(program, case.data, answer)
     pages = len(case.data) // PAGE_BYTES + 1
     catalogue = min(int.from_bytes(case.data[48:52], "big"), len(case.data))
-    again = len(case.data) % PAGE_BYTES + (PAGE_BYTES * pages * 3 // 2 if pages > KEPT else 0)
+    cut_off = len(case.data) % PAGE_BYTES
     faults = []
-    if took.bytes_beyond > again + 64 * pages + 4 * catalogue:
+    if took.bytes_beyond > cut_off + 64 * pages + 4 * catalogue:
         faults.append("%s: %d bytes are read beyond each of %d pages once" % (case.title, took.bytes_beyond, pages))
     if took.memory > CONSTANT + FACTOR * len(case.data):
         faults.append("%s: %d bytes of memory are taken for %d bytes" % (case.title, took.memory, len(case.data)))

@@ -144,8 +144,8 @@ impl Changes {
     }
 
     /// Puts a working copy in place of a page that has none, with room for its number first. After a refusal nothing has
-    /// changed.
-    fn add_copy(&mut self, number: PageNumber, page: Box<Page>) -> Result<(), AllocError>
+    /// changed. Whether it has one is not looked up: of one that has its number would be listed twice.
+    pub fn add_copy(&mut self, number: PageNumber, page: Box<Page>) -> Result<(), AllocError>
         ensures there { OnOk result (held_at self.new number ≡ with_copy page.value.bytes (held_at self.old number)) }
         ensures others { OnOk result ((other : ℕ) → other ≢ number → held_at self.new other ≡ held_at self.old other) }
         ensures refused { OnErr result (self.new ≡ self.old) }

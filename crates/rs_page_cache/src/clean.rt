@@ -1,9 +1,9 @@
-//! The clean pages that are held: a bounded number of pages as the disk has them.
+//! The clean pages that are held: a bounded number of pages as the disk has them. While a whole file is read they may be more.
 //!
 //! A page is read into a spare one that is always there, so a read wants no memory. The spare page joins the others
 //! before the next read where there is memory for another; else it is dropped.
 
-ghost use Rattle.std.specs.Prelude.{◌≡◌, ◌≤◌, ◌⊎◌, ℕ, Some, None, [], length, is_some, IfOk, OnOk, OnErr, IsTrue, IsSome, Err, IsOkUnless, Contains};
+ghost use Rattle.std.specs.Prelude.{◌≡◌, ◌≤◌, ◌<◌, ◌⊎◌, ℕ, Some, None, [], length, is_some, IfOk, OnOk, OnErr, IsTrue, IsSome, Err, IsOkUnless, Contains};
 ghost use Rattle.std.specs.Option.{option_map};
 ghost use Rattle.rs_disk.specs.Counts.{Counts};
 ghost use Rattle.rs_pages.specs.declared.pages.TheConstants.{GREATEST_LIMIT};
@@ -22,6 +22,9 @@ use std::num::NonZeroUsize;
 /// The greatest number of clean pages that are held, the spare one among them.
 pub const MOST_CLEAN: usize = 256;
 
+/// The greatest number of them while a whole file is read.
+pub const MOST_WHILE_OPENING: usize = 65_536;
+
 /// The clean pages.
 #[derive(Drop)]
 pub struct CleanPages {
@@ -33,21 +36,22 @@ pub struct CleanPages {
 
 impl Model for CleanPages {
     ghost use Rattle.std.specs.Prelude.{◌≡◌};
-    ghost use Rattle.rs_page_cache.specs.Clean.{Clean, spare_page, kept_pages};
+    ghost use Rattle.rs_page_cache.specs.Clean.{HeldClean, spare_page, kept_pages};
 
-    ghost Value = { Clean };
+    ghost Value = { HeldClean };
 
-    ghost use Rattle.std.specs.Prelude.{◌++◌};
+    ghost use Rattle.std.specs.Prelude.{◌++◌, ◌+◌, ◌<◌};
+    ghost use Rattle.rs_page_cache.specs.declared.clean.TheConstants.{MOST_WHILE_OPENING};
 
-    ghost view = { λ c. spare_page c.spare_number c.spare ++ kept_pages c.kept.entries };
+    ghost view = { λ c. record { pages = spare_page c.spare_number c.spare ++ kept_pages c.kept.entries; most = c.kept.cap + 1 } };
 
-    ghost invariant = { λ c. c.kept.cap ≡ 255 };
+    ghost invariant = { λ c. c.kept.cap < MOST_WHILE_OPENING };
 }
 
 impl CleanPages {
     /// No page is held, and the spare one is allocated.
     pub fn new(alloc: Global) -> Result<CleanPages, AllocError>
-        ensures { IfOk result (λ clean. clean ≡ []) }
+        ensures { IfOk result (λ clean. clean ≡ record { pages = []; most = MOST_CLEAN }) }
     {
         let most = NonZeroUsize::new(MOST_CLEAN - 1).unwrap();
         let kept = LruCache::new(alloc, most)?;
@@ -61,8 +65,9 @@ impl CleanPages {
 
     /// How many clean pages are held.
     pub fn len(&self) -> usize
-        ensures length { result ≡ length self.now }
-        ensures bound { result ≤ MOST_CLEAN }
+        ensures length { result ≡ length self.now.pages }
+        ensures bound { result ≤ self.now.most }
+        ensures greatest { self.now.most ≤ MOST_WHILE_OPENING }
     {
         match self.spare_number {
             Some(_) => self.kept.len() + 1,
@@ -72,7 +77,7 @@ impl CleanPages {
 
     /// The clean page with this number, where it is held.
     pub fn get(&self, number: PageNumber) -> Option<&Page>
-        ensures { option_map (λ page. page.now.bytes) result ≡ clean_at self.now number }
+        ensures { option_map (λ page. page.now.bytes) result ≡ clean_at self.now.pages number }
     {
         if is_number(self.spare_number, number) {
             return Some(&self.spare);
@@ -86,9 +91,10 @@ impl CleanPages {
     /// Holds the page with this number, and reads it where it isn't held.
     pub fn load<D: Disk>(&mut self, disk: &mut D, number: PageNumber) -> Result<(), Refusal>
         requires { number ≤ GREATEST_LIMIT }
-        ensures loaded { OnOk result (IsSome (clean_at self.new number)) }
+        ensures loaded { OnOk result (IsSome (clean_at self.new.pages number)) }
         ensures loads { IsTrue (D.is_honest disk.old)
-            → Loads number (λ page. page ≡ disk_page (D.seen disk.old) number) self.old self.new }
+            → Loads number (λ page. page ≡ disk_page (D.seen disk.old) number) self.old.pages self.new.pages }
+        ensures most { self.new.most ≡ self.old.most }
         ensures same { IsTrue (D.is_honest disk.old) → D.seen disk.new ≡ D.seen disk.old }
         ensures honesty { D.is_honest disk.new ≡ D.is_honest disk.old }
         ensures synced { D.is_synced disk.new ≡ D.is_synced disk.old }
@@ -109,16 +115,18 @@ impl CleanPages {
 
     /// Whether the page with this number is held. It is the most recently used then.
     fn promote(&mut self, number: PageNumber) -> bool
-        ensures held { result ≡ is_some (clean_at self.old number) }
-        ensures there { IsTrue result → IsSome (clean_at self.new number) }
-        ensures pages { (e : _) → Contains self.new e → Contains self.old e }
+        ensures held { result ≡ is_some (clean_at self.old.pages number) }
+        ensures there { IsTrue result → IsSome (clean_at self.new.pages number) }
+        ensures pages { (e : _) → Contains self.new.pages e → Contains self.old.pages e }
+        ensures most { self.new.most ≡ self.old.most }
     {
         is_number(self.spare_number, number) || self.kept.promote(&number.number())
     }
 
     /// Holds the spare page among the others, if there is memory for another. It holds no page of the disk then.
     fn keep_spare(&mut self)
-        ensures { (e : _) → Contains self.new e → Contains self.old e }
+        ensures pages { (e : _) → Contains self.new.pages e → Contains self.old.pages e }
+        ensures most { self.new.most ≡ self.old.most }
     {
         let Some(number) = self.spare_number.take() else {
             return;
@@ -131,10 +139,28 @@ impl CleanPages {
 
     /// No page is held any more.
     pub fn clear(&mut self)
-        ensures { self.new ≡ [] }
+        ensures { self.new ≡ record self.old { pages = [] } }
     {
         self.kept.clear();
         self.spare_number = None;
+    }
+
+    /// No page is held any more, and as many may be from now on as while a whole file is read. It takes no memory until they are.
+    pub fn widen(&mut self)
+        ensures { self.new ≡ record { pages = []; most = MOST_WHILE_OPENING } }
+    {
+        let most = NonZeroUsize::new(MOST_WHILE_OPENING - 1).unwrap();
+        self.clear();
+        self.kept.resize(most);
+    }
+
+    /// No page is held any more, and no more may be from now on than at any other time.
+    pub fn narrow(&mut self)
+        ensures { self.new ≡ record { pages = []; most = MOST_CLEAN } }
+    {
+        let most = NonZeroUsize::new(MOST_CLEAN - 1).unwrap();
+        self.clear();
+        self.kept.resize(most);
     }
 }
 

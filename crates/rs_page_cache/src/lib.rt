@@ -10,5 +10,5 @@ pub mod limits;
 pub mod slot;
 
 pub use changes::Changes;
-pub use clean::{CleanPages, MOST_CLEAN};
+pub use clean::{CleanPages, MOST_CLEAN, MOST_WHILE_OPENING};
 pub use slot::Slot;

@@ -64,6 +64,7 @@ module _ {D : Type 0} (d : disk.Ghosts D) (p : Paged D) (changes : Changes) (fie
     honesty = refl;
     synced = refl;
     unwritten = λ _. refl;
+    most_clean = refl;
   }
 
 -- the file has at most one page more, which has a working copy

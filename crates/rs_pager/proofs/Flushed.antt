@@ -10,7 +10,7 @@ use Rattle.rs_pages.specs.Held.{HeldPage, page_or, held_change}
 use Rattle.rs_pages.specs.PageMap.{SamePages, is_page}
 use Rattle.rs_pages.specs.declared.pages.TheConstants.{GREATEST_LIMIT}
 use Rattle.rs_page_cache.specs.Changes.{Changes, held_at}
-use Rattle.rs_page_cache.specs.Clean.{Clean, AreClean, AreAfterHeader}
+use Rattle.rs_page_cache.specs.Clean.{Clean, HeldClean, AreClean, AreAfterHeader}
 use Rattle.rs_page_cache.specs.Stored.{disk_page}
 use Rattle.rs_pager.specs.Paged.{Paged, IsSound, held}
 use Rattle.rs_pager.specs.Writing.{AreBelow, WritesOut, HasAll}
@@ -128,6 +128,7 @@ module _ {D : Type 0} (d : disk.Ghosts D) (old : Paged D) (disk : D)
     honesty = honesty;
     limit = refl;
     full = refl;
+    most_clean = refl;
     least = sound.directory;
     within = sound-within old.limit old.changes old.committed_fields old.working old.is_begun sound;
   }
@@ -194,6 +195,7 @@ module _ {D : Type 0} (d : disk.Ghosts D) (old : Paged D) (disk : D)
       honesty = honesty;
       limit = refl;
       full = refl;
+      most_clean = refl;
       least = sound.directory;
       within = sound-within old.limit old.changes old.committed_fields old.working old.is_begun sound;
     }
@@ -231,18 +233,18 @@ pub record WritesHome {D : Type 0} (d : disk.Ghosts D) (old new : Paged D) : Typ
   pub written : IsTied d old → WritesAll d old new
   pub no_change : HoldsNoChange new
 
-module _ {D : Type 0} (d : disk.Ghosts D) (p old : Paged D) (disk : D) (clean : Clean) (slots : Changes)
-    (is : p ≡ old) (dropped : clean ≡ []) (same : slots ≡ p.changes)
+module _ {D : Type 0} (d : disk.Ghosts D) (p old : Paged D) (disk : D) (clean : HeldClean) (slots : Changes)
+    (is : p ≡ old) (dropped : clean ≡ record { pages = []; most = p.most_clean }) (same : slots ≡ p.changes)
     (sound : IsSound p.limit p.changes p.committed_fields p.working p.is_begun)
     (honesty : d.is_honest disk ≡ d.is_honest p.disk)
     (out : IsTrue (d.is_honest p.disk) → WritesOut slots p.is_header_changed (d.seen p.disk) (d.seen disk)) where
   told : IsTrue (d.is_honest p.disk) → WritesOut p.changes p.is_header_changed (d.seen p.disk) (d.seen disk)
   told honest = subst (λ (l : Changes). WritesOut l p.is_header_changed (d.seen p.disk) (d.seen disk)) same (out honest)
 
-  pub faults-home : FaultsHome d old (record p { disk = disk; clean = clean })
+  pub faults-home : FaultsHome d old (record p { disk = disk; clean = clean.pages; most_clean = clean.most })
   faults-home =
-      subst (λ (o : Paged D). FaultsHome d o (record p { disk = disk; clean = clean })) is
-      (subst (λ (l : Clean). FaultsHome d p (record p { disk = disk; clean = l })) (sym dropped)
+      subst (λ (o : Paged D). FaultsHome d o (record p { disk = disk; clean = clean.pages; most_clean = clean.most })) is
+      (subst (λ (l : HeldClean). FaultsHome d p (record p { disk = disk; clean = l.pages; most_clean = l.most })) (sym dropped)
       (record {
         keeps = faulted-keeps d p disk sound honesty told;
         masked = masked-kept d p disk sound honesty told;
@@ -252,12 +254,12 @@ module _ {D : Type 0} (d : disk.Ghosts D) (p old : Paged D) (disk : D) (clean : 
 
   pub writes-home : (changes : Changes) → changes ≡ [] → p.is_begun ≡ false
       → (IsTrue (d.is_honest p.disk) → HasAll slots p.committed_fields p.is_header_changed (d.seen disk))
-      → WritesHome d old (record p { disk = disk; changes = changes; clean = clean; is_header_changed = false })
+      → WritesHome d old (record p { disk = disk; changes = changes; clean = clean.pages; most_clean = clean.most; is_header_changed = false })
   writes-home changes none shut has =
       let all : IsTrue (d.is_honest p.disk) → HasAll p.changes p.committed_fields p.is_header_changed (d.seen disk) =
       λ honest. subst (λ (l : Changes). HasAll l p.committed_fields p.is_header_changed (d.seen disk)) same (has honest) in
-      subst (λ (o : Paged D). WritesHome d o (record p { disk = disk; changes = changes; clean = clean; is_header_changed = false })) is
-      (subst (λ (l : Clean). WritesHome d p (record p { disk = disk; changes = changes; clean = l; is_header_changed = false })) (sym dropped)
+      subst (λ (o : Paged D). WritesHome d o (record p { disk = disk; changes = changes; clean = clean.pages; most_clean = clean.most; is_header_changed = false })) is
+      (subst (λ (l : HeldClean). WritesHome d p (record p { disk = disk; changes = changes; clean = l.pages; most_clean = l.most; is_header_changed = false })) (sym dropped)
       (subst (λ (l : Changes). WritesHome d p (record p { disk = disk; changes = l; clean = []; is_header_changed = false })) (sym none)
       (record {
         keeps = written-keeps d p disk sound honesty told shut all;

@@ -64,6 +64,7 @@ module _ {D : Type 0} (d : disk.Ghosts D) (n : ℕ) (old : Paged D) (disk : D) (
     honesty = reads.honesty;
     synced = reads.synced;
     unwritten = reads.same;
+    most_clean = refl;
   }
 
   clean-rests : Rests (IsTied d old) (pager_store d old) (pager_store d (with_clean old disk clean))

@@ -123,6 +123,7 @@ module _ {D : Type 0} (d : disk.Ghosts D) {T E : Type 0} (result : Result T E) (
     honesty = honesty;
     limit = refl;
     full = refl;
+    most_clean = refl;
     least = sound.directory;
     within = sound-within p.limit p.changes p.committed_fields p.working p.is_begun sound;
   })

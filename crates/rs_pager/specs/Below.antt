@@ -17,6 +17,7 @@ module _ {D : Type 0} (d : disk.Ghosts D) where
     honesty = refl;
     synced = refl;
     unwritten = λ _. refl;
+    most_clean = refl;
   }
 
   pub KeepsBelow-trans : (a b c : Paged D) → KeepsBelow d a b → KeepsBelow d b c → KeepsBelow d a c
@@ -29,4 +30,5 @@ module _ {D : Type 0} (d : disk.Ghosts D) where
     honesty = other.honesty ∙ one.honesty;
     synced = other.synced ∙ one.synced;
     unwritten = λ honest. other.unwritten (subst IsTrue (sym one.honesty) honest) ∙ one.unwritten honest;
+    most_clean = other.most_clean ∙ one.most_clean;
   }

@@ -67,7 +67,7 @@ module _ {D : Type 0} (d : disk.Ghosts D) where
         → (held p number).committed ≡ None → PAGE_SIZE * number + PAGE_SIZE ≤ (d.seen p.disk).size
     pub header : p.is_header_changed ≡ false → IsFileHeader (disk_page (d.seen p.disk) 0) p.committed_fields
 
-  -- the committed pages stay, what is held of them stays, and nothing is written to the disk
+  -- the committed pages stay, what is held of them stays, and nothing is written to the disk; as many clean pages may be held
   pub record KeepsBelow (old new : Paged D) : Type 0 where
     pub tied : IsTied old → IsTied new
     pub committed : IsTied old → SamePages (committed new) (committed old)
@@ -77,9 +77,10 @@ module _ {D : Type 0} (d : disk.Ghosts D) where
     pub honesty : d.is_honest new.disk ≡ d.is_honest old.disk
     pub synced : d.is_synced new.disk ≡ d.is_synced old.disk
     pub unwritten : IsTrue (d.is_honest old.disk) → d.seen new.disk ≡ d.seen old.disk
+    pub most_clean : new.most_clean ≡ old.most_clean
 
-  -- both maps of pages stay, and so do the limit and the count of full refusals, whatever is written to the disk; there
-  -- are two committed pages at least, and no more than the limit
+  -- both maps of pages stay, and so do the limit, the count of full refusals and how many clean pages may be held, whatever
+  -- is written to the disk; there are two committed pages at least, and no more than the limit
   pub record KeepsMaps (old new : Paged D) : Type 0 where
     pub tied : IsTied old → IsTied new
     pub committed : IsTied old → SamePages (committed new) (committed old)
@@ -89,6 +90,7 @@ module _ {D : Type 0} (d : disk.Ghosts D) where
     pub honesty : d.is_honest new.disk ≡ d.is_honest old.disk
     pub limit : new.limit ≡ old.limit
     pub full : new.full_refusals ≡ old.full_refusals
+    pub most_clean : new.most_clean ≡ old.most_clean
     pub least : 2 ≤ new.committed_fields.pages
     pub within : new.committed_fields.pages ≤ new.limit
 

@@ -6,14 +6,15 @@ use Rattle.rs_pages.specs.declared.pages.TheConstants.{GREATEST_LIMIT}
 use Rattle.rs_page_cache.specs.Changes.{Changes, held_at}
 use Rattle.rs_page_cache.specs.Clean.{Clean}
 
--- the disk, the greatest number of pages, the changed pages and the clean ones that are held, the committed and the
--- working fields of page 0, whether the disk lacks the committed ones, whether changes are begun, and how often the file
--- was full
+-- the disk, the greatest number of pages, the changed pages and the clean ones that are held, how many clean ones may be,
+-- the committed and the working fields of page 0, whether the disk lacks the committed ones, whether changes are begun, and
+-- how often the file was full
 pub record Paged (D : Type 0) : Type 0 where
   pub disk : D
   pub limit : ℕ
   pub changes : Changes
   pub clean : Clean
+  pub most_clean : ℕ
   pub committed_fields : FileHeader
   pub working : FileHeader
   pub is_header_changed : Bool

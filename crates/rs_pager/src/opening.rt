@@ -7,6 +7,7 @@ ghost use Rattle.std.specs.Prelude.{◌≡◌, ◌≢◌, ◌≤◌, ◌*◌, �
 ghost use Rattle.rs_disk.specs.Counts.{Counts};
 ghost use Rattle.rs_page.specs.FileHeader.{IsFileHeader};
 ghost use Rattle.rs_page_cache.specs.Stored.{disk_page};
+ghost use Rattle.rs_page_cache.specs.declared.clean.TheConstants.{MOST_CLEAN};
 ghost use Rattle.rs_pages.specs.PageMap.{SamePages};
 ghost use Rattle.rs_pager.specs.Stored.{IsNoFile};
 ghost use Rattle.rs_pager.specs.Maps.{committed, working, HoldsNoChange, IsTied, KeepsChanges, KeepsMaps};
@@ -163,7 +164,7 @@ fn new_pager<D: Disk>(
     clean: CleanPages,
     fields: FileHeader,
 ) -> Pager<D>
-    requires empty { clean ≡ [] }
+    requires empty { clean ≡ record { pages = []; most = MOST_CLEAN } }
     requires least { 2 ≤ fields.pages }
     requires within { fields.pages ≤ limit }
     requires greatest { limit ≤ GREATEST_LIMIT }

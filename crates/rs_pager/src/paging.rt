@@ -3,11 +3,13 @@
 //! A page is looked at each time that it is lent, unless it is held as a change. One to be changed is lent as a copy of
 //! its own.
 
-ghost use Rattle.std.specs.Prelude.{◌≡◌, ◌≢◌, ◌<◌, ℕ, true, IfErr, IfOk, IfSome, IfNone, IsTrue, OnErr, OnOk, IsOkUnless};
+ghost use Rattle.std.specs.Prelude.{◌≡◌, ◌≢◌, ◌<◌, ℕ, List, Some, true, false, IfErr, IfOk, IsTrue, OnErr, OnOk, IsOkUnless};
+ghost use Rattle.rs_page.specs.PageBytes.{is_free};
 ghost use Rattle.rs_page.specs.declared.header.PageKind.{PageKind};
 ghost use Rattle.rs_pages.specs.Lending.{RestsAfter};
 ghost use Rattle.rs_pages.specs.Uses.{RefusesToEdit, AllocatesPage, RefusesPage, ReleasesPage};
 ghost use Rattle.rs_pager.specs.Maps.{pager_store, KeepsBelow, IsTied};
+ghost use Rattle.rs_pager.specs.Paged.{held};
 
 use crate::pager::Pager;
 use rs_disk::Disk;
@@ -129,7 +131,8 @@ impl<D: Disk> Pager<D> {
 
     /// Whether the page with this number has a working copy, which is in use.
     fn has_used_copy(&self, number: PageNumber) -> bool
-        ensures { IsTrue result → HasCopy D.Disk number self.now }
+        ensures copied { IsTrue result → HasCopy D.Disk number self.now }
+        ensures none { result ≡ false → (page : List ℕ) → (held self.now number).copy ≡ Some page → is_free page ≡ true }
     {
         match self.changes.copy(number) {
             Some(page) => !page.is_free(),
@@ -137,37 +140,35 @@ impl<D: Disk> Pager<D> {
         }
     }
 
-    /// Holds a working copy of the page with this number, which is at hand. After a refusal (90, 94) nothing has changed.
+    /// Holds a working copy of the page with this number, which is at hand and has none in use. After a refusal (90, 94) nothing has
+    /// changed.
     fn copy_at_hand(&mut self, number: PageNumber) -> Result<(), Refusal>
         requires begun { self.old.is_begun ≡ true }
         requires at_hand { IsAtHand number self.old }
+        requires not_copied { (page : List ℕ) → (held self.old number).copy ≡ Some page → is_free page ≡ true }
         ensures copies { OnOk result (CopiesPage D.Disk number self.old self.new) }
         ensures same { OnErr result (self.new ≡ self.old) }
         ensures refused { IfErr result (RefusesCopy D.Disk number self.old) }
     {
-        if let Some(copy) = self.copy_of(number)? {
-            self.changes
-                .put_copy(number, copy)
-                .map_err(|_| Refusal::OutOfMemory)?;
-        }
+        let copy = self.copy_of(number)?;
+        self.changes
+            .add_copy(number, copy)
+            .map_err(|_| Refusal::OutOfMemory)?;
         Ok(())
     }
 
-    /// The working page with this number, which is at hand, in memory of its own; none where it has a working copy.
-    fn copy_of(&self, number: PageNumber) -> Result<Option<Box<Page>>, Refusal>
-        requires { IsAtHand number self.now }
-        ensures copy { IfOk result (λ copy. IfSome copy (λ page. LacksCopy D.Disk number page.value.bytes self.now)) }
-        ensures copied { IfOk result (λ copy. IfNone copy (HasCopy D.Disk number self.now)) }
+    /// The working page with this number, which is at hand and has no working copy in use, in memory of its own.
+    fn copy_of(&self, number: PageNumber) -> Result<Box<Page>, Refusal>
+        requires at_hand { IsAtHand number self.now }
+        requires not_copied { (page : List ℕ) → (held self.now number).copy ≡ Some page → is_free page ≡ true }
+        ensures copy { IfOk result (λ page. LacksCopy D.Disk number page.value.bytes self.now) }
         ensures refused { IfErr result (RefusesCopy D.Disk number self.now) }
     {
         let Some(page) = self.used(number) else {
             return Err(Refusal::DamagedFile);
         };
-        if self.changes.has_copy(number) {
-            return Ok(None);
-        }
         let copy = Box::new(self.changes.allocator(), *page).map_err(|_| Refusal::OutOfMemory)?;
-        Ok(Some(copy))
+        Ok(copy)
     }
 
     /// A page after the last one.

@@ -30,3 +30,4 @@ pub mod TableMore
 pub mod TableReads
 pub mod Tabled
 pub mod Visible
+pub mod Whole

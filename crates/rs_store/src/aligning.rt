@@ -104,6 +104,7 @@ fn define_alignment_in_both<D: Disk>(
     ensures redefines { Redefines D.Disk oldest (changes.with_alignment catalog.old name.bytes (pieces_of pieces.items)) result
         pager.old pager.new file.old file.new catalog.old catalog.new }
     ensures shut { pager.new.is_begun ≡ false }
+    ensures most_clean { pager.new.most_clean ≡ pager.old.most_clean }
 {
     catalog.define_alignment(name, pieces)?;
     let made = write_definitions_of(alloc, pager, file, oldest, catalog);
@@ -128,6 +129,7 @@ fn drop_alignment_from_both<D: Disk>(
     ensures redefines { Redefines D.Disk oldest (changes.without_alignment catalog.old name.now.bytes) result
         pager.old pager.new file.old file.new catalog.old catalog.new }
     ensures shut { pager.new.is_begun ≡ false }
+    ensures most_clean { pager.new.most_clean ≡ pager.old.most_clean }
 {
     let definitions = definitions_without_alignment(alloc, catalog, name)?;
     rewrite(alloc, pager, file, oldest, definitions)?;

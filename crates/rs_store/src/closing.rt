@@ -11,7 +11,7 @@ ghost use Rattle.rs_store.specs.Calls.{Closes, CountsClosing, KeepsStore, Reopen
 ghost use Rattle.rs_store.specs.Changing.{StillHolds};
 ghost use Rattle.rs_store.specs.Kept.{StandsIn};
 
-use crate::loading::{Loaded, load_state};
+use crate::loading::{Loaded, load_whole};
 use crate::store::Store;
 use rs_contents::laws::file_holds_one_thing;
 use rs_disk::Disk;
@@ -101,7 +101,7 @@ impl<D: Disk> Store<D> {
             file,
             catalog,
             referents,
-        } = load_state(alloc, &mut self.pager)?;
+        } = load_whole(alloc, &mut self.pager)?;
         self.file = file;
         self.catalog = catalog;
         self.referents = referents;

@@ -109,6 +109,7 @@ fn define_view_in_both<D: Disk>(
     ensures redefines { Redefines D.Disk oldest (changes.with_view catalog.old view.name.bytes (record { query = view.query; text = string_bytes view.text })) result
         pager.old pager.new file.old file.new catalog.old catalog.new }
     ensures shut { pager.new.is_begun ≡ false }
+    ensures most_clean { pager.new.most_clean ≡ pager.old.most_clean }
 {
     let ViewDefinition { name, query, text } = view;
     catalog.define_view(name, query, text)?;
@@ -133,6 +134,7 @@ fn drop_view_from_both<D: Disk>(
     requires room { file.old.accepted < CHANGES }
     ensures redefines { Redefines D.Disk oldest (changes.without_view catalog.old name.now.bytes) result pager.old pager.new file.old file.new catalog.old catalog.new }
     ensures shut { pager.new.is_begun ≡ false }
+    ensures most_clean { pager.new.most_clean ≡ pager.old.most_clean }
 {
     let definitions = definitions_without_view(alloc, catalog, name)?;
     rewrite(alloc, pager, file, oldest, definitions)?;

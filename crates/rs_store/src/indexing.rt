@@ -132,6 +132,7 @@ fn write_index<D: Disk>(
         → HasIndexListed name.now.bytes item place (said_catalogue file.old.definitions) (listing_of catalog.now) }
     ensures rewrites { Rewrites D.Disk oldest (ChangesListed (listing_of catalog.now)) (listing_of catalog.now) result pager.old pager.new file.old file.new }
     ensures shut { pager.new.is_begun ≡ false }
+    ensures most_clean { pager.new.most_clean ≡ pager.old.most_clean }
 {
     kept_change_gives_its_state::<D>();
     catalog.stand();
@@ -172,6 +173,7 @@ fn erase_index<D: Disk>(
     ensures rewrites { Rewrites D.Disk oldest (ChangesListed (listing_of (changes.without_index catalog.now name.now.bytes)))
         (listing_of (changes.without_index catalog.now name.now.bytes)) result pager.old pager.new file.old file.new }
     ensures shut { pager.new.is_begun ≡ false }
+    ensures most_clean { pager.new.most_clean ≡ pager.old.most_clean }
 {
     kept_change_gives_its_state::<D>();
     one_index_is_listed_more_or_less();

@@ -1,6 +1,6 @@
 //! This module reads a whole file, checks what it says, and brings its definitions and its referents into memory.
 
-ghost use Rattle.std.specs.Prelude.{◌≡◌, ◌⊎◌, Err, IfErr, IfOk, OnOk, map};
+ghost use Rattle.std.specs.Prelude.{◌≡◌, ◌⊎◌, [], Err, IfErr, IfOk, OnOk, map};
 ghost use Rattle.rs_catalog_meaning.specs.Meaning.{AreMeant};
 ghost use Rattle.rs_catalog_pages.specs.Said.{said_catalogue, said_route};
 ghost use Rattle.rs_contents.specs.Calls.{RefusesToLoad};
@@ -8,7 +8,10 @@ ghost use Rattle.rs_contents.specs.Contents.{AreGivenOnce, Contents};
 ghost use Rattle.rs_contents.specs.Meant.{span_of_route};
 ghost use Rattle.rs_contents.specs.Opening.{IsFile};
 ghost use Rattle.rs_definitions.specs.Made.{without_views};
+ghost use Rattle.rs_page_cache.specs.declared.clean.TheConstants.{MOST_CLEAN};
+ghost use Rattle.rs_pager.specs.Maps.{IsTied, KeepsBelow, pager_store, working};
 ghost use Rattle.rs_pages.specs.Calls.{OnlyReads};
+ghost use Rattle.rs_pages.specs.Lending.{RestsAfter};
 ghost use Rattle.rs_store.specs.Kept.{IsAtRest};
 ghost use Rattle.rs_store.specs.Loading.{BringsState, HasNoState, HoldsOpened, LoadsState, StandsForNone};
 
@@ -20,7 +23,9 @@ use rs_contents::opened::OpenedFile;
 use rs_definitions::laws::listed_definitions_are_a_catalogues;
 use rs_definitions::listing_laws::definitions_of_a_file_list_its_items;
 use rs_definitions::{add_views, catalog_of, referents_of};
+use rs_disk::Disk;
 use rs_file_changes::laws::loaded_file_can_be_changed;
+use rs_pager::Pager;
 use rs_pages::Pages;
 use rs_refusal::Refusal;
 use rs_standing::changes::meant_contents_stay_meant;
@@ -34,6 +39,23 @@ pub(crate) struct Loaded {
     pub(crate) file: OpenedFile,
     pub(crate) catalog: Catalog,
     pub(crate) referents: RouteReferents,
+}
+
+/// Opens and checks all that a file holds, as `load_state` does, and holds each clean page until that is done, so that none is read twice
+/// in a file of no more pages than may be held then. Whatever is answered, no clean page is held after it, and no more may be than before.
+pub(crate) fn load_whole<D: Disk>(alloc: Global, pager: &mut Pager<D>) -> Result<Loaded, Refusal>
+    requires narrow { pager.old.most_clean ≡ MOST_CLEAN }
+    ensures rests { RestsAfter (IsTied D.Disk) (pager_store D.Disk) (KeepsBelow D.Disk) result pager.old pager.new }
+    ensures none_clean { pager.new.clean ≡ [] }
+    ensures loads { IsTied D.Disk pager.old → IfOk result (λ loaded. LoadsState (working D.Disk pager.old) loaded.file loaded.catalog loaded.referents) }
+    ensures damaged { IsTied D.Disk pager.old → result ≡ Err Refusal.DamagedFile → StandsForNone (working D.Disk pager.old) }
+    ensures file { IfOk result (λ loaded. IsAtRest loaded.file loaded.catalog) }
+    ensures refused { RefusesToLoad result }
+{
+    pager.widen();
+    let loaded = load_state(alloc, pager);
+    pager.narrow();
+    loaded
 }
 
 /// Opens and checks all that a file holds. Ok only where its pages stand for a state, which is then in memory; 94 only where they

@@ -2,13 +2,14 @@
 
 ghost use Rattle.std.specs.Prelude.{◌≡◌, ◌≢◌, ◌≤◌, ◌⊎◌, true, false, Err, IfErr, IfOk, IsTrue, MatchResult, OnErr, OnOk};
 ghost use Rattle.rs_page.specs.declared.file_header.TheConstants.{FLAG_OFFSET};
+ghost use Rattle.rs_page_cache.specs.declared.clean.TheConstants.{MOST_CLEAN};
 ghost use Rattle.rs_pager.specs.Maps.{IsTied, working};
 ghost use Rattle.rs_pager.specs.Opened.{CountsFault};
 ghost use Rattle.rs_store.specs.Calls.{HandsOver, HandsUnmarked, LeavesAllButFlag, Looks, Opens, WantsOpening};
 ghost use Rattle.rs_store.specs.Kept.{IsAtRest};
 ghost use Rattle.rs_store.specs.Loading.{LoadsState, StandsForNone, StandsForSome};
 
-use crate::loading::{Loaded, load_state};
+use crate::loading::{Loaded, load_whole};
 use crate::store::Store;
 use rs_disk::Disk;
 use rs_pager::Pager;
@@ -61,6 +62,7 @@ impl<D: Disk> Store<D> {
 /// The store over these pages, of which this is open and in memory. `is_marked` says whether the disk is marked as open.
 pub(crate) fn store_of<D: Disk>(pager: Pager<D>, loaded: Loaded, is_marked: bool) -> Store<D>
     requires shut { pager.is_begun ≡ false }
+    requires narrow { pager.most_clean ≡ MOST_CLEAN }
     requires rests { IsAtRest loaded.file loaded.catalog }
     ensures { result ≡ record { pager = pager; file = loaded.file; catalog = loaded.catalog; referents = loaded.referents; is_marked = is_marked } }
 {
@@ -82,7 +84,9 @@ pub(crate) fn store_of<D: Disk>(pager: Pager<D>, loaded: Loaded, is_marked: bool
 /// pages stand for no state, and with 95 only where they do and the disk was not closed. Nothing but the flag changes, and that only
 /// where the answer is Ok or 91.
 fn open_pages<D: Disk>(alloc: Global, pager: &mut Pager<D>) -> Result<Loaded, Refusal>
+    requires narrow { pager.old.most_clean ≡ MOST_CLEAN }
     ensures leaves { LeavesAllButFlag D.Disk pager.old pager.new }
+    ensures most_clean { pager.new.most_clean ≡ pager.old.most_clean }
     ensures seen { IsTrue (D.is_honest pager.old.disk) → IfErr result (λ why. why ≢ Refusal.Disk → D.seen pager.new.disk ≡ D.seen pager.old.disk) }
     ensures before { IsTied D.Disk pager.old → OnErr result ((D.seen pager.new.disk ≡ D.seen pager.old.disk)
         ⊎ (StandsForSome (working D.Disk pager.old) × ((D.seen pager.old.disk).byte FLAG_OFFSET ≡ 0))) }
@@ -106,7 +110,9 @@ fn open_pages<D: Disk>(alloc: Global, pager: &mut Pager<D>) -> Result<Loaded, Re
 /// Reads and checks the file, and that it was closed. It is refused with 90, with 91, with 94 only where the pages stand for no state,
 /// and with 95 only where they do and the disk was not closed. Nothing is written.
 fn look_at_pages<D: Disk>(alloc: Global, pager: &mut Pager<D>) -> Result<Loaded, Refusal>
+    requires narrow { pager.old.most_clean ≡ MOST_CLEAN }
     ensures leaves { LeavesAllButFlag D.Disk pager.old pager.new }
+    ensures most_clean { pager.new.most_clean ≡ pager.old.most_clean }
     ensures seen { IsTrue (D.is_honest pager.old.disk) → D.seen pager.new.disk ≡ D.seen pager.old.disk }
     ensures loads { IsTied D.Disk pager.old → IfOk result (λ loaded. LoadsState (working D.Disk pager.old) loaded.file loaded.catalog loaded.referents) }
     ensures file { IfOk result (λ loaded. IsAtRest loaded.file loaded.catalog) }
@@ -118,7 +124,7 @@ fn look_at_pages<D: Disk>(alloc: Global, pager: &mut Pager<D>) -> Result<Loaded,
     ensures count { MatchResult result (λ _. D.failures pager.new.disk ≡ D.failures pager.old.disk)
         (λ why. CountsFault why (D.failures pager.old.disk) (D.failures pager.new.disk)) }
 {
-    let loaded = load_state(alloc, pager)?;
+    let loaded = load_whole(alloc, pager)?;
     check_closed(pager)?;
     Ok(loaded)
 }
@@ -126,6 +132,7 @@ fn look_at_pages<D: Disk>(alloc: Global, pager: &mut Pager<D>) -> Result<Loaded,
 /// Ok exactly where the disk says that the file is closed; 95 where not, and 91. Nothing changes.
 fn check_closed<D: Disk>(pager: &mut Pager<D>) -> Result<(), Refusal>
     ensures leaves { LeavesAllButFlag D.Disk pager.old pager.new }
+    ensures most_clean { pager.new.most_clean ≡ pager.old.most_clean }
     ensures seen { IsTrue (D.is_honest pager.old.disk) → D.seen pager.new.disk ≡ D.seen pager.old.disk }
     ensures closed { IsTrue (D.is_honest pager.old.disk) → OnOk result ((D.seen pager.old.disk).byte FLAG_OFFSET ≡ 0) }
     ensures open { IsTrue (D.is_honest pager.old.disk) → result ≡ Err Refusal.FileNotClosed → (D.seen pager.old.disk).byte FLAG_OFFSET ≢ 0 }

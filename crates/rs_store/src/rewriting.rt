@@ -43,6 +43,7 @@ pub(crate) fn write_definitions_of<D: Disk>(
     requires births { AllByRecursion (λ route. route.born ≤ file.old.accepted + 1) (listing_of catalog.now).routes }
     ensures rewrites { Rewrites D.Disk oldest (ChangesDefinitions (listing_of catalog.now)) (listing_of catalog.now) result pager.old pager.new file.old file.new }
     ensures shut { pager.new.is_begun ≡ false }
+    ensures most_clean { pager.new.most_clean ≡ pager.old.most_clean }
 {
     let definitions = stored_of(alloc, catalog)?;
     rewrite(alloc, pager, file, oldest, definitions)
@@ -64,6 +65,7 @@ pub(crate) fn rewrite<D: Disk>(
     requires births { AllByRecursion (λ route. route.born ≤ file.old.accepted + 1) (said_catalogue definitions).routes }
     ensures rewrites { Rewrites D.Disk oldest (ChangesDefinitions (said_catalogue definitions)) (said_catalogue definitions) result pager.old pager.new file.old file.new }
     ensures shut { pager.new.is_begun ≡ false }
+    ensures most_clean { pager.new.most_clean ≡ pager.old.most_clean }
 {
     kept_change_gives_its_state::<D>();
     check_definitions(&definitions)?;

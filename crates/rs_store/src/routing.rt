@@ -133,6 +133,7 @@ fn write_route_of<D: Disk>(
     ensures made { OnOk result (catalog.new ≡ catalog.old) }
     ensures back { OnErr result (catalog.new ≡ changes.without_route catalog.old name.now.bytes) }
     ensures shut { pager.new.is_begun ≡ false }
+    ensures most_clean { pager.new.most_clean ≡ pager.old.most_clean }
 {
     let made = write_definitions_of(alloc, pager, file, oldest, catalog);
     if made.is_err() {
@@ -159,6 +160,7 @@ fn drop_route_from_both<D: Disk>(
     requires number { number + 1 < 2 ^ 32 }
     ensures erases { ErasesRoute D.Disk oldest number (changes.without_route catalog.old name.now.bytes) result pager.old pager.new file.old file.new catalog.old catalog.new }
     ensures shut { pager.new.is_begun ≡ false }
+    ensures most_clean { pager.new.most_clean ≡ pager.old.most_clean }
 {
     one_route_is_listed_more_or_less();
     let definitions = definitions_without_route(alloc, catalog, name)?;
@@ -186,6 +188,7 @@ fn erase_route<D: Disk>(
     requires number { number + 1 < 2 ^ 32 }
     ensures rewrites { Rewrites D.Disk oldest (DropsRoute number (said_catalogue definitions)) (said_catalogue definitions) result pager.old pager.new file.old file.new }
     ensures shut { pager.new.is_begun ≡ false }
+    ensures most_clean { pager.new.most_clean ≡ pager.old.most_clean }
 {
     kept_change_gives_its_state::<D>();
     check_definitions(&definitions)?;

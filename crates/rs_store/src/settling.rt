@@ -36,6 +36,7 @@ pub(crate) fn settle<D: Disk, T>(
     ensures same { result ≡ made }
     ensures settles { Settles D.Disk made pager.old pager.new file.old file.new }
     ensures shut { pager.new.is_begun ≡ false }
+    ensures most_clean { pager.new.most_clean ≡ pager.old.most_clean }
 {
     match made {
         Ok(answer) => {

@@ -127,6 +127,7 @@ fn write_table<D: Disk>(
     requires more { HasNumberedMore number (said_catalogue file.old.definitions) (listing_of catalog.now) }
     ensures rewrites { Rewrites D.Disk oldest (PutsNumbered number (listing_of catalog.now)) (listing_of catalog.now) result pager.old pager.new file.old file.new }
     ensures shut { pager.new.is_begun ≡ false }
+    ensures most_clean { pager.new.most_clean ≡ pager.old.most_clean }
 {
     kept_change_gives_its_state::<D>();
     catalog.stand();
@@ -164,6 +165,7 @@ fn erase_table<D: Disk>(
     ensures rewrites { Rewrites D.Disk oldest (TakesNamed catalog.now.tables name.now.bytes (listing_of (changes.without_table catalog.now name.now.bytes)))
         (listing_of (changes.without_table catalog.now name.now.bytes)) result pager.old pager.new file.old file.new }
     ensures shut { pager.new.is_begun ≡ false }
+    ensures most_clean { pager.new.most_clean ≡ pager.old.most_clean }
 {
     kept_change_gives_its_state::<D>();
     one_table_is_listed_more_or_less();

@@ -14,12 +14,12 @@ pub returns-in_err-check_closed-clause-left_open : goal.returns-in_err-check_clo
 returns-in_err-check_closed-clause-left_open g c = λ tied is.
     let d = g.D.Disk in
     let was = c.args.pager.now in
-    let mid = c.load_state.new.pages in
+    let mid = c.load_whole.new.pager in
     let loaded = c.in_ok-loaded.loaded in
-    let read = leaves_by_reading d c.load_state.result was mid c.load_state.ensures.rests in
+    let read = leaves_by_reading d c.load_whole.result was mid c.load_whole.ensures.rests in
     let p = err_from_is_err_and c.from_residual-in_err-check_closed.result c.from_residual-in_err-check_closed.ensures.1 in
     let why : c.in_err-check_closed.field-0.0 ≡ refusal.FileNotClosed = cc (p.1, p.2, is) in (
       stands_for_some (working d was) loaded.file loaded.catalog loaded.referents (c.in_ok-loaded.ensures.loads tied),
-      subst (λ (content : Content). content.byte FLAG_OFFSET ≢ 0) (c.load_state.ensures.rests.below.unwritten tied.honest)
+      subst (λ (content : Content). content.byte FLAG_OFFSET ≢ 0) (c.load_whole.ensures.rests.below.unwritten tied.honest)
           (c.in_err-check_closed.ensures.open (read.tied tied).honest (ap Err why)),
     )

@@ -1,4 +1,4 @@
--- A copy is put in place, where there is none yet.
+-- A copy is put in place of a page that has none.
 use Rattle.std.proofs.Common.{rules, ◌≡◌, ◌≢◌, ℕ, subst, sym}
 use Rattle.rs_refusal.specs.declared.refusal.Refusal.TheVariants as refusal
 use Rattle.rs_pages.specs.Held.{with_copy}
@@ -14,27 +14,28 @@ pub returns-in_err-map_err-clause-refused : goal.returns-in_err-map_err-clause-r
 returns-in_err-map_err-clause-refused g c =
     let p = err_from_is_err_and c.from_residual-in_err-map_err.result c.from_residual-in_err-map_err.ensures.1 in
     let why : c.in_err-map_err.field-0.0 ≡ refusal.OutOfMemory = search rules in
-    let lacks : LacksCopy g.D.Disk c.args.number c.in-Some.copy.value.bytes c.args.self.now = search rules in
-    rw (p.1, p.2) (refuses-memory g.D.Disk c.args.number c.args.self.now c.in-Some.copy.value.bytes c.in_err-map_err.field-0.0 why lacks)
+    let lacks : LacksCopy g.D.Disk c.args.number c.in_ok-copy.copy.value.bytes c.args.self.now = search rules in
+    rw (p.1, p.2) (refuses-memory g.D.Disk c.args.number c.args.self.now c.in_ok-copy.copy.value.bytes c.in_err-map_err.field-0.0 why lacks)
 
-pub returns-in_ok-map_err-clause-copies : goal.returns-in_ok-map_err-clause-copies
-returns-in_ok-map_err-clause-copies g c =
+pub returns-clause-copies : goal.returns-clause-copies
+returns-clause-copies g c =
     let d = g.D.Disk in
     let s : Paged _ = record {
       disk = c.self.inside.disk;
       limit = c.self.inside.limit;
       changes = c.self.inside.changes;
-      clean = c.self.inside.clean;
+      clean = c.self.inside.clean.pages;
+      most_clean = c.self.inside.clean.most;
       committed_fields = c.self.inside.committed_fields;
       working = c.self.inside.working;
       is_header_changed = c.self.inside.is_header_changed;
       is_begun = c.self.inside.is_begun;
       full_refusals = c.self.inside.full_refusals;
     } in
-    let lacks : LacksCopy d c.args.number c.in-Some.copy.value.bytes c.args.self.now = search rules in
-    let there : held_at c.put_copy.new.self c.args.number ≡ with_copy c.in-Some.copy.value.bytes (held_at s.changes c.args.number) = search rules in
-    let others : (m : ℕ) → m ≢ c.args.number → held_at c.put_copy.new.self m ≡ held_at s.changes m = search rules in
-    subst (λ (old : Paged _). CopiesPage d c.args.number old (with_changes s c.put_copy.new.self s.working)) c.self.view_is
-    (copies-put d c.args.number s c.in-Some.copy.value.bytes c.put_copy.new.self
-    (subst (LacksCopy d c.args.number c.in-Some.copy.value.bytes) (sym c.self.view_is) lacks)
+    let lacks : LacksCopy d c.args.number c.in_ok-copy.copy.value.bytes c.args.self.now = search rules in
+    let there : held_at c.add_copy.new.self c.args.number ≡ with_copy c.in_ok-copy.copy.value.bytes (held_at s.changes c.args.number) = search rules in
+    let others : (m : ℕ) → m ≢ c.args.number → held_at c.add_copy.new.self m ≡ held_at s.changes m = search rules in
+    subst (λ (old : Paged _). CopiesPage d c.args.number old (with_changes s c.add_copy.new.self s.working)) c.self.view_is
+    (copies-put d c.args.number s c.in_ok-copy.copy.value.bytes c.add_copy.new.self
+    (subst (LacksCopy d c.args.number c.in_ok-copy.copy.value.bytes) (sym c.self.view_is) lacks)
     (record { there = there; others = others }))

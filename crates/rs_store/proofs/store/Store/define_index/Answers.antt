@@ -74,6 +74,7 @@ invariant_of-self-then-is_err g c =
     let refused : is_err result ≡ true = sym c.is_err.ensures.value ∙ c.if-is_err.true in
     record {
       shut = c.write_index-made.ensures.shut;
+      narrow = c.write_index-made.ensures.most_clean ∙ c.self.invariant.narrow;
       rests = subst (λ (k : Definitions). IsAtRest file k) (sym back) (of_refused (IsAtRest file added) result refused rests);
     }
 
@@ -95,7 +96,7 @@ invariant_of-self-else-is_err g c =
     subst (λ (k : Definitions). Each k.tables (λ n table. AreColumnsOfTable table.columns)) (sym is) c.self.invariant.rests.columns in
     let rests = c.write_index-made.ensures.rewrites.rests was.catalog added c.self.invariant.rests refl columns in
     let made : is_err result ≡ false = sym c.is_err.ensures.value ∙ c.if-is_err.false in
-    record { shut = c.write_index-made.ensures.shut; rests = of_made (IsAtRest file was.catalog) result made rests }
+    record { shut = c.write_index-made.ensures.shut; narrow = c.write_index-made.ensures.most_clean ∙ c.self.invariant.narrow; rests = of_made (IsAtRest file was.catalog) result made rests }
 
 pub returns-then-is_err-clause-leaves : goal.returns-then-is_err-clause-leaves
 returns-then-is_err-clause-leaves g c =

@@ -52,6 +52,7 @@ invariant_of-self-2 g c =
     let same : was.file ≡ c.args.self.now.file = ap (λ (s : StoreState g.row.D.Denot). s.file) c.self.view_is ∙ c.mark.ensures.keeps.file in
     record {
       shut = c.settle.ensures.shut;
+      narrow = c.settle.ensures.most_clean ∙ c.define_in_both-made.ensures.leaves.keeps.most_clean ∙ c.begin.ensures.keeps.most_clean ∙ c.self.invariant.narrow;
       rests = rests_settled g.D.Disk c.define_in_both-made.result c.define_in_both-made.new.pages c.settle.new.pager was.file c.define_in_both-made.new.file c.settle.new.file was.catalog
           c.self.invariant.rests (subst (λ (f : OpenedFile). f.accepted < CHANGES) (sym same) c.requires.room) c.define_in_both-made.ensures.opened.next c.define_in_both-made.ensures.opened.stays c.settle.ensures.settles;
     }

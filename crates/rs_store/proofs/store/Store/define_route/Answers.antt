@@ -94,7 +94,7 @@ module _ (g : Over) (c : goal.After-write_route_of g) where
       ∙ ap (λ (routes : Names RouteItem). record was.catalog { routes = routes }) (taken_again was.catalog.routes c.args.name.bytes item new)) c.write_route_of.ensures.back)
 
 pub invariant_of-self-2 : goal.invariant_of-self-2
-invariant_of-self-2 g c = record { shut = c.write_route_of.ensures.shut; rests = (become g c).rests }
+invariant_of-self-2 g c = record { shut = c.write_route_of.ensures.shut; narrow = c.write_route_of.ensures.most_clean ∙ c.self.invariant.narrow; rests = (become g c).rests }
 
 pub returns-clause-leaves : goal.returns-clause-leaves
 returns-clause-leaves g c =

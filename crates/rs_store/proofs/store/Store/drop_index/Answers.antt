@@ -34,6 +34,7 @@ invariant_of-self g c =
     let last = c.erase_index.new.pager in
     record {
       shut = c.erase_index.ensures.shut;
+      narrow = c.erase_index.ensures.most_clean ∙ c.self.invariant.narrow;
       rests = c.in_err-erase_index.ensures.rewrites.rests was.catalog fewer c.self.invariant.rests refl c.self.invariant.rests.columns;
     }
 
@@ -77,6 +78,7 @@ invariant_of-self-2 g c =
     let last = c.erase_index.new.pager in
     record {
       shut = c.erase_index.ensures.shut;
+      narrow = c.erase_index.ensures.most_clean ∙ c.self.invariant.narrow;
       rests = subst (λ (k : Definitions). IsAtRest file k) (sym c.drop_index.ensures)
           (c.in_ok-erase_index.ensures.rewrites.rests was.catalog fewer c.self.invariant.rests refl c.self.invariant.rests.columns);
     }

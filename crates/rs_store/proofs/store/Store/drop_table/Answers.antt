@@ -33,6 +33,7 @@ invariant_of-self g c =
     let last = c.erase_table.new.pager in
     record {
       shut = c.erase_table.ensures.shut;
+      narrow = c.erase_table.ensures.most_clean ∙ c.self.invariant.narrow;
       rests = c.in_err-erase_table.ensures.rewrites.rests was.catalog fewer c.self.invariant.rests refl (columns_less was.catalog.tables name c.self.invariant.rests.columns);
     }
 
@@ -73,6 +74,7 @@ invariant_of-self-2 g c =
     let last = c.erase_table.new.pager in
     record {
       shut = c.erase_table.ensures.shut;
+      narrow = c.erase_table.ensures.most_clean ∙ c.self.invariant.narrow;
       rests = subst (λ (k : Definitions). IsAtRest file k) (sym c.drop_table.ensures)
           (c.in_ok-erase_table.ensures.rewrites.rests was.catalog fewer c.self.invariant.rests refl (columns_less was.catalog.tables name c.self.invariant.rests.columns));
     }

@@ -58,6 +58,7 @@ invariant_of-self-2 g c =
     let same : was.file ≡ c.args.self.now.file = ap (λ (s : StoreState g.row.D.Denot). s.file) c.self-2.view_is ∙ c.mark.ensures.keeps.file in
     record {
       shut = c.settle.ensures.shut;
+      narrow = c.settle.ensures.most_clean ∙ c.insert-made.ensures.leaves.keeps.most_clean ∙ c.begin.ensures.keeps.most_clean ∙ c.self-2.invariant.narrow;
       rests = rests_settled g.D.Disk c.insert-made.result c.insert-made.new.pages c.settle.new.pager was.file c.insert-made.new.file c.settle.new.file was.catalog
           c.self-2.invariant.rests (subst (λ (f : OpenedFile). f.accepted < CHANGES) (sym same) c.requires.room) c.insert-made.ensures.opened.next c.insert-made.ensures.opened.stays c.settle.ensures.settles;
     }

@@ -54,6 +54,7 @@ invariant_of-self-in_err-settle g c =
     let same : was.file ≡ c.args.self.now.file = ap (λ (s : StoreState g.row.D.Denot). s.file) c.self.view_is ∙ c.mark.ensures.keeps.file in
     record {
       shut = c.settle.ensures.shut;
+      narrow = c.settle.ensures.most_clean ∙ c.move_referent-made.ensures.leaves.keeps.most_clean ∙ c.begin.ensures.keeps.most_clean ∙ c.self.invariant.narrow;
       rests = rests_settled g.D.Disk c.move_referent-made.result c.move_referent-made.new.pages c.settle.new.pager was.file c.move_referent-made.new.file c.settle.new.file was.catalog
           c.self.invariant.rests (subst (λ (f : OpenedFile). f.accepted < CHANGES) (sym same) c.requires.room) c.move_referent-made.ensures.opened.next c.move_referent-made.ensures.opened.stays c.settle.ensures.settles;
     }
@@ -87,6 +88,7 @@ invariant_of-self-2 g c =
     let same : was.file ≡ c.args.self.now.file = ap (λ (s : StoreState g.row.D.Denot). s.file) c.self.view_is ∙ c.mark.ensures.keeps.file in
     record {
       shut = c.settle.ensures.shut;
+      narrow = c.settle.ensures.most_clean ∙ c.move_referent-made.ensures.leaves.keeps.most_clean ∙ c.begin.ensures.keeps.most_clean ∙ c.self.invariant.narrow;
       rests = rests_settled g.D.Disk c.move_referent-made.result c.move_referent-made.new.pages c.settle.new.pager was.file c.move_referent-made.new.file c.settle.new.file was.catalog
           c.self.invariant.rests (subst (λ (f : OpenedFile). f.accepted < CHANGES) (sym same) c.requires.room) c.move_referent-made.ensures.opened.next c.move_referent-made.ensures.opened.stays c.settle.ensures.settles;
     }

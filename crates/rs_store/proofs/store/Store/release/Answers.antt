@@ -38,6 +38,7 @@ invariant_of-self-2 g c =
     let was = c.self.inside in
     record {
       shut = c.settle.ensures.shut;
+      narrow = c.settle.ensures.most_clean ∙ c.clear_only-made.ensures.leaves.keeps.most_clean ∙ c.begin.ensures.keeps.most_clean ∙ c.self.invariant.narrow;
       rests = rests_released g.D.Disk c.clear_only-made.result c.clear_only-made.new.pages c.settle.new.pager was.file c.clear_only-made.new.file c.settle.new.file was.catalog
           c.self.invariant.rests c.clear_only-made.ensures.keeps c.clear_only-made.ensures.may c.settle.ensures.settles;
     }
