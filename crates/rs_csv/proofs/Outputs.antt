@@ -1,11 +1,10 @@
--- What was written so far, and what is made of it by one more step.
+-- What is made of records, by one more step.
 use Rattle.std.proofs.Common.{◌≡◌, ◌∙◌, ℕ, Bool, true, false, List, [], ◌∷◌, ◌++◌, Option, Some, None, refl, sym, ap, subst, inl, inr, append_assoc, append-nil}
-use Rattle.std.specs.Prelude.{◌⊎◌, IfSome, MatchResult, OnErr, OnOk, Result, Ok, Err}
-use Rattle.std.specs.Io.KnownBytes.{Appends, Keeps}
-use Rattle.std.proofs.KnownBytes.{Appends-trans, Keeps-refl, Keeps-trans}
+use Rattle.std.specs.Prelude.{◌⊎◌, IfSome, OnOk, Result, Ok, Err}
+use Rattle.std.specs.Io.KnownBytes.{Keeps}
+use Rattle.std.proofs.KnownBytes.{Keeps-refl, Keeps-trans}
 use Rattle.std.proofs.lemmas.Bool.{false≢true}
 use Rattle.csv.specs.Records.{fields_of}
-use Rattle.rs_protocol.specs.Puts.{PutsBut}
 use Rattle.rs_syntax.specs.Tree.{CommandTree, define_route}
 use Rattle.rs_machine.specs.Request.{Asks, command}
 use Rattle.rs_csv_lines.specs.declared.plan.Plan.{Plan}
@@ -14,8 +13,7 @@ use Rattle.rs_csv.specs.declared.filter.Planned.{Planned}
 use Rattle.rs_csv.specs.declared.filter.Progress.{Progress}
 use Rattle.rs_csv.specs.declared.filter.Wanted.{Wanted}
 use Rattle.rs_csv.specs.declared.made.Made.{Made}
-use Rattle.rs_csv.specs.Reading.{AreRead, ReadsAll, one_more_text}
-use Rattle.rs_csv.specs.Output.{IsPlanOf, IsPlanned, AreLines, nothing, definition_line, route_line, insert_line, left_out, GoesOn, Makes, IsMade, IsMadeIn, IsOutput, IsQuiet, SoFar, Wrote, WroteAll}
+use Rattle.rs_csv.specs.Output.{IsPlanOf, IsPlanned, AreLines, nothing, definition_line, route_line, insert_line, left_out, GoesOn, Makes, IsMade, IsMadeIn, IsOutput, IsQuiet}
 
 -- ---- the errors stream
 
@@ -142,7 +140,7 @@ module _ (wanted : Wanted) (table : CommandTree) where
   -- a record by the plan
   pub record_makes : {T E : Type 0} (result : Result T E) (old : Progress) (planned : Planned) (made : Made) (fields : List (List ℕ)) (a b : Option (List ℕ)) → old.planned ≡ Some planned → IsPlanned wanted table old
       → OnOk result ((table : CommandTree) → GoesOn planned.plan.session table planned.plan made.has_told (fields ∷ []) old.made.bytes.items made.bytes.items) → OnOk result (IsQuiet old.made.has_told made.has_told a b)
-      → OnOk result (Makes wanted table (fields ∷ []) old (record { planned = old.planned; made = made }))
+      → OnOk result (Makes wanted table (fields ∷ []) old (record { planned = old.planned; made = made; held = old.held }))
   record_makes (Ok _) old planned made fields a b is plans goes quiet = λ records sent before.
       let by : IsPlanOf wanted table (fields_of planned.header) planned.plan = subst (λ p. IfSome p (λ planned. IsPlanOf wanted table (fields_of planned.header) planned.plan)) is plans in
       subst (λ p. IsMade wanted table made.has_told p (records ++ fields ∷ []) sent made.bytes.items) (sym is)
@@ -172,143 +170,14 @@ module _ (wanted : Wanted) (table : CommandTree) where
     waiting_lines = nothing;
   }
 
-  -- lines that define routes, after those that were sent and before those that wait
-  pub routed : (told : Bool) (planned : Option Planned) (records : List (List (List ℕ))) (sent routes waiting : List ℕ) → ((plan : Plan) → AreLines wanted.session table plan told [] routes)
-      → IsMade wanted table told planned records sent waiting → IsOutput wanted table told records ((sent ++ routes) ++ waiting)
-  routed told None records sent routes waiting middle made =
-      let is : (sent ++ routes) ++ waiting ≡ routes = ap (λ bs. (bs ++ routes) ++ waiting) made.1 ∙ (ap (λ bs. routes ++ bs) made.2 ∙ append-nil routes) in
-      subst (λ rs. IsOutput wanted table told rs ((sent ++ routes) ++ waiting)) (sym made.0) (λ plan. subst (AreLines wanted.session table plan told []) (sym is) (middle plan))
-  routed told (Some planned) records sent routes waiting middle made =
-      let front = lines_join wanted.session table planned.plan told made.first sent made.sent_lines (middle planned.plan) in
-      let all = lines_join wanted.session table planned.plan told (made.first ++ []) (sent ++ routes) front made.waiting_lines in
-      subst (λ rs. IsOutput wanted table told rs ((sent ++ routes) ++ waiting)) (sym made.whole)
-      (planned.plan, made.plans, subst (λ rs. AreLines wanted.session table planned.plan told (rs ++ made.second) ((sent ++ routes) ++ waiting)) (append-nil made.first) all)
+  -- what was sent and what waits is what is written
+  pub output_told : (told : Bool) (planned : Option Planned) (records : List (List (List ℕ))) (sent waiting : List ℕ) → IsMade wanted table told planned records sent waiting → IsOutput wanted table told records (sent ++ waiting)
+  output_told told None records sent waiting made =
+      let is : sent ++ waiting ≡ [] = ap (λ bs. bs ++ waiting) made.1 ∙ made.2 in
+      subst (λ rs. IsOutput wanted table told rs (sent ++ waiting)) (sym made.0) (λ plan. subst (AreLines wanted.session table plan told []) (sym is) nothing)
+  output_told told (Some planned) records sent waiting made =
+      subst (λ rs. IsOutput wanted table told rs (sent ++ waiting)) (sym made.whole)
+      (planned.plan, made.plans, lines_join wanted.session table planned.plan told made.first sent made.sent_lines made.waiting_lines)
 
-  output_of : (told : Bool) (planned : Option Planned) (records : List (List (List ℕ))) (sent waiting : List ℕ) → IsMade wanted table told planned records sent waiting → IsOutput wanted table true records (sent ++ waiting)
-  output_of told planned records sent waiting made =
-      subst (λ bs. IsOutput wanted table true records (bs ++ waiting)) (append-nil sent)
-      (routed true planned records sent [] waiting (λ plan. nothing) (made_told told true planned records sent waiting (stays_told told true refl) made))
-
-  -- ---- so far
-
-  pub far_makes : (before after : Option (List ℕ)) (old new : Progress) (text : List ℕ) (more : List (List (List ℕ))) → ReadsAll text more → Makes wanted table more old new → SoFar wanted table before old after → SoFar wanted table before new after
-  far_makes before after old new text more reads makes far = record {
-    records = far.records ++ more;
-    read = one_more_text text more far.read reads;
-    sent = far.sent;
-    put = far.put;
-    made = makes far.records far.sent far.made;
-  }
-
-  pub far_left : (before after : Option (List ℕ)) (progress : Progress) → SoFar wanted table before progress after → Wrote wanted table before after
-  far_left before after progress far = record {
-    records = far.records;
-    read = far.read;
-    sent = far.sent;
-    lost = progress.made.bytes.items;
-    put = far.put;
-    lines = output_of progress.made.has_told progress.planned far.records far.sent progress.made.bytes.items far.made;
-  }
-
-  -- something was told, and nothing made
-  pub far_told : {T E : Type 0} (result : Result T E) (before after : Option (List ℕ)) (old new : Progress) → new.planned ≡ old.planned → new.made.bytes.items ≡ old.made.bytes.items → new.made.has_told ≡ true → SoFar wanted table before old after
-      → MatchResult result (λ _. SoFar wanted table before new after) (λ _. Wrote wanted table before after)
-  far_told (Ok _) before after old new same is told far = record {
-    records = far.records;
-    read = far.read;
-    sent = far.sent;
-    put = far.put;
-    made =
-        subst (λ planned. IsMade wanted table new.made.has_told planned far.records far.sent new.made.bytes.items) (sym same)
-        (subst (IsMade wanted table new.made.has_told old.planned far.records far.sent) (sym is)
-        (made_told old.made.has_told new.made.has_told old.planned far.records far.sent old.made.bytes.items (stays_told old.made.has_told new.made.has_told told) far.made));
-  }
-  far_told (Err _) before after old new same is told far = far_left before after old far
-
-  far_sent : (before after later : Option (List ℕ)) (old new : Progress) → new.planned ≡ old.planned → new.made.has_told ≡ old.made.has_told
-      → ((new.made.bytes.items ≡ old.made.bytes.items) × (later ≡ after)) ⊎ ((new.made.bytes.items ≡ []) × Appends after later old.made.bytes.items)
-      → SoFar wanted table before old after → SoFar wanted table before new later
-  far_sent before after later old new same told (inl kept) far = record {
-    records = far.records;
-    read = far.read;
-    sent = far.sent;
-    put = subst (λ s. Appends before s far.sent) (sym kept.1) far.put;
-    made =
-        subst (λ planned. IsMade wanted table new.made.has_told planned far.records far.sent new.made.bytes.items) (sym same)
-        (subst (IsMade wanted table new.made.has_told old.planned far.records far.sent) (sym kept.0)
-        (subst (λ t. IsMade wanted table t old.planned far.records far.sent old.made.bytes.items) (sym told) far.made));
-  }
-  far_sent before after later old new same told (inr puts) far = record {
-    records = far.records;
-    read = far.read;
-    sent = far.sent ++ old.made.bytes.items;
-    put = Appends-trans before after later far.sent old.made.bytes.items far.put puts.1;
-    made =
-        subst (λ planned. IsMade wanted table new.made.has_told planned far.records (far.sent ++ old.made.bytes.items) new.made.bytes.items) (sym same)
-        (subst (IsMade wanted table new.made.has_told old.planned far.records (far.sent ++ old.made.bytes.items)) (sym puts.0)
-        (subst (λ t. IsMade wanted table t old.planned far.records (far.sent ++ old.made.bytes.items) []) (sym told)
-        (made_sent old.made.has_told old.planned far.records far.sent old.made.bytes.items far.made)));
-  }
-
-  fault_left : (before after later : Option (List ℕ)) (progress : Progress) (lost : List ℕ) → PutsBut progress.made.bytes.items lost after later → SoFar wanted table before progress after → Wrote wanted table before later
-  fault_left before after later progress lost puts far = record {
-    records = far.records;
-    read = far.read;
-    sent = far.sent ++ puts.front;
-    lost = lost;
-    put = Appends-trans before after later far.sent puts.front far.put puts.put;
-    lines =
-        subst (IsOutput wanted table true far.records) (ap (λ bs. far.sent ++ bs) puts.whole ∙ sym (append_assoc far.sent puts.front lost))
-        (output_of progress.made.has_told progress.planned far.records far.sent progress.made.bytes.items far.made);
-  }
-
-  pub far_put : {T E : Type 0} (result : Result T E) (before after later : Option (List ℕ)) (old new : Progress) → new.planned ≡ old.planned → new.made.has_told ≡ old.made.has_told
-      → OnOk result (((new.made.bytes.items ≡ old.made.bytes.items) × (later ≡ after)) ⊎ ((new.made.bytes.items ≡ []) × Appends after later old.made.bytes.items))
-      → OnErr result ((lost : List ℕ) × PutsBut old.made.bytes.items lost after later) → SoFar wanted table before old after
-      → MatchResult result (λ _. SoFar wanted table before new later) (λ _. Wrote wanted table before later)
-  far_put (Ok _) before after later old new same told sent fault far = far_sent before after later old new same told sent far
-  far_put (Err _) before after later old new same told sent fault far = fault_left before after later old fault.0 fault.1 far
-
-  -- ---- the end
-
-  pub ends_all : (told now : Bool) (planned : Option Planned) (records : List (List (List ℕ))) (before after later : Option (List ℕ)) (sent routes waiting : List ℕ) → Stays told now → AreRead records
-      → ((plan : Plan) → AreLines wanted.session table plan now [] routes) → IsMade wanted table told planned records sent waiting → Appends before after sent → Appends after later (routes ++ waiting)
-      → WroteAll wanted table now before later
-  ends_all told now planned records before after later sent routes waiting stays read middle made put puts = record {
-    records = records;
-    read = read;
-    sent = sent ++ (routes ++ waiting);
-    put = Appends-trans before after later sent (routes ++ waiting) put puts;
-    lines =
-        subst (IsOutput wanted table now records) (append_assoc sent routes waiting)
-        (routed now planned records sent routes waiting middle (made_told told now planned records sent waiting stays made));
-  }
-
-  pub ends_lost : (told : Bool) (planned : Option Planned) (records : List (List (List ℕ))) (before after later : Option (List ℕ)) (sent routes waiting lost : List ℕ) → AreRead records
-      → ((plan : Plan) → AreLines wanted.session table plan true [] routes) → IsMade wanted table told planned records sent waiting → Appends before after sent → PutsBut (routes ++ waiting) lost after later
-      → Wrote wanted table before later
-  ends_lost told planned records before after later sent routes waiting lost read middle made put puts = record {
-    records = records;
-    read = read;
-    sent = sent ++ puts.front;
-    lost = lost;
-    put = Appends-trans before after later sent puts.front put puts.put;
-    lines =
-        subst (IsOutput wanted table true records) (append_assoc sent routes waiting ∙ (ap (λ bs. sent ++ bs) puts.whole ∙ sym (append_assoc sent puts.front lost)))
-        (routed true planned records sent routes waiting middle (made_told told true planned records sent waiting (stays_told told true refl) made));
-  }
-
-  pub ends_early : (told : Bool) (planned : Option Planned) (records : List (List (List ℕ))) (before after : Option (List ℕ)) (sent waiting : List ℕ) → AreRead records → IsMade wanted table told planned records sent waiting
-      → Appends before after sent → Wrote wanted table before after
-  ends_early told planned records before after sent waiting read made put = record {
-    records = records;
-    read = read;
-    sent = sent;
-    lost = waiting;
-    put = put;
-    lines = output_of told planned records sent waiting made;
-  }
-
--- two parts, put together
-pub parts_are : (a b x y : List ℕ) → a ≡ x → b ≡ y → a ++ (b ++ []) ≡ x ++ y
-parts_are a b x y first second = ap (λ bs. a ++ bs) (append-nil b) ∙ (ap (λ bs. bs ++ b) first ∙ ap (λ bs. x ++ bs) second)
+  pub output_of : (told : Bool) (planned : Option Planned) (records : List (List (List ℕ))) (sent waiting : List ℕ) → IsMade wanted table told planned records sent waiting → IsOutput wanted table true records (sent ++ waiting)
+  output_of told planned records sent waiting made = output_told true planned records sent waiting (made_told told true planned records sent waiting (stays_told told true refl) made)

@@ -1,4 +1,6 @@
 pub mod Quoting
 pub mod Header
+pub mod Cutting
 pub mod Reading
 pub mod Output
+pub mod Laws

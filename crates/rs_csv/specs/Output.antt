@@ -1,6 +1,8 @@
 -- What is written for a CSV: lines of one session, each of which says what it is written for.
-use Rattle.std.specs.Prelude.{◌≡◌, ℕ, ◌<◌, List, [], ◌∷◌, ◌++◌, length, map, Option, Some, None, IfSome, Result, MatchResult, Bool, true, false, string_bytes}
-use Rattle.std.specs.Io.KnownBytes.{Appends, Keeps}
+use Rattle.std.specs.Prelude.{◌≡◌, ◌⊎◌, ℕ, ◌<◌, List, [], ◌∷◌, ◌++◌, length, map, Option, Some, None, IfSome, Result, MatchResult, Bool, true, false, string_bytes}
+use Rattle.std.specs.List.{concat}
+use Rattle.std.specs.Io.KnownBytes.{Appends, Consumes, IsAtEnd, Keeps}
+use Rattle.csv.specs.Reading.{strip_bom}
 use Rattle.csv.specs.Records.{fields_of}
 use Rattle.rs_value.specs.declared.column.Kind.{Kind}
 use Rattle.rs_value.specs.declared.column.ColumnType.{ColumnType}
@@ -11,7 +13,9 @@ use Rattle.rs_machine.specs.Request.{Asks, command}
 use Rattle.rs_csv_lines.specs.declared.plan.Plan.{Plan}
 use Rattle.rs_csv_lines.specs.Inserts.{IsInsertOf}
 use Rattle.rs_csv.specs.Header.{AreColumnsOf, IsNamed, IsPlaceNamed}
-use Rattle.rs_csv.specs.Reading.{AreRead}
+use Rattle.rs_csv.specs.Cutting.{IsBatchOf, IsCut, kept, kept_of}
+use Rattle.rs_csv.specs.Reading.{AreReadOf, AreTexts}
+use Rattle.rs_csv.specs.declared.batch.Batch.{Batch}
 use Rattle.rs_csv.specs.declared.definition.Definition.{Definition}
 use Rattle.rs_csv.specs.declared.filter.Planned.{Planned}
 use Rattle.rs_csv.specs.declared.filter.Progress.{Progress}
@@ -96,37 +100,145 @@ IsMadeIn wanted table progress records sent = IsMade wanted table progress.made.
 abbrev pub Makes : Wanted → CommandTree → List (List (List ℕ)) → Progress → Progress → Type 0
 Makes wanted table more old new = (records : List (List (List ℕ))) (sent : List ℕ) → IsMadeIn wanted table old records sent → IsMadeIn wanted table new (records ++ more) sent
 
--- Records were read, and the output grew by lines of some; those of the others wait.
-pub record SoFar (wanted : Wanted) (table : CommandTree) (before : Option (List ℕ)) (progress : Progress) (after : Option (List ℕ)) : Type 0 where
+-- The lines of the records read of these were sent, and none waits.
+pub record IsSent (wanted : Wanted) (table : CommandTree) (before : Option (List ℕ)) (progress : Progress) (raws : List (List ℕ)) (after : Option (List ℕ)) : Type 0 where
   pub records : List (List (List ℕ))
-  pub read : AreRead records
+  pub read : AreReadOf raws records
   pub sent : List ℕ
   pub put : Appends before after sent
   pub made : IsMadeIn wanted table progress records sent
+  pub none_waits : progress.made.bytes.items ≡ []
 
--- The output grew by what is written for the records that were read, or by a front of it.
-pub record Wrote (wanted : Wanted) (table : CommandTree) (before after : Option (List ℕ)) : Type 0 where
+-- The texts of these wait, and nothing was sent.
+pub record IsHeld (before : Option (List ℕ)) (texts : List (List ℕ)) (raws : List (List ℕ)) (after : Option (List ℕ)) : Type 0 where
+  pub texts_are : AreTexts texts raws
+  pub put : Appends before after []
+
+-- the texts that wait
+abbrev pub held_texts : Progress → List (List ℕ)
+held_texts progress = map (λ text. text.items) progress.held.items
+
+-- What became of raw records: their lines were sent, or where routes are to be defined their texts wait.
+pub record AreTaken (wanted : Wanted) (table : CommandTree) (before : Option (List ℕ)) (progress : Progress) (raws : List (List ℕ)) (after : Option (List ℕ)) : Type 0 where
+  pub sent : wanted.defines_routes ≡ false → IsSent wanted table before progress raws after
+  pub held : wanted.defines_routes ≡ true → IsHeld before (held_texts progress) raws after
+
+-- The input up to here was cut: the first of the records were taken, and the batch has the others.
+pub record SoFar (wanted : Wanted) (table : CommandTree) (before : Option (List ℕ)) (batch : Batch) (progress : Progress) (input : List ℕ) (after : Option (List ℕ)) : Type 0 where
+  pub past : List (List ℕ)
+  pub waiting : List (List ℕ)
+  pub rest : List ℕ
+  pub cut : IsCut input (past ++ waiting) rest
+  pub in_batch : IsBatchOf batch (concat (kept waiting)) rest
+  pub none_lacks : progress.made.has_told ≡ false → kept (past ++ waiting) ≡ past ++ waiting
+  pub taken : AreTaken wanted table before progress (kept past) after
+
+-- All of the input was cut, and each record taken.
+pub record TookAll (wanted : Wanted) (table : CommandTree) (before : Option (List ℕ)) (progress : Progress) (input : List ℕ) (after : Option (List ℕ)) : Type 0 where
+  pub raws : List (List ℕ)
+  pub rest : List ℕ
+  pub cut : IsCut input raws rest
+  pub none_lacks : progress.made.has_told ≡ false → kept_of raws rest ≡ raws ++ rest ∷ []
+  pub taken : AreTaken wanted table before progress (kept_of raws rest) after
+
+-- ---- the end
+
+-- The output grew by what is written for the records read of these.
+pub record WroteOf (wanted : Wanted) (table : CommandTree) (told : Bool) (raws : List (List ℕ)) (before after : Option (List ℕ)) : Type 0 where
   pub records : List (List (List ℕ))
-  pub read : AreRead records
+  pub read : AreReadOf raws records
+  pub sent : List ℕ
+  pub put : Appends before after sent
+  pub lines : IsOutput wanted table told records sent
+
+-- The output grew by a front of what is written for the records read of the first of these.
+pub record WroteFront (wanted : Wanted) (table : CommandTree) (raws : List (List ℕ)) (before after : Option (List ℕ)) : Type 0 where
+  pub first : List (List ℕ)
+  pub others : List (List ℕ)
+  pub whole : raws ≡ first ++ others
+  pub records : List (List (List ℕ))
+  pub read : AreReadOf first records
   pub sent : List ℕ
   pub lost : List ℕ
   pub put : Appends before after sent
   pub lines : IsOutput wanted table true records (sent ++ lost)
 
--- The output grew by what is written for the records that were read.
-pub record WroteAll (wanted : Wanted) (table : CommandTree) (told : Bool) (before after : Option (List ℕ)) : Type 0 where
-  pub records : List (List (List ℕ))
-  pub read : AreRead records
-  pub sent : List ℕ
-  pub put : Appends before after sent
-  pub lines : IsOutput wanted table told records sent
+-- The input is cut, and the output grew by what is written for its records, but for those that are too long. Where nothing was told
+-- there is none of these.
+pub record WroteAll (wanted : Wanted) (table : CommandTree) (told : Bool) (input : List ℕ) (before after : Option (List ℕ)) : Type 0 where
+  pub raws : List (List ℕ)
+  pub rest : List ℕ
+  pub cut : IsCut input raws rest
+  pub none_lacks : told ≡ false → kept_of raws rest ≡ raws ++ rest ∷ []
+  pub wrote : WroteOf wanted table told (kept_of raws rest) before after
 
--- so far still, or an end
-abbrev pub GoesFar : {T E : Type 0} → Wanted → CommandTree → Result T E → Progress → Progress → Option (List ℕ) → Option (List ℕ) → Type 0
-GoesFar wanted table result progress progress_now output output_now =
-    (before : Option (List ℕ)) → SoFar wanted table before progress output
-    → MatchResult result (λ _. SoFar wanted table before progress_now output_now) (λ _. Wrote wanted table before output_now)
+-- The input that was told is cut, and the output grew by a front of what is written for the first of its records. The rest is one of
+-- them only at the end of the input.
+pub record Wrote (wanted : Wanted) (table : CommandTree) (input : List ℕ) (remaining before after : Option (List ℕ)) : Type 0 where
+  pub raws : List (List ℕ)
+  pub rest : List ℕ
+  pub cut : IsCut input raws rest
+  pub wrote : WroteFront wanted table (kept raws) before after ⊎ (IsAtEnd remaining × WroteFront wanted table (kept_of raws rest) before after)
 
--- the end: whole lines, or a front of them where it is one of a fault
-abbrev pub Ends : Wanted → CommandTree → Result Bool Stop → Option (List ℕ) → Option (List ℕ) → Type 0
-Ends wanted table result before after = MatchResult result (λ told. WroteAll wanted table told before after) (λ _. Wrote wanted table before after)
+-- the same before the end of the input
+pub record WroteSoFar (wanted : Wanted) (table : CommandTree) (input : List ℕ) (before after : Option (List ℕ)) : Type 0 where
+  pub raws : List (List ℕ)
+  pub rest : List ℕ
+  pub cut : IsCut input raws rest
+  pub wrote : WroteFront wanted table (kept raws) before after
+
+-- and where it was told to its end
+pub record WroteAtEnd (wanted : Wanted) (table : CommandTree) (input : List ℕ) (before after : Option (List ℕ)) : Type 0 where
+  pub raws : List (List ℕ)
+  pub rest : List ℕ
+  pub cut : IsCut input raws rest
+  pub wrote : WroteFront wanted table (kept_of raws rest) before after
+
+-- the end: whole lines of the whole input, or where it is one of a fault a front of those of what was told
+abbrev pub Ends : Wanted → CommandTree → Result Bool Stop → List ℕ → Option (List ℕ) → Option (List ℕ) → Option (List ℕ) → Type 0
+Ends wanted table result told remaining before after =
+    MatchResult result (λ lacks. IsAtEnd remaining × WroteAll wanted table lacks (strip_bom told) before after)
+    (λ _. Wrote wanted table (strip_bom told) remaining before after)
+
+-- ---- steps
+
+-- the lines of more raw records are sent
+abbrev pub SendsMore : {T E : Type 0} → Wanted → CommandTree → Result T E → List (List ℕ) → Progress → Progress → Option (List ℕ) → Option (List ℕ) → Type 0
+SendsMore wanted table result more progress progress_now output output_now =
+    (before : Option (List ℕ)) (raws : List (List ℕ)) → IsSent wanted table before progress raws output
+    → MatchResult result (λ _. IsSent wanted table before progress_now (raws ++ more) output_now) (λ _. WroteFront wanted table (raws ++ more) before output_now)
+
+-- more raw records are taken
+abbrev pub TakesMore : {T E : Type 0} → Wanted → CommandTree → Result T E → List (List ℕ) → Progress → Progress → Option (List ℕ) → Option (List ℕ) → Type 0
+TakesMore wanted table result more progress progress_now output output_now =
+    (before : Option (List ℕ)) (raws : List (List ℕ)) → AreTaken wanted table before progress raws output
+    → MatchResult result (λ _. AreTaken wanted table before progress_now (raws ++ more) output_now) (λ _. WroteFront wanted table (raws ++ more) before output_now)
+
+-- more of the input is cut and taken
+abbrev pub GoesFar : {T E : Type 0} → Wanted → CommandTree → Result T E → List ℕ → Batch → Batch → Progress → Progress → Option (List ℕ) → Option (List ℕ) → Type 0
+GoesFar wanted table result bytes batch batch_now progress progress_now output output_now =
+    (before : Option (List ℕ)) (input : List ℕ) → SoFar wanted table before batch progress input output
+    → MatchResult result (λ _. SoFar wanted table before batch_now progress_now (input ++ bytes) output_now) (λ _. WroteSoFar wanted table (input ++ bytes) before output_now)
+
+-- the rest is taken
+abbrev pub TakesRest : {T E : Type 0} → Wanted → CommandTree → Result T E → Batch → Progress → Progress → Option (List ℕ) → Option (List ℕ) → Type 0
+TakesRest wanted table result batch progress progress_now output output_now =
+    (before : Option (List ℕ)) (input : List ℕ) → SoFar wanted table before batch progress input output
+    → MatchResult result (λ _. TookAll wanted table before progress_now input output_now) (λ _. WroteAtEnd wanted table input before output_now)
+
+-- the head of the input is cut and taken, and it is said whether it was all
+abbrev pub TakesHead : {E : Type 0} → Wanted → CommandTree → Result Bool E → Option (List ℕ) → Batch → Progress → Option (List ℕ) → Option (List ℕ) → Option (List ℕ) → Type 0
+TakesHead wanted table result before batch progress unread unread_now output = (told : List ℕ) × Consumes unread unread_now told
+    × MatchResult result (λ is_all. SoFar wanted table before batch progress (strip_bom told) output × (is_all ≡ true → IsAtEnd unread_now) × (is_all ≡ false → length told ≡ 3))
+    (λ _. WroteSoFar wanted table (strip_bom told) before output)
+
+-- what was told of the input is cut and taken, to its end or to a fault
+abbrev pub TakesInput : {E : Type 0} → Wanted → CommandTree → Result (Unit {0}) E → Progress → Option (List ℕ) → Option (List ℕ) → Option (List ℕ) → Option (List ℕ) → Type 0
+TakesInput wanted table result progress unread unread_now output output_now = (told : List ℕ) × Consumes unread unread_now told
+    × MatchResult result (λ _. IsAtEnd unread_now × TookAll wanted table output progress (strip_bom told) output_now)
+    (λ _. Wrote wanted table (strip_bom told) unread_now output output_now)
+
+-- what waits is written
+abbrev pub EndsTaken : {E : Type 0} → Wanted → CommandTree → Result Bool E → Progress → Option (List ℕ) → Option (List ℕ) → Type 0
+EndsTaken wanted table result progress output output_now = (before : Option (List ℕ)) (raws : List (List ℕ)) → AreTaken wanted table before progress raws output
+    → MatchResult result (λ told. WroteOf wanted table told raws before output_now) (λ _. WroteFront wanted table raws before output_now)

@@ -2,10 +2,13 @@
 //!
 //! A record that is longer than records may be is not kept, and its end is told.
 
+ghost use Rattle.std.specs.Prelude.{◌≡◌, ◌+◌, [], ◌∷◌, ◌++◌, ℕ, List, IfOk, OnOk};
+ghost use Rattle.rs_csv.specs.Cutting.{EndsRecord, GoesOn, IsBatchOf, IsBatchWithin, IsBetween, Takes, after_all};
+
 use crate::quoting::{Place, push_marked};
 use std::alloc::{AllocError, Global};
 
-/// How many bytes a record has at the most, its line end among them.
+/// How many bytes a record has at the most, beside its line end.
 pub const RECORD_BYTES: usize = 65_536;
 
 /// How many bytes of records are read together, before they are written.
@@ -41,7 +44,9 @@ pub struct Batch {
 
 impl Batch {
     /// No record.
-    pub fn new(alloc: Global) -> Result<Self, AllocError> {
+    pub fn new(alloc: Global) -> Result<Self, AllocError>
+        ensures { IfOk result (λ batch. IsBatchOf batch [] []) }
+    {
         let text = Vec::from_slice(alloc, b"\n")?;
         Ok(Batch {
             text,
@@ -53,7 +58,9 @@ impl Batch {
     }
 
     /// The text of the records.
-    pub fn text(&self) -> &[u8] {
+    pub fn text(&self) -> &[u8]
+        ensures { result.now ≡ self.now.text.items }
+    {
         self.text.as_slice()
     }
 
@@ -63,18 +70,36 @@ impl Batch {
     }
 
     /// Whether a record that is too long has not ended.
-    pub fn is_within_long(&self) -> bool {
+    pub fn is_within_long(&self) -> bool
+        ensures { result ≡ self.now.is_long }
+    {
         self.is_long
     }
 
     /// Takes the records away.
-    pub fn clear(&mut self) {
+    pub fn clear(&mut self)
+        ensures { (whole : List ℕ) (begun : List ℕ) → IsBatchOf self.old whole begun → IsBetween self.old begun → IsBatchOf self.new [] begun }
+    {
         self.text.truncate(1);
         self.begun = self.text.len();
     }
 
+    // Adds a byte to the record that has begun.
+    fn push(&mut self, byte: u8) -> Result<(), AllocError>
+        ensures { OnOk result ((whole : List ℕ) (begun : List ℕ) → IsBatchOf self.old whole begun → IsBatchWithin (RECORD_BYTES + 1) self.new whole (begun ++ byte ∷ [])) }
+    {
+        if !self.is_long {
+            push_marked(&mut self.text, self.place, byte)?;
+        }
+        self.length = self.length.saturating_add(1);
+        self.place = self.place.after(byte);
+        Ok(())
+    }
+
     // At the end of a record.
-    fn end_record(&mut self) -> Taken {
+    fn end_record(&mut self) -> Taken
+        ensures { (whole : List ℕ) (raw : List ℕ) → IsBatchWithin (RECORD_BYTES + 1) self.old whole raw → after_all Place.Start raw ≡ Place.Start → EndsRecord result self.new whole raw }
+    {
         self.begun = self.text.len();
         self.length = 0;
         if self.is_long {
@@ -85,22 +110,28 @@ impl Batch {
         }
     }
 
-    /// Takes a byte.
-    pub fn take(&mut self, byte: u8) -> Result<Taken, AllocError> {
-        let ends = self.place.ends_record(byte);
-        if !self.is_long {
-            push_marked(&mut self.text, self.place, byte)?;
-        }
-        self.length = self.length.saturating_add(1);
-        self.place = self.place.after(byte);
-        if ends {
-            return Ok(self.end_record());
-        }
+    // After a byte that ends no record.
+    fn go_on(&mut self) -> Taken
+        ensures { (whole : List ℕ) (begun : List ℕ) → IsBatchWithin (RECORD_BYTES + 1) self.old whole begun → GoesOn result self.new whole begun }
+    {
         if !self.is_long && self.length > RECORD_BYTES {
             self.text.truncate(self.begun);
             self.is_long = true;
-            return Ok(Taken::TooLong);
+            return Taken::TooLong;
         }
-        Ok(Taken::Within)
+        Taken::Within
+    }
+
+    /// Takes a byte.
+    pub fn take(&mut self, byte: u8) -> Result<Taken, AllocError>
+        ensures { IfOk result (λ taken. (whole : List ℕ) (begun : List ℕ) → IsBatchOf self.old whole begun → Takes taken self.new whole begun byte) }
+    {
+        let ends = self.place.ends_record(byte);
+        self.push(byte)?;
+        if ends {
+            Ok(self.end_record())
+        } else {
+            Ok(self.go_on())
+        }
     }
 }

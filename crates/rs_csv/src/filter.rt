@@ -1,33 +1,31 @@
 //! The filter: CSV is read in pieces, and the lines of its records are written.
 
-ghost use Rattle.std.specs.Prelude.{◌≡◌, ◌<◌, ◌⊎◌, [], ◌∷◌, OnOk, OnErr, IfOk, MatchResult, ℕ, List, Bool, Option, Ok, false, true};
-ghost use Rattle.std.specs.Io.KnownBytes.{Appends, Keeps};
+ghost use Rattle.std.specs.Prelude.{◌≡◌, ◌<◌, [], ◌∷◌, ◌++◌, OnOk, OnErr, IfOk, ℕ, List, Bool, Option, None, Ok, false, true};
+ghost use Rattle.std.specs.List.{concat};
+ghost use Rattle.std.specs.Io.KnownBytes.{Appends, Consumes, Keeps};
 ghost use Rattle.csv.specs.Records.{fields_of};
 ghost use Rattle.rs_protocol.specs.Puts.{PutsBut};
 ghost use Rattle.rs_syntax.specs.Tree.{CommandTree};
 ghost use Rattle.rs_csv_lines.specs.declared.plan.Plan.{Plan};
-ghost use Rattle.rs_csv.specs.Output.{AreLines, Ends, GoesFar, GoesOn, IsDefinition, IsMade, IsPlanOf, IsPlanned, IsQuiet, Makes, Wrote, WroteAll, table_of};
-ghost use Rattle.rs_csv.specs.Reading.{AreRead, ReadsAll};
+ghost use Rattle.rs_csv.specs.Cutting.{IsBatchOf, IsBetween, text_of};
+ghost use Rattle.rs_csv.specs.Output.{Ends, GoesFar, GoesOn, IsDefinition, IsPlanOf, IsPlanned, IsQuiet, Makes, SendsMore, SoFar, TakesHead, TakesInput, TakesMore, TakesRest, held_texts, table_of};
+ghost use Rattle.rs_csv.specs.Reading.{ReadsAll};
 
 use crate::batch::{Batch, Taken};
 use crate::definition::{Definition, read_definition};
+use crate::head::{is_mark, read_head};
 use crate::header::make_plan;
+use crate::held::write_rest;
 use crate::made::{Made, push_line, take_record};
-use crate::routes::{Extent, push_route};
-use crate::tell::{tell_long_record, tell_route};
-use arrayvec::ArrayVec;
+use crate::tell::tell_long_record;
 use csv::{ByteRecord, ReaderBuilder};
 use rs_csv_lines::Plan;
-use rs_methods::Name;
 use rs_protocol::{Fault, put_parts};
 use std::alloc::{AllocError, AllocFailed, Global};
 use std::io::{Read, Write};
 
 /// How many bytes are read at once, at the most.
 const PIECE_BYTES: usize = 4_096;
-
-/// What comes before a text of UTF-8 that says so.
-const BYTE_ORDER_MARK: [u8; 3] = [0xef, 0xbb, 0xbf];
 
 /// What is to be made of a CSV.
 #[derive(Clone, Copy)]
@@ -116,6 +114,24 @@ pub struct Progress {
     pub planned: Option<Planned>,
     /// What is made of the records.
     pub made: Made,
+    /// The texts of records that wait for the routes.
+    pub held: Vec<Vec<u8>>,
+}
+
+impl Progress {
+    /// Nothing.
+    pub fn new(alloc: Global, defines_routes: bool) -> Self
+        ensures planned { result.planned ≡ None }
+        ensures bytes { result.made.bytes.items ≡ [] }
+        ensures told { result.made.has_told ≡ false }
+        ensures held { result.held.items ≡ [] }
+    {
+        Progress {
+            planned: None,
+            made: Made::new(alloc, defines_routes),
+            held: Vec::new(alloc),
+        }
+    }
 }
 
 // Makes the line that defines the table, where it is wanted.
@@ -161,6 +177,7 @@ fn take_next<E: Write>(
     ensures planned { OnOk result (IsPlanned job.now.wanted (table_of job.now.definition) progress.new) }
     ensures made { OnOk result (Makes job.now.wanted (table_of job.now.definition) (fields_of record.now ∷ []) progress.old progress.new) }
     ensures quiet { OnOk result (IsQuiet progress.old.made.has_told progress.new.made.has_told (E.contents errors.old) (E.contents errors.new)) }
+    ensures held { progress.new.held ≡ progress.old.held }
 {
     match &progress.planned {
         Some(planned) => take_record(
@@ -192,6 +209,7 @@ fn read_records<E: Write>(
     ensures planned { OnOk result (IsPlanned job.now.wanted (table_of job.now.definition) progress.new) }
     ensures made { OnOk result ((records : List (List (List ℕ))) × ReadsAll text.now records × Makes job.now.wanted (table_of job.now.definition) records progress.old progress.new) }
     ensures quiet { OnOk result (IsQuiet progress.old.made.has_told progress.new.made.has_told (E.contents errors.old) (E.contents errors.new)) }
+    ensures held { progress.new.held ≡ progress.old.held }
 {
     let mut reader = ReaderBuilder::new()
         .has_headers(false)
@@ -208,16 +226,12 @@ fn read_records<E: Write>(
     Err(Stop::OutOfMemory)
 }
 
-// Writes the lines that were made. Where routes are to be defined they wait for the end.
-fn write_made<W: Write>(job: &Job<'_>, made: &mut Made, output: &mut W) -> Result<(), Stop>
-    ensures sent { OnOk result (((made.new.bytes.items ≡ made.old.bytes.items) × (W.contents output.new ≡ W.contents output.old))
-        ⊎ ((made.new.bytes.items ≡ []) × Appends (W.contents output.old) (W.contents output.new) made.old.bytes.items)) }
+// Writes the lines that were made.
+fn write_made<W: Write>(made: &mut Made, output: &mut W) -> Result<(), Stop>
+    ensures sent { OnOk result ((made.new.bytes.items ≡ []) × Appends (W.contents output.old) (W.contents output.new) made.old.bytes.items) }
     ensures fault { OnErr result ((lost : List ℕ) × PutsBut made.old.bytes.items lost (W.contents output.old) (W.contents output.new)) }
     ensures told { made.new.has_told ≡ made.old.has_told }
 {
-    if job.wanted.defines_routes {
-        return Ok(());
-    }
     match put_parts(output, &[made.bytes.as_slice()]) {
         Ok(()) => {
             made.bytes.clear();
@@ -227,75 +241,76 @@ fn write_made<W: Write>(job: &Job<'_>, made: &mut Made, output: &mut W) -> Resul
     }
 }
 
-// The line that defines a route. One on which no measure was met is told.
-fn put_route<E: Write>(
+// Makes the lines of the records of a text, and writes them.
+pub fn write_text<W: Write, E: Write>(
     job: &Job<'_>,
-    route: (Name, Extent),
-    lines: &mut Vec<u8>,
-    made: &mut Made,
-    errors: &mut E,
-) -> Result<(), Stop>
-    requires { job.now.wanted.session < 64 }
-    ensures lines { OnOk result ((table : CommandTree) (plan : Plan) (told : Bool) → GoesOn job.now.wanted.session table plan told [] lines.old.items lines.new.items) }
-    ensures bytes { made.new.bytes.items ≡ made.old.bytes.items }
-    ensures quiet { OnOk result (IsQuiet made.old.has_told made.new.has_told (E.contents errors.old) (E.contents errors.new)) }
-{
-    let (name, extent) = route;
-    match extent.ends {
-        Some(ends) => push_route(job.alloc, job.wanted.session, name, ends, lines),
-        None => {
-            made.has_told = true;
-            tell_route(errors, name.as_str());
-            Ok(())
-        }
-    }
-}
-
-// The lines that define the routes.
-fn route_lines<E: Write>(job: &Job<'_>, made: &mut Made, errors: &mut E) -> Result<Vec<u8>, Stop>
-    requires { job.now.wanted.session < 64 }
-    ensures lines { IfOk result (λ lines. (table : CommandTree) (plan : Plan) (told : Bool) → AreLines job.now.wanted.session table plan told [] lines.items) }
-    ensures bytes { OnOk result (made.new.bytes.items ≡ made.old.bytes.items) }
-    ensures quiet { OnOk result (IsQuiet made.old.has_told made.new.has_told (E.contents errors.old) (E.contents errors.new)) }
-{
-    let mut lines = Vec::new(job.alloc);
-    let Some(mut extents) = made.extents.take() else {
-        return Ok(lines);
-    };
-    'routes: for _ in 0..u64::MAX {
-        match extents.pop_first() {
-            Some(route) => put_route(job, route, &mut lines, made, errors)?,
-            None => return Ok(lines),
-        }
-    }
-    Ok(lines)
-}
-
-// Writes the lines that define the routes, and those that wait for them.
-fn write_rest<W: Write, E: Write>(
-    job: &Job<'_>,
-    made: &mut Made,
+    text: &[u8],
+    progress: &mut Progress,
     output: &mut W,
     errors: &mut E,
 ) -> Result<(), Stop>
-    requires { job.now.wanted.session < 64 }
-    ensures wrote { (table : CommandTree) (before : Option (List ℕ)) (planned : Option Planned) (records : List (List (List ℕ))) (sent : List ℕ) → AreRead records
-        → Appends before (W.contents output.old) sent → IsMade job.now.wanted table made.old.has_told planned records sent made.old.bytes.items
-        → MatchResult result (λ _. WroteAll job.now.wanted table made.new.has_told before (W.contents output.new)) (λ _. Wrote job.now.wanted table before (W.contents output.new)) }
-    ensures quiet { OnOk result (IsQuiet made.old.has_told made.new.has_told (E.contents errors.old) (E.contents errors.new)) }
+    requires in_range { job.now.wanted.session < 64 }
+    requires defines { IsDefinition job.now.wanted.session job.now.definition }
+    requires planned { IsPlanned job.now.wanted (table_of job.now.definition) progress.old }
+    ensures planned { OnOk result (IsPlanned job.now.wanted (table_of job.now.definition) progress.new) }
+    ensures sent { (more : List (List ℕ)) → text.now ≡ text_of more → SendsMore job.now.wanted (table_of job.now.definition) result more progress.old progress.new (W.contents output.old) (W.contents output.new) }
+    ensures quiet { OnOk result (IsQuiet progress.old.made.has_told progress.new.made.has_told (E.contents errors.old) (E.contents errors.new)) }
 {
-    let routes = match route_lines(job, made, errors) {
-        Ok(routes) => routes,
-        Err(stop) => return Err(stop),
+    if let Err(stop) = read_records(job, text, progress, errors) {
+        return Err(stop);
+    }
+    write_made(&mut progress.made, output)
+}
+
+// Meets the routes of the records of a text, which waits for them.
+fn hold_text<E: Write>(
+    job: &Job<'_>,
+    text: &[u8],
+    progress: &mut Progress,
+    errors: &mut E,
+) -> Result<(), Stop>
+    requires in_range { job.now.wanted.session < 64 }
+    requires defines { IsDefinition job.now.wanted.session job.now.definition }
+    requires planned { IsPlanned job.now.wanted (table_of job.now.definition) progress.old }
+    ensures planned { OnOk result (IsPlanned job.now.wanted (table_of job.now.definition) progress.new) }
+    ensures held { OnOk result (held_texts progress.new ≡ held_texts progress.old ++ text.now ∷ []) }
+    ensures quiet { OnOk result (IsQuiet progress.old.made.has_told progress.new.made.has_told (E.contents errors.old) (E.contents errors.new)) }
+{
+    if let Err(stop) = read_records(job, text, progress, errors) {
+        return Err(stop);
+    }
+    progress.made.bytes.clear();
+    let Ok(held) = Vec::from_slice(job.alloc, text) else {
+        return Err(Stop::OutOfMemory);
     };
-    match put_parts(output, &[routes.as_slice(), made.bytes.as_slice()]) {
-        Ok(()) => Ok(()),
-        Err(fault) => Err(Stop::Stream(fault)),
+    progress.held.push(held)?;
+    Ok(())
+}
+
+// Takes the text of records: their lines are written, or it waits for the routes.
+fn take_text<W: Write, E: Write>(
+    job: &Job<'_>,
+    text: &[u8],
+    progress: &mut Progress,
+    output: &mut W,
+    errors: &mut E,
+) -> Result<(), Stop>
+    requires in_range { job.now.wanted.session < 64 }
+    requires defines { IsDefinition job.now.wanted.session job.now.definition }
+    requires planned { IsPlanned job.now.wanted (table_of job.now.definition) progress.old }
+    ensures planned { OnOk result (IsPlanned job.now.wanted (table_of job.now.definition) progress.new) }
+    ensures taken { (more : List (List ℕ)) → text.now ≡ text_of more → TakesMore job.now.wanted (table_of job.now.definition) result more progress.old progress.new (W.contents output.old) (W.contents output.new) }
+    ensures quiet { OnOk result (IsQuiet progress.old.made.has_told progress.new.made.has_told (E.contents errors.old) (E.contents errors.new)) }
+{
+    if job.wanted.defines_routes {
+        hold_text(job, text, progress, errors)
+    } else {
+        write_text(job, text, progress, output, errors)
     }
 }
 
-// Makes the lines of the records of a batch, and takes them away.
-fn make_lines<W: Write, E: Write>(
+// Takes the records of a batch, and clears it.
+fn take_batch<W: Write, E: Write>(
     job: &Job<'_>,
     batch: &mut Batch,
     progress: &mut Progress,
@@ -306,14 +321,16 @@ fn make_lines<W: Write, E: Write>(
     requires defines { IsDefinition job.now.wanted.session job.now.definition }
     requires planned { IsPlanned job.now.wanted (table_of job.now.definition) progress.old }
     ensures planned { OnOk result (IsPlanned job.now.wanted (table_of job.now.definition) progress.new) }
-    ensures far { GoesFar job.now.wanted (table_of job.now.definition) result progress.old progress.new (W.contents output.old) (W.contents output.new) }
+    ensures taken { (more : List (List ℕ)) (begun : List ℕ) → IsBatchOf batch.old (concat more) begun → IsBetween batch.old begun
+        → TakesMore job.now.wanted (table_of job.now.definition) result more progress.old progress.new (W.contents output.old) (W.contents output.new) }
+    ensures batch { (whole : List ℕ) (begun : List ℕ) → IsBatchOf batch.old whole begun → IsBetween batch.old begun → OnOk result (IsBatchOf batch.new [] begun) }
     ensures quiet { OnOk result (IsQuiet progress.old.made.has_told progress.new.made.has_told (E.contents errors.old) (E.contents errors.new)) }
 {
-    if let Err(stop) = read_records(job, batch.text(), progress, errors) {
+    if let Err(stop) = take_text(job, batch.text(), progress, output, errors) {
         return Err(stop);
     }
     batch.clear();
-    write_made(job, &mut progress.made, output)
+    Ok(())
 }
 
 // Tells of a record that is too long. There is no header after one that is.
@@ -321,6 +338,7 @@ fn leave_out_long<E: Write>(progress: &mut Progress, errors: &mut E) -> Result<(
     ensures plan { progress.new.planned ≡ progress.old.planned }
     ensures bytes { progress.new.made.bytes.items ≡ progress.old.made.bytes.items }
     ensures told { progress.new.made.has_told ≡ true }
+    ensures held { progress.new.held ≡ progress.old.held }
 {
     if progress.planned.is_some() {
         progress.made.number = progress.made.number.saturating_add(1);
@@ -347,7 +365,7 @@ fn take_byte<W: Write, E: Write>(
     requires defines { IsDefinition job.now.wanted.session job.now.definition }
     requires planned { IsPlanned job.now.wanted (table_of job.now.definition) progress.old }
     ensures planned { OnOk result (IsPlanned job.now.wanted (table_of job.now.definition) progress.new) }
-    ensures far { GoesFar job.now.wanted (table_of job.now.definition) result progress.old progress.new (W.contents output.old) (W.contents output.new) }
+    ensures far { GoesFar job.now.wanted (table_of job.now.definition) result (byte ∷ []) batch.old batch.new progress.old progress.new (W.contents output.old) (W.contents output.new) }
     ensures quiet { OnOk result (IsQuiet progress.old.made.has_told progress.new.made.has_told (E.contents errors.old) (E.contents errors.new)) }
 {
     let Ok(taken) = batch.take(byte) else {
@@ -357,12 +375,12 @@ fn take_byte<W: Write, E: Write>(
         Taken::Within => Ok(()),
         Taken::Ended => {
             if batch.is_full() {
-                make_lines(job, batch, progress, output, errors)
+                take_batch(job, batch, progress, output, errors)
             } else {
                 Ok(())
             }
         }
-        Taken::TooLong => make_lines(job, batch, progress, output, errors),
+        Taken::TooLong => take_batch(job, batch, progress, output, errors),
         Taken::EndedLong => leave_out_long(progress, errors),
     }
 }
@@ -380,7 +398,7 @@ fn take_piece<W: Write, E: Write>(
     requires defines { IsDefinition job.now.wanted.session job.now.definition }
     requires planned { IsPlanned job.now.wanted (table_of job.now.definition) progress.old }
     ensures planned { OnOk result (IsPlanned job.now.wanted (table_of job.now.definition) progress.new) }
-    ensures far { GoesFar job.now.wanted (table_of job.now.definition) result progress.old progress.new (W.contents output.old) (W.contents output.new) }
+    ensures far { GoesFar job.now.wanted (table_of job.now.definition) result piece.now batch.old batch.new progress.old progress.new (W.contents output.old) (W.contents output.new) }
     ensures quiet { OnOk result (IsQuiet progress.old.made.has_told progress.new.made.has_told (E.contents errors.old) (E.contents errors.new)) }
 {
     for byte in piece {
@@ -391,25 +409,7 @@ fn take_piece<W: Write, E: Write>(
     Ok(())
 }
 
-// The first three bytes of the input, or all where there are fewer.
-fn read_head<R: Read>(input: &mut R) -> Result<ArrayVec<u8, 3>, Stop> {
-    let mut head = ArrayVec::new();
-    for _ in 0..3 {
-        let mut one = [0u8; 1];
-        match input.read(&mut one) {
-            Ok(0) => return Ok(head),
-            Ok(_) => {
-                if !head.is_full() {
-                    head.push(one[0]);
-                }
-            }
-            Err(_) => return Err(Stop::Stream(Fault::Read)),
-        }
-    }
-    Ok(head)
-}
-
-// Reads the head of the input, and takes it where it is no byte order mark.
+// Reads the head of the input, and takes it where it is no byte order mark. Says whether it was all of the input.
 fn take_head<R: Read, W: Write, E: Write>(
     job: &Job<'_>,
     batch: &mut Batch,
@@ -417,22 +417,27 @@ fn take_head<R: Read, W: Write, E: Write>(
     input: &mut R,
     output: &mut W,
     errors: &mut E,
-) -> Result<(), Stop>
+) -> Result<bool, Stop>
     requires in_range { job.now.wanted.session < 64 }
     requires defines { IsDefinition job.now.wanted.session job.now.definition }
     requires planned { IsPlanned job.now.wanted (table_of job.now.definition) progress.old }
     ensures planned { OnOk result (IsPlanned job.now.wanted (table_of job.now.definition) progress.new) }
-    ensures far { GoesFar job.now.wanted (table_of job.now.definition) result progress.old progress.new (W.contents output.old) (W.contents output.new) }
+    ensures far { (before : Option (List ℕ)) → SoFar job.now.wanted (table_of job.now.definition) before batch.old progress.old [] (W.contents output.old)
+        → TakesHead job.now.wanted (table_of job.now.definition) result before batch.new progress.new (R.remaining input.old) (R.remaining input.new) (W.contents output.new) }
     ensures quiet { OnOk result (IsQuiet progress.old.made.has_told progress.new.made.has_told (E.contents errors.old) (E.contents errors.new)) }
 {
     let head = match read_head(input) {
         Ok(head) => head,
         Err(stop) => return Err(stop),
     };
-    if head.as_slice() == BYTE_ORDER_MARK.as_slice() {
-        return Ok(());
+    let is_all = !head.is_full();
+    if is_mark(head.as_slice()) {
+        return Ok(is_all);
     }
-    take_piece(job, batch, head.as_slice(), progress, output, errors)
+    if let Err(stop) = take_piece(job, batch, head.as_slice(), progress, output, errors) {
+        return Err(stop);
+    }
+    Ok(is_all)
 }
 
 // Takes the end of the input.
@@ -447,7 +452,7 @@ fn take_end<W: Write, E: Write>(
     requires defines { IsDefinition job.now.wanted.session job.now.definition }
     requires planned { IsPlanned job.now.wanted (table_of job.now.definition) progress.old }
     ensures planned { OnOk result (IsPlanned job.now.wanted (table_of job.now.definition) progress.new) }
-    ensures far { GoesFar job.now.wanted (table_of job.now.definition) result progress.old progress.new (W.contents output.old) (W.contents output.new) }
+    ensures far { TakesRest job.now.wanted (table_of job.now.definition) result batch.old progress.old progress.new (W.contents output.old) (W.contents output.new) }
     ensures quiet { OnOk result (IsQuiet progress.old.made.has_told progress.new.made.has_told (E.contents errors.old) (E.contents errors.new)) }
 {
     if batch.is_within_long() {
@@ -455,7 +460,7 @@ fn take_end<W: Write, E: Write>(
             return Err(stop);
         }
     }
-    make_lines(job, batch, progress, output, errors)
+    take_text(job, batch.text(), progress, output, errors)
 }
 
 // Reads the records to the end of the input.
@@ -468,16 +473,19 @@ fn read_all<R: Read, W: Write, E: Write>(
 ) -> Result<(), Stop>
     requires in_range { job.now.wanted.session < 64 }
     requires defines { IsDefinition job.now.wanted.session job.now.definition }
-    requires planned { IsPlanned job.now.wanted (table_of job.now.definition) progress.old }
-    ensures planned { OnOk result (IsPlanned job.now.wanted (table_of job.now.definition) progress.new) }
-    ensures far { GoesFar job.now.wanted (table_of job.now.definition) result progress.old progress.new (W.contents output.old) (W.contents output.new) }
+    requires no_plan { progress.old.planned ≡ None }
+    requires no_line { progress.old.made.bytes.items ≡ [] }
+    requires no_text { progress.old.held.items ≡ [] }
+    ensures input { TakesInput job.now.wanted (table_of job.now.definition) result progress.new (R.remaining input.old) (R.remaining input.new) (W.contents output.old) (W.contents output.new) }
     ensures quiet { OnOk result (IsQuiet progress.old.made.has_told progress.new.made.has_told (E.contents errors.old) (E.contents errors.new)) }
 {
     let Ok(mut batch) = Batch::new(job.alloc) else {
         return Err(Stop::OutOfMemory);
     };
-    if let Err(stop) = take_head(job, &mut batch, progress, input, output, errors) {
-        return Err(stop);
+    match take_head(job, &mut batch, progress, input, output, errors) {
+        Ok(true) => return take_end(job, &mut batch, progress, output, errors),
+        Ok(false) => {}
+        Err(stop) => return Err(stop),
     }
     let mut piece = [0u8; PIECE_BYTES];
     'pieces: for _ in 0..u64::MAX {
@@ -512,7 +520,8 @@ pub fn write_lines<R: Read, W: Write, E: Write>(
     errors: &mut E,
 ) -> Result<bool, Stop>
     requires { wanted.session < 64 }
-    ensures wrote { (table : CommandTree) × Ends wanted.entry table result (W.contents output.old) (W.contents output.new) }
+    ensures wrote { (table : CommandTree) × ((told : List ℕ) × Consumes (R.remaining input.old) (R.remaining input.new) told
+        × Ends wanted.entry table result told (R.remaining input.new) (W.contents output.old) (W.contents output.new)) }
     ensures quiet { result ≡ Ok false → Keeps (E.contents errors.old) (E.contents errors.new) }
 {
     let session = wanted.session;
@@ -525,16 +534,9 @@ pub fn write_lines<R: Read, W: Write, E: Write>(
         wanted,
         definition,
     };
-    let made = Made::new(alloc, wanted.defines_routes);
-    let mut progress = Progress {
-        planned: None,
-        made,
-    };
+    let mut progress = Progress::new(alloc, wanted.defines_routes);
     if let Err(stop) = read_all(&job, &mut progress, input, output, errors) {
         return Err(stop);
     }
-    if let Err(stop) = write_rest(&job, &mut progress.made, output, errors) {
-        return Err(stop);
-    }
-    Ok(progress.made.has_told)
+    write_rest(&job, &mut progress, output, errors)
 }

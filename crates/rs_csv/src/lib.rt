@@ -7,7 +7,10 @@
 pub mod batch;
 pub mod definition;
 pub mod filter;
+pub mod head;
 pub mod header;
+pub mod held;
+pub mod laws;
 pub mod made;
 pub mod quoting;
 pub mod routes;

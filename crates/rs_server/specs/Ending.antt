@@ -1,6 +1,6 @@
 -- How the program ends.
 use Rattle.std.specs.Prelude.{◌≡◌, ◌≢◌, ◌⊎◌, ℕ, List, [], ◌∷◌, Option, Some, None, Result, Ok, Err, Bool, true, false}
-use Rattle.std.specs.Io.KnownBytes.{Keeps}
+use Rattle.std.specs.Io.KnownBytes.{Consumes, Keeps}
 use Rattle.clap.specs.Words.{IsAmong, Kinds}
 use Rattle.clap.specs.declared.error.kind.ErrorKind.{ErrorKind}
 use Rattle.clap.specs.declared.error.kind.ErrorKind.TheVariants.{DisplayHelp, DisplayVersion, OutOfMemory}
@@ -67,12 +67,13 @@ pub record LacksMachine (failure : Option Failure) (unread unread_now before aft
 abbrev pub Runs : Option Failure → Option (List ℕ) → Option (List ℕ) → Option (List ℕ) → Option (List ℕ) → Type 0
 Runs failure unread unread_now before after = ServesLines failure unread unread_now before after ⊎ LacksMachine failure unread unread_now before after
 
--- `csv` writes what is made of the records that it reads, or a front of it; all of it, and nothing was told, where the status is 0.
--- With another status it may write nothing.
-abbrev pub WritesLines : ℕ → Option (List ℕ) → Option (List ℕ) → Type 0
-WritesLines status before after =
-    ((status ≢ SUCCESS) × Keeps before after)
-    ⊎ ((wanted : Wanted) × (table : CommandTree) × (outcome : Result Bool Stop) × Ends wanted table outcome before after × (status ≡ SUCCESS → outcome ≡ Ok false))
+-- `csv` writes what is made of the records of what the input told, or a front of it; of the whole input, and nothing was told on the
+-- errors stream, where the status is 0. With another status it may read and write nothing.
+abbrev pub WritesLines : ℕ → Option (List ℕ) → Option (List ℕ) → Option (List ℕ) → Option (List ℕ) → Type 0
+WritesLines status unread unread_now before after =
+    ((status ≢ SUCCESS) × Keeps unread unread_now × Keeps before after)
+    ⊎ ((wanted : Wanted) × (table : CommandTree) × (outcome : Result Bool Stop) × (told : List ℕ) × Consumes unread unread_now told
+    × Ends wanted table outcome told unread_now before after × (status ≡ SUCCESS → outcome ≡ Ok false))
 
 -- What is done as it is asked, where this failed or nothing did. Of a file and of the network nothing is known.
 abbrev pub Does : Asked → Option Failure → Option (List ℕ) → Option (List ℕ) → Option (List ℕ) → Option (List ℕ) → Type 0
@@ -81,7 +82,7 @@ Does (RunFile file) failure unread unread_now before after = Unit {0}
 Does (Create file) failure unread unread_now before after = Keeps unread unread_now × Keeps before after
 Does (Serve file address connections) failure unread unread_now before after = Keeps unread unread_now
 Does (RunWatched file bails reports) failure unread unread_now before after = Unit {0}
-Does (Csv words) failure unread unread_now before after = (status : ℕ) × WritesLines status before after
+Does (Csv words) failure unread unread_now before after = (status : ℕ) × WritesLines status unread unread_now before after
 Does (Dump file table omits_rows) failure unread unread_now before after = Keeps unread unread_now
 Does (Explain refusal) failure unread unread_now before after = Keeps unread unread_now
 
@@ -89,7 +90,7 @@ Does (Explain refusal) failure unread unread_now before after = Keeps unread unr
 -- of what `csv`, `dump` and `explain` say on the errors stream.
 abbrev pub EndsDoing : Asked → ℕ → Option (List ℕ) → Option (List ℕ) → Option (List ℕ) → Option (List ℕ) → Option (List ℕ) → Option (List ℕ) → Type 0
 EndsDoing (RunWatched file bails reports) status unread unread_now before after errors errors_now = Unit {0}
-EndsDoing (Csv words) status unread unread_now before after errors errors_now = WritesLines status before after
+EndsDoing (Csv words) status unread unread_now before after errors errors_now = WritesLines status unread unread_now before after
 EndsDoing (Dump file table omits_rows) status unread unread_now before after errors errors_now = Keeps unread unread_now
 EndsDoing (Explain refusal) status unread unread_now before after errors errors_now = Keeps unread unread_now
 EndsDoing asked status unread unread_now before after errors errors_now =

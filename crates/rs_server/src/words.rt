@@ -25,7 +25,7 @@ pub(crate) fn convert<R: Read, W: Write, E: Write>(
     output: &mut W,
     errors: &mut E,
 ) -> u8
-    ensures lines { WritesLines result (W.contents output.old) (W.contents output.new) }
+    ensures lines { WritesLines result (R.remaining input.old) (R.remaining input.new) (W.contents output.old) (W.contents output.new) }
     ensures quiet { result ≡ SUCCESS → Keeps (E.contents errors.old) (E.contents errors.new) }
 {
     let Some(session) = session_of(words.session.unwrap_or("0")) else {

@@ -1,4 +1,4 @@
-use Rattle.std.proofs.Common.{◌∙◌, [], ◌∷◌, ◌++◌, ap, inr}
+use Rattle.std.proofs.Common.{◌∙◌, [], ◌∷◌, ◌++◌, ap, inr, refl}
 use Rattle.csv.specs.Records.{fields_of}
 use Rattle.csv.specs.Reading.{builder_config, builder_names_headers, builder_trim}
 use Rattle.rs_csv.specs.Output.{table_of}
@@ -15,6 +15,7 @@ records-init g c =
     record {
       planned = c.requires.planned;
       made = ([], read_none _ c.args.text.now c.from_reader-reader.result reader.state reader.source config trim (inr (inr (names, reader.headers))), makes_none c.args.job.now.wanted (table_of c.args.job.now.definition) c.args.progress.now);
+      held = refl;
       quiet = quiet_same c.args.progress.now.made.has_told (g.E.Write.contents c.args.errors.now);
     }
 
@@ -35,5 +36,6 @@ records-preserved g c =
         read_more _ c.args.text.now made.0 fields c.records.reader c.read_byte_record.new.self c.in-Ok-true.field-0 c.in-Ok-true.field-0-test made.1 c.in-Ok-true.ensures.reads c.in-Ok-true.ensures.ready,
         makes_trans c.args.job.now.wanted (table_of c.args.job.now.definition) c.args.progress.now c.records.progress c.take_next.new.progress made.0 (fields ∷ []) made.2 next.made,
       );
+      held = next.held ∙ c.records.invariant.held;
       quiet = quiet_trans c.args.progress.now.made.has_told c.records.progress.made.has_told c.take_next.new.progress.made.has_told _ _ _ c.records.invariant.quiet next.quiet;
     }

@@ -1,24 +1,19 @@
-use Rattle.std.proofs.Common.{[], None, refl}
-use Rattle.std.proofs.KnownBytes.{Appends-nil}
+use Rattle.std.proofs.Common.{[]}
+use Rattle.std.proofs.KnownBytes.{Consumes-nil}
+use Rattle.csv.specs.Reading.{strip_bom}
 use Rattle.rs_syntax.specs.Tree.{define_route}
-use Rattle.rs_csv.specs.Reading.{nothing_read}
-use Rattle.rs_csv.specs.Output.{SoFar, nothing, table_of}
+use Rattle.rs_csv.specs.Output.{table_of}
+use Rattle.rs_csv.proofs.Steps.{ends_whole, wrote_none}
 use Rattle.rs_csv.proofs.filter.write_lines.Goals as goal
 
 pub returns-in-Err-clause-wrote : goal.returns-in-Err-clause-wrote
-returns-in-Err-clause-wrote g c = (define_route [] 0 0, record { records = []; read = nothing_read; sent = []; lost = []; put = Appends-nil _; lines = λ plan. nothing })
+returns-in-Err-clause-wrote g c = (define_route [] 0 0, ([], Consumes-nil _, wrote_none c.args.wanted (define_route [] 0 0) _ _))
 
 pub returns-in-Err-read_all-clause-wrote : goal.returns-in-Err-read_all-clause-wrote
-returns-in-Err-read_all-clause-wrote g c =
-    let start : SoFar c.args.wanted (table_of c.in-Ok.definition) (g.W.Write.contents c.args.output.now) (record { planned = None; made = c.new-made.result }) (g.W.Write.contents c.args.output.now) = record { records = []; read = nothing_read; sent = []; put = Appends-nil _; made = (refl, refl, c.new-made.ensures.bytes) } in
-    (table_of c.in-Ok.definition, c.in-Err-read_all.ensures.far (g.W.Write.contents c.args.output.now) start)
-
-pub returns-in-Err-write_rest-clause-wrote : goal.returns-in-Err-write_rest-clause-wrote
-returns-in-Err-write_rest-clause-wrote g c =
-    let far = c.in_default.ensures.far (g.W.Write.contents c.args.output.now) (record { records = []; read = nothing_read; sent = []; put = Appends-nil _; made = (refl, refl, c.new-made.ensures.bytes) }) in
-    (table_of c.in-Ok.definition, c.in-Err-write_rest.ensures.wrote (table_of c.in-Ok.definition) (g.W.Write.contents c.args.output.now) c.read_all.new.progress.planned far.records far.sent far.read far.put far.made)
+returns-in-Err-read_all-clause-wrote g c = (table_of c.in-Ok.definition, c.in-Err-read_all.ensures.input)
 
 pub returns-clause-wrote : goal.returns-clause-wrote
 returns-clause-wrote g c =
-    let far = c.in_default.ensures.far (g.W.Write.contents c.args.output.now) (record { records = []; read = nothing_read; sent = []; put = Appends-nil _; made = (refl, refl, c.new-made.ensures.bytes) }) in
-    (table_of c.in-Ok.definition, c.in_default-write_rest.ensures.wrote (table_of c.in-Ok.definition) (g.W.Write.contents c.args.output.now) c.read_all.new.progress.planned far.records far.sent far.read far.put far.made)
+    let table = table_of c.in-Ok.definition in
+    let input = c.in_default.ensures.input in
+    (table, (input.0, input.1, ends_whole c.args.wanted table c.write_rest.result c.read_all.new.progress (strip_bom input.0) _ _ _ _ input.2.0 input.2.1 c.write_rest.ensures.wrote c.write_rest.ensures.told))

@@ -3,14 +3,14 @@ use Rattle.std.proofs.KnownBytes.{Keeps-refl}
 use Rattle.rs_server.proofs.words.convert.Goals as goal
 
 pub returns-in_default-clause-lines : goal.returns-in_default-clause-lines
-returns-in_default-clause-lines g c = inl (λ is. omega (arith, c.refuse.ensures, is), Keeps-refl _)
+returns-in_default-clause-lines g c = inl (λ is. omega (arith, c.refuse.ensures, is), Keeps-refl _, Keeps-refl _)
 
 pub returns-in-Ok-false-clause-lines : goal.returns-in-Ok-false-clause-lines
 returns-in-Ok-false-clause-lines g c =
     let all = c.write_lines.ensures.wrote in
-    inr (_, all.0, c.write_lines.result, all.1, λ is. c.in-Ok-false.is ∙ ap Ok c.in-Ok-false.field-0-test)
+    inr (_, all.0, c.write_lines.result, all.1.0, all.1.1, all.1.2, λ is. c.in-Ok-false.is ∙ ap Ok c.in-Ok-false.field-0-test)
 
 pub returns-in-Ok-true-clause-lines : goal.returns-in-Ok-true-clause-lines
 returns-in-Ok-true-clause-lines g c =
     let all = c.write_lines.ensures.wrote in
-    inr (_, all.0, c.write_lines.result, all.1, λ is. absurd (omega (arith, is)))
+    inr (_, all.0, c.write_lines.result, all.1.0, all.1.1, all.1.2, λ is. absurd (omega (arith, is)))

@@ -2,7 +2,7 @@ use Rattle.std.proofs.Common.{◌≡◌, Bool, []}
 use Rattle.rs_syntax.specs.Tree.{CommandTree}
 use Rattle.rs_csv_lines.specs.declared.plan.Plan.{Plan}
 use Rattle.rs_csv.specs.Output.{AreLines, IsQuiet}
-use Rattle.rs_csv.proofs.filter.route_lines.Given as goal
+use Rattle.rs_csv.proofs.held.route_lines.Given as goal
 
 abbrev pub invariant-routes : goal.invariant-routes
 invariant-routes g l = record {

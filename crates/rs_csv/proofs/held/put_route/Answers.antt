@@ -1,7 +1,7 @@
 use Rattle.std.proofs.Common.{refl}
 use Rattle.std.proofs.lemmas.Result.{on_ok_weaker}
 use Rattle.rs_csv.proofs.Outputs.{route_goes, same_goes}
-use Rattle.rs_csv.proofs.filter.put_route.Goals as goal
+use Rattle.rs_csv.proofs.held.put_route.Goals as goal
 
 pub returns-in-Some-clause-lines : goal.returns-in-Some-clause-lines
 returns-in-Some-clause-lines g c =

@@ -1,7 +1,7 @@
 use Rattle.std.proofs.Common.{◌∙◌, [], refl, subst, sym}
 use Rattle.rs_csv.specs.Output.{AreLines, nothing}
 use Rattle.rs_csv.proofs.Outputs.{lines_go, quiet_same, quiet_trans}
-use Rattle.rs_csv.proofs.filter.route_lines.Goals as goal
+use Rattle.rs_csv.proofs.held.route_lines.Goals as goal
 
 pub returns-in_default-clause-lines : goal.returns-in_default-clause-lines
 returns-in_default-clause-lines g c = λ table plan told. subst (AreLines c.args.job.now.wanted.session table plan told []) (sym c.new-lines.ensures.items) nothing

@@ -1,0 +1,14 @@
+use Rattle.std.proofs.Common.{◌++◌, ◌∷◌, [], ◌+◌, take, drop, get_or, subst, arith}
+use Rattle.rs_csv.specs.Output.{WroteSoFar, table_of}
+use Rattle.rs_csv.proofs.Steps.{piece_more, wrote_more}
+use Rattle.rs_csv.proofs.filter.take_piece.Goals as goal
+
+pub returns-in-Err-clause-far : goal.returns-in-Err-clause-far
+returns-in-Err-clause-far g c = λ before input far.
+    let wanted = c.args.job.now.wanted in
+    let table = table_of c.args.job.now.definition in
+    let piece = c.args.piece.now in
+    let i = c.loop-byte.byte-index in
+    let stop = c.in-Err.ensures.far before (input ++ take i piece) (c.loop-byte.invariant.far before input far) in
+    subst (λ bytes. WroteSoFar wanted table bytes before (g.W.Write.contents c.take_byte.new.output)) (piece_more input piece i 0 (omega (arith, c.loop-byte-test.true)))
+    (wrote_more wanted table before ((input ++ take i piece) ++ get_or piece i 0 ∷ []) (drop (i + 1) piece) _ stop)

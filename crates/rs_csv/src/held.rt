@@ -1,0 +1,119 @@
+//! What waits for the routes: the texts of the records, which are read again once the routes are known.
+//!
+//! What is told of a record was told when it was read first.
+
+ghost use Rattle.std.specs.Prelude.{◌≡◌, ◌<◌, [], OnOk, IfOk, MatchResult, ℕ, List, Bool, Option, Ok, false, map};
+ghost use Rattle.std.specs.Io.KnownBytes.{Keeps};
+ghost use Rattle.rs_syntax.specs.Tree.{CommandTree};
+ghost use Rattle.rs_csv_lines.specs.declared.plan.Plan.{Plan};
+ghost use Rattle.rs_csv.specs.Output.{AreLines, EndsTaken, GoesOn, IsDefinition, IsQuiet, WroteFront, WroteOf, table_of};
+ghost use Rattle.rs_csv.specs.Reading.{AreTexts};
+
+use crate::filter::{Job, Progress, Stop, write_text};
+use crate::made::Made;
+use crate::routes::{Extent, push_route};
+use crate::tell::tell_route;
+use rs_methods::Name;
+use rs_protocol::put_parts;
+use std::io::{Write, sink};
+
+// The line that defines a route. One on which no measure was met is told.
+fn put_route<E: Write>(
+    job: &Job<'_>,
+    route: (Name, Extent),
+    lines: &mut Vec<u8>,
+    made: &mut Made,
+    errors: &mut E,
+) -> Result<(), Stop>
+    requires { job.now.wanted.session < 64 }
+    ensures lines { OnOk result ((table : CommandTree) (plan : Plan) (told : Bool) → GoesOn job.now.wanted.session table plan told [] lines.old.items lines.new.items) }
+    ensures bytes { made.new.bytes.items ≡ made.old.bytes.items }
+    ensures quiet { OnOk result (IsQuiet made.old.has_told made.new.has_told (E.contents errors.old) (E.contents errors.new)) }
+{
+    let (name, extent) = route;
+    match extent.ends {
+        Some(ends) => push_route(job.alloc, job.wanted.session, name, ends, lines),
+        None => {
+            made.has_told = true;
+            tell_route(errors, name.as_str());
+            Ok(())
+        }
+    }
+}
+
+// The lines that define the routes.
+fn route_lines<E: Write>(job: &Job<'_>, made: &mut Made, errors: &mut E) -> Result<Vec<u8>, Stop>
+    requires { job.now.wanted.session < 64 }
+    ensures lines { IfOk result (λ lines. (table : CommandTree) (plan : Plan) (told : Bool) → AreLines job.now.wanted.session table plan told [] lines.items) }
+    ensures bytes { OnOk result (made.new.bytes.items ≡ made.old.bytes.items) }
+    ensures quiet { OnOk result (IsQuiet made.old.has_told made.new.has_told (E.contents errors.old) (E.contents errors.new)) }
+{
+    let mut lines = Vec::new(job.alloc);
+    let Some(mut extents) = made.extents.take() else {
+        return Ok(lines);
+    };
+    'routes: for _ in 0..u64::MAX {
+        match extents.pop_first() {
+            Some(route) => put_route(job, route, &mut lines, made, errors)?,
+            None => return Ok(lines),
+        }
+    }
+    Ok(lines)
+}
+
+// Writes the lines of the records that were held, and says whether something was told.
+fn write_held<W: Write>(
+    job: &Job<'_>,
+    held: &[Vec<u8>],
+    has_told: bool,
+    output: &mut W,
+) -> Result<bool, Stop>
+    requires in_range { job.now.wanted.session < 64 }
+    requires defines { IsDefinition job.now.wanted.session job.now.definition }
+    ensures wrote { (raws : List (List ℕ)) → AreTexts (map (λ text. text.items) held.now) raws
+        → MatchResult result (λ told. WroteOf job.now.wanted (table_of job.now.definition) told raws (W.contents output.old) (W.contents output.new))
+        (λ _. WroteFront job.now.wanted (table_of job.now.definition) raws (W.contents output.old) (W.contents output.new)) }
+    ensures told { IfOk result (λ told. told ≡ false → has_told ≡ false) }
+{
+    let mut progress = Progress::new(job.alloc, false);
+    progress.made.has_told = has_told;
+    let mut nowhere = sink();
+    for text in held {
+        let text = text.as_slice();
+        if let Err(stop) = write_text(job, text, &mut progress, output, &mut nowhere) {
+            return Err(stop);
+        }
+    }
+    Ok(progress.made.has_told)
+}
+
+/// Writes the lines that define the routes, and those of the records that wait for them. Says whether something was told.
+pub fn write_rest<W: Write, E: Write>(
+    job: &Job<'_>,
+    progress: &mut Progress,
+    output: &mut W,
+    errors: &mut E,
+) -> Result<bool, Stop>
+    requires in_range { job.now.wanted.session < 64 }
+    requires defines { IsDefinition job.now.wanted.session job.now.definition }
+    ensures wrote { EndsTaken job.now.wanted (table_of job.now.definition) result progress.old (W.contents output.old) (W.contents output.new) }
+    ensures told { IfOk result (λ told. told ≡ false → progress.old.made.has_told ≡ false) }
+    ensures quiet { result ≡ Ok false → Keeps (E.contents errors.old) (E.contents errors.new) }
+{
+    if !job.wanted.defines_routes {
+        return Ok(progress.made.has_told);
+    }
+    let routes = match route_lines(job, &mut progress.made, errors) {
+        Ok(routes) => routes,
+        Err(stop) => return Err(stop),
+    };
+    if let Err(fault) = put_parts(output, &[routes.as_slice()]) {
+        return Err(Stop::Stream(fault));
+    }
+    write_held(
+        job,
+        progress.held.as_slice(),
+        progress.made.has_told,
+        output,
+    )
+}
