@@ -25,16 +25,31 @@ def csv_text():
     return "\n".join(lines) + "\n"
 
 
+def most_so_far(process):
+    """The greatest memory of a process by now, in kB."""
+    with open("/proc/%d/status" % process.pid, encoding="ascii") as status:
+        most = next(line for line in status if line.startswith("VmHWM"))
+    return int(most.split()[1])
+
+
 def most_memory(path):
     """The greatest memory of `csv` while it reads a file, in kB."""
     with open(path, "rb") as file, subprocess.Popen([PROGRAM, "csv", DEFINE], stdin=subprocess.PIPE, stdout=subprocess.DEVNULL) as process:
         process.stdin.write(file.read())
         process.stdin.flush()
         time.sleep(0.3)
-        with open("/proc/%d/status" % process.pid, encoding="ascii") as status:
-            most = next(line for line in status if line.startswith("VmHWM"))
+        most = most_so_far(process)
         process.stdin.close()
-    return int(most.split()[1])
+    return most
+
+
+def most_memory_with_routes(path):
+    """The same of `csv --routes`, once it has read all and written most of its lines, in kB."""
+    with open(path, "rb") as file, subprocess.Popen([PROGRAM, "csv", DEFINE, "--routes"], stdin=file, stdout=subprocess.PIPE) as process:
+        process.stdout.read(ROUTES * STRETCHES * 50)
+        most = most_so_far(process)
+        process.stdout.read()
+    return most
 
 
 def milliseconds(words, source, target):
@@ -64,7 +79,7 @@ def main():
                 sys.exit("a line is refused")
         records = ROUTES * STRETCHES
         print("csv: %d records in %.0f ms, with --routes in %.0f ms; run --file: %.0f ms" % (records, made, routed, min(loads)))
-        print("the greatest memory of csv: %d kB" % most_memory(source))
+        print("the greatest memory of csv: %d kB, with --routes: %d kB" % (most_memory(source), most_memory_with_routes(source)))
 
 
 if __name__ == "__main__":
