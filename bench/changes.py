@@ -10,19 +10,16 @@ counts. With --instructions it counts, by `valgrind --tool=callgrind` and in mem
 rows take, and prints the exponent of their growth. Figures of one run: nothing of time is promised.
 """
 
-import argparse
-import math
 import os
 import random
 import subprocess
 import tempfile
 import time
 
-from copies import COLLECTED
-from files import INSERT
-from load import inserts, setup
+from copies import instructions_of
+from load import inserts, parts_of, setup_for
+from measuring import PROGRAM, built_beside, exponent_of, parser_of
 
-HERE = os.path.dirname(os.path.abspath(__file__))
 INDEX = ["0 DEFINE INDEX ps ON pave (surf)"]
 SAVE = ["0 SAVE"]
 JOBS = {
@@ -35,11 +32,11 @@ JOBS = {
 }
 
 
-def parts_of(line):
-    """The route, the measures in thousandths and the values of a line that inserts."""
-    route, lo, lo_part, hi, hi_part, values = INSERT.fullmatch(line).groups()
+def row_of(line):
+    """The numbers and the text of a line that inserts, as sqlite3's side reads them."""
+    route, low, high, values = parts_of(line)
     surface, lanes = values.split(", ")
-    return int(route[1:]), int(lo + lo_part), int(hi + hi_part), surface.strip("'"), int(lanes)
+    return "%s %d %d %s %s\n" % (route[1:], low, high, surface.strip("'"), lanes)
 
 
 def removal(line):
@@ -52,12 +49,10 @@ class Beside:
     """sqlite3 through C, and the rows that it reads."""
 
     def __init__(self, folder, orders):
-        self.program, self.folder = os.path.join(folder, "beside"), folder
-        source = os.path.join(HERE, "changes", "beside.c")
-        subprocess.run(["cc", "-O2", "-o", self.program, source, "-lsqlite3"], check=True)
+        self.program, self.folder = built_beside("changes", folder), folder
         for order, rows in orders.items():
             with open(os.path.join(folder, order), "w", encoding="ascii") as file:
-                file.writelines("%d %d %d %s %d\n" % parts_of(row) for row in rows)
+                file.writelines(map(row_of, rows))
 
     def seconds(self, order, is_indexed, is_removed, is_in_file):
         base = os.path.join(self.folder, "f.db") if is_in_file else ":memory:"
@@ -92,7 +87,7 @@ class Program:
 
 def lines_of(routes, rows, is_indexed, is_removed):
     """The lines before the changes that are timed, and these."""
-    before = setup(routes, 1 + 20 * (len(rows) // routes + 1) // 1000) + (INDEX if is_indexed else [])
+    before = setup_for(len(rows), routes) + (INDEX if is_indexed else [])
     if is_removed:
         return before + rows + SAVE, [removal(row) for row in rows] + SAVE
     return before + SAVE, rows + SAVE
@@ -117,14 +112,6 @@ def measure(words, folder):
         print("%-30s %-7s %8.1f ms   sqlite3 %8.1f ms   ratio %.2f" % (job, place, 1000 * ours, 1000 * theirs, ours / theirs), flush=True)
 
 
-def instructions_of(program, path):
-    """How many instructions the program takes to answer the lines of a file, in memory."""
-    command = ["valgrind", "--tool=callgrind", "--callgrind-out-file=/dev/null", os.path.abspath(program), "run"]
-    with open(path, "rb") as lines:
-        done = subprocess.run(command, stdin=lines, stdout=subprocess.DEVNULL, stderr=subprocess.PIPE, check=True)
-    return int(COLLECTED.search(done.stderr.decode())[1])
-
-
 def count(words, folder):
     """Prints the instructions of insertions, and how they grow."""
     taken = {}
@@ -135,18 +122,14 @@ def count(words, folder):
         for lines in (before + changes, before):
             with open(path, "w", encoding="ascii") as file:
                 file.write("\n".join(lines) + "\n")
-            ends.append(instructions_of(words.program, path))
+            ends.append(instructions_of([os.path.abspath(words.program), "run"], folder, path))
         taken[spans] = ends[0] - ends[1]
         print("%7d insertions %10.1f million instructions, %.0f each" % (spans, taken[spans] / 1e6, taken[spans] / spans), flush=True)
-    print("exponent %.3f" % (math.log(taken[400_000] / taken[25_000]) / math.log(16)))
+    print("exponent %.3f" % exponent_of(taken))
 
 
 def main():
-    parser = argparse.ArgumentParser(description=__doc__, formatter_class=argparse.RawDescriptionHelpFormatter)
-    parser.add_argument("--program", default="crates/roadseg/out/roadseg")
-    parser.add_argument("--spans", type=int, default=100_000)
-    parser.add_argument("--routes", type=int, default=400)
-    parser.add_argument("--rounds", type=int, default=5)
+    parser = parser_of(__doc__, program=PROGRAM, spans=100_000, routes=400, rounds=5)
     parser.add_argument("--folder", help="where the files stand (default: a new one under the working directory)")
     parser.add_argument("--instructions", action="store_true")
     words = parser.parse_args()

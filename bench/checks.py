@@ -8,9 +8,8 @@ then it has an index of each column and answers REOPEN again. sqlite3 has a tabl
 indexes and with the two. The best of the rounds counts, from the first byte of the line sent to the last of its answer.
 """
 
-import argparse
-
-from operators import PROGRAM, Live
+from measuring import RUN, parser_of
+from operators import Live
 from records import ROUTES, beside_sqlite
 
 
@@ -35,12 +34,8 @@ def told(live, lines):
 
 
 def main():
-    parser = argparse.ArgumentParser(description=__doc__, formatter_class=argparse.RawDescriptionHelpFormatter)
-    parser.add_argument("--program", default=PROGRAM)
-    parser.add_argument("--sizes", default="100000,400000")
-    parser.add_argument("--rounds", type=int, default=8)
-    words = parser.parse_args()
-    for size in map(int, words.sizes.split(",")):
+    words = parser_of(__doc__, program=RUN, sizes=[100_000, 400_000], rounds=8).parse_args()
+    for size in words.sizes:
         live = Live(words.program)
         told(live, lines_of(size))
         plain = checked(live, words.rounds)

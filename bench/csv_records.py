@@ -9,7 +9,8 @@ import sys
 import tempfile
 import time
 
-ROOT = os.path.dirname(os.path.dirname(os.path.abspath(__file__)))
+from measuring import ROOT, kilobytes_of
+
 PROGRAM = os.path.join(ROOT, "crates", "roadseg", "out", "roadseg")
 DEFINE = "DEFINE LINE TABLE pavement (surface TEXT(12), year INT)"
 ROUTES, STRETCHES, ROUNDS = 400, 250, 5
@@ -25,20 +26,13 @@ def csv_text():
     return "\n".join(lines) + "\n"
 
 
-def most_so_far(process):
-    """The greatest memory of a process by now, in kB."""
-    with open("/proc/%d/status" % process.pid, encoding="ascii") as status:
-        most = next(line for line in status if line.startswith("VmHWM"))
-    return int(most.split()[1])
-
-
 def most_memory(path):
     """The greatest memory of `csv` while it reads a file, in kB."""
     with open(path, "rb") as file, subprocess.Popen([PROGRAM, "csv", DEFINE], stdin=subprocess.PIPE, stdout=subprocess.DEVNULL) as process:
         process.stdin.write(file.read())
         process.stdin.flush()
         time.sleep(0.3)
-        most = most_so_far(process)
+        most = kilobytes_of(process, "VmHWM")
         process.stdin.close()
     return most
 
@@ -47,7 +41,7 @@ def most_memory_with_routes(path):
     """The same of `csv --routes`, once it has read all and written most of its lines, in kB."""
     with open(path, "rb") as file, subprocess.Popen([PROGRAM, "csv", DEFINE, "--routes"], stdin=file, stdout=subprocess.PIPE) as process:
         process.stdout.read(ROUTES * STRETCHES * 50)
-        most = most_so_far(process)
+        most = kilobytes_of(process, "VmHWM")
         process.stdout.read()
     return most
 

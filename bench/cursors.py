@@ -9,8 +9,7 @@ each the best of the rounds is printed, with its ratio to the SELECT. What the c
 the SELECT.
 """
 
-import argparse
-
+from measuring import RUN, parser_of
 from operators import Live, measure
 
 
@@ -38,11 +37,7 @@ def report_of(spans, rows, cursors):
 
 
 def main():
-    parser = argparse.ArgumentParser(description=__doc__, formatter_class=argparse.RawDescriptionHelpFormatter)
-    parser.add_argument("--program", default="crates/roadseg/out/roadseg run")
-    parser.add_argument("--spans", type=int, default=100_000)
-    parser.add_argument("--fetch", type=int, default=1_000)
-    parser.add_argument("--rounds", type=int, default=5)
+    parser = parser_of(__doc__, program=RUN, spans=100_000, fetch=1_000, rounds=5)
     parser.add_argument("--alone", action="store_true", help="one cursor alone, and no two in turn")
     words = parser.parse_args()
     live = Live(words.program)

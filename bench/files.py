@@ -12,19 +12,17 @@ INSERT and SAVE, 200 times, each answered before the next is sent; the shell com
 in order, and the program's memory at its most. Figures of one run: nothing of time is promised.
 """
 
-import argparse
 import math
 import os
 import random
-import re
 import resource
 import subprocess
 import tempfile
 import time
 
-from load import inserts, setup
+from load import inserts, parts_of, setup_for
+from measuring import PROGRAM, exponent_of, parser_of
 
-INSERT = re.compile(r"\d+ INSERT INTO pave ON (R\d+) FROM (\d+)\.(\d+) TO (\d+)\.(\d+) VALUES \((.*)\)")
 SAVED = 200
 WINDOW = "a new process, one window"
 ASKED = "R%d" % 7  # a route of the load
@@ -34,8 +32,7 @@ INDEX = "CREATE INDEX ps ON pave (surf);"
 
 def statement(line):
     """The statement of a line that inserts."""
-    route, lo, lo_part, hi, hi_part, values = INSERT.fullmatch(line).groups()
-    return "INSERT OR IGNORE INTO pave VALUES ('%s', %d, %d, %s);" % (route, int(lo + lo_part), int(hi + hi_part), values)
+    return "INSERT OR IGNORE INTO pave VALUES ('%s', %d, %d, %s);" % parts_of(line)
 
 
 def timed(command, data, output=subprocess.DEVNULL):
@@ -66,17 +63,16 @@ class Files:
 def load(files, routes, rows, is_indexed):
     """The times of a load by both."""
     files.clear()
-    length = 1 + 20 * (len(rows) // routes + 1) // 1000
     index = ["0 DEFINE INDEX ps ON pave (surf)"] if is_indexed else []
-    ours, _ = files.run(setup(routes, length) + index + rows + ["0 SAVE"])
+    ours, _ = files.run(setup_for(len(rows), routes) + index + rows + ["0 SAVE"])
     theirs, _ = files.shell(SCHEMA + (INDEX if is_indexed else "") + "BEGIN;\n" + "\n".join(map(statement, rows)) + "\nCOMMIT;")
     return ours, theirs
 
 
 def bed(line):
     """The row of a line that inserts, with tabs between its fields."""
-    route, lo, lo_part, hi, hi_part, values = INSERT.fullmatch(line).groups()
-    return "\t".join([route, str(int(lo + lo_part)), str(int(hi + hi_part)), *values.split(", ")]) + "\n"
+    route, low, high, values = parts_of(line)
+    return "\t".join([route, str(low), str(high), *values.split(", ")]) + "\n"
 
 
 def window(files, folder, rows):
@@ -111,7 +107,7 @@ def saved(files, count, routes):
     """The times of rows that are saved one by one."""
     files.clear()
     rows = inserts(count, routes)
-    files.run(setup(routes, 1 + 20 * (count // routes + 1) // 1000))
+    files.run(setup_for(count, routes))
     files.shell("PRAGMA journal_mode=WAL;" + SCHEMA)
     ours = asked([files.program, "run", "--file", files.road], ["%s\n63 SAVE\n" % row for row in rows], b"63 OK")
     theirs = asked(["sqlite3", files.lite], ["%s SELECT 'saved';\n" % statement(row) for row in rows], b"saved")
@@ -119,12 +115,7 @@ def saved(files, count, routes):
 
 
 def main():
-    parser = argparse.ArgumentParser(description=__doc__, formatter_class=argparse.RawDescriptionHelpFormatter)
-    parser.add_argument("--program", default="crates/roadseg/out/roadseg")
-    parser.add_argument("--spans", type=int, default=100_000)
-    parser.add_argument("--smaller", type=int, default=25_000)
-    parser.add_argument("--routes", type=int, default=400)
-    parser.add_argument("--rounds", type=int, default=5)
+    parser = parser_of(__doc__, program=PROGRAM, spans=100_000, smaller=25_000, routes=400, rounds=5)
     parser.add_argument("--folder", help="where the files stand (default: a new one under the working directory)")
     words = parser.parse_args()
     rows, few = inserts(words.spans, words.routes), inserts(words.smaller, words.routes)
@@ -147,8 +138,8 @@ def main():
     for job, (ours, theirs) in best.items():
         other = "bedtools" if job == WINDOW else "sqlite3"
         print("%-28s %8.1f ms   %-8s %8.1f ms   ratio %.2f" % (job, 1000 * ours, other, 1000 * theirs, ours / theirs))
-    small, large = best["load of %d, in order" % len(few)][0], best["load, in order"][0]
-    print("growth exponent of the load in order: %.2f" % (math.log(large / small) / math.log(words.spans / words.smaller)))
+    measured = {words.smaller: best["load of %d, in order" % len(few)][0], words.spans: best["load, in order"][0]}
+    print("growth exponent of the load in order: %.2f" % exponent_of(measured))
     print("memory at its most, of any process: %d KB" % resource.getrusage(resource.RUSAGE_CHILDREN).ru_maxrss)
 
 

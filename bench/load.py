@@ -8,17 +8,26 @@ echoes them (`cat`). For each doubling: the growth exponent, log2 of the ratio o
 over the routes in order, over the routes shuffled, and all on one route. The best of three runs counts.
 """
 
-import argparse
 import math
 import random
+import re
 import subprocess
 import time
+
+from measuring import parser_of
+
+INSERT = re.compile(r"\d+ INSERT INTO pave ON (R\d+) FROM (\d+)\.(\d+) TO (\d+)\.(\d+) VALUES \((.*)\)")
 
 
 def setup(routes, length):
     lines = ["0 DEFINE LINE TABLE pave (surf TEXT(8), lanes INT)"]
     lines += ["0 DEFINE ROUTE R%d FROM 0 TO %d" % (route, length) for route in range(routes)]
     return lines
+
+
+def setup_for(count, routes):
+    """The lines that define what so many spans need."""
+    return setup(routes, 1 + 20 * (count // routes + 1) // 1000)
 
 
 def inserts(count, routes):
@@ -31,11 +40,17 @@ def inserts(count, routes):
     return lines
 
 
+def parts_of(line):
+    """The route, the measures in thousandths and the values of a line that inserts."""
+    route, low, low_part, high, high_part, values = INSERT.fullmatch(line).groups()
+    return route, int(low + low_part), int(high + high_part), values
+
+
 def load(count, routes, is_shuffled):
     lines = inserts(count, routes)
     if is_shuffled:
         random.Random(7).shuffle(lines)
-    return ("\n".join(setup(routes, 1 + 20 * (count // routes + 1) // 1000) + lines + ["0 SELECT pave"]) + "\n").encode()
+    return ("\n".join(setup_for(count, routes) + lines + ["0 SELECT pave"]) + "\n").encode()
 
 
 def timed(command, data):
@@ -49,15 +64,12 @@ def timed(command, data):
 
 
 def main():
-    parser = argparse.ArgumentParser(description=__doc__, formatter_class=argparse.RawDescriptionHelpFormatter)
+    parser = parser_of(__doc__, sizes=[10_000, 20_000, 40_000], routes=100)
     parser.add_argument("--program", required=True)
-    parser.add_argument("--sizes", default="10000,20000,40000")
-    parser.add_argument("--routes", type=int, default=100)
     words = parser.parse_args()
-    sizes = [int(size) for size in words.sizes.split(",")]
     for name, routes, is_shuffled in [("in order", words.routes, False), ("shuffled", words.routes, True), ("one route", 1, False)]:
         before = None
-        for size in sizes:
+        for size in words.sizes:
             data = load(size, routes, is_shuffled)
             spent, out = timed([words.program, "run"], data)
             echoed, _ = timed(["cat"], data)

@@ -8,13 +8,12 @@ the most in each is what the system tells (`VmHWM`, which is set back before eac
 how many it took beyond what the process had before.
 """
 
-import argparse
 import os
-import re
 import subprocess
 import tempfile
 
-from load import inserts, setup
+from load import inserts, setup_for
+from measuring import PROGRAM, kilobytes_of, parser_of
 
 DEFINITIONS = 4_000  # routes, and referents of ten of them
 QUESTIONS = (
@@ -55,8 +54,7 @@ class Live:
                     seen += parts[1] == b"OK"
 
     def megabytes(self, name):
-        with open("/proc/%d/status" % self.process.pid, encoding="ascii") as status:
-            return int(re.search(name + r":\s+(\d+) kB", status.read())[1]) / 1000
+        return kilobytes_of(self.process, name) / 1000
 
     def forget_most(self):
         with open("/proc/%d/clear_refs" % self.process.pid, "w", encoding="ascii") as file:
@@ -71,7 +69,7 @@ def measure(program, file, size, routes):
     live = Live(program, file)
     live.ask([b"0 SAVE\n"], 1)
     print("  at its start: %.1f MB" % live.megabytes("VmRSS"))
-    load = [line.encode() + b"\n" for line in setup(routes, 1 + 20 * (size // routes + 1) // 1000) + inserts(size, routes)]
+    load = [line.encode() + b"\n" for line in setup_for(size, routes) + inserts(size, routes)]
     live.ask(load, len(load))
     print("  %d spans: %.1f MB" % (size, live.megabytes("VmRSS")))
     for title, line in QUESTIONS:
@@ -97,12 +95,8 @@ def measure_definitions(program):
 
 
 def main():
-    parser = argparse.ArgumentParser(description=__doc__, formatter_class=argparse.RawDescriptionHelpFormatter)
-    parser.add_argument("--program", default="crates/roadseg/out/roadseg")
-    parser.add_argument("--sizes", default="25000,100000")
-    parser.add_argument("--routes", type=int, default=100)
-    words = parser.parse_args()
-    for size in (int(size) for size in words.sizes.split(",")):
+    words = parser_of(__doc__, program=PROGRAM, sizes=[25_000, 100_000], routes=100).parse_args()
+    for size in words.sizes:
         print("in memory, %d routes:" % words.routes)
         measure(words.program, None, size, words.routes)
         with tempfile.TemporaryDirectory() as folder:

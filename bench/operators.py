@@ -16,9 +16,7 @@ asks the program and each tool in turn, so that what else the machine does meets
 of time is promised.
 """
 
-import argparse
 import fcntl
-import math
 import os
 import random
 import re
@@ -31,7 +29,8 @@ import threading
 import time
 from typing import NamedTuple
 
-PROGRAM = os.path.join("crates", "roadseg", "out", "roadseg") + " run"
+import measuring
+
 PIECE = 1 << 20
 
 # What the last line of a reply begins with, after the LF of the line before: all of one length.
@@ -278,9 +277,7 @@ class Live:
 
     def memory(self):
         """Kilobytes that are resident now, and at the most so far."""
-        with open("/proc/%d/status" % self.process.pid, encoding="ascii") as file:
-            text = file.read()
-        return [int(re.search(r"%s:\s*(\d+)" % word, text)[1]) for word in ("VmRSS", "VmHWM")]
+        return [measuring.kilobytes_of(self.process, name) for name in ("VmRSS", "VmHWM")]
 
     def end(self):
         self.process.stdin.close()
@@ -439,7 +436,7 @@ def report(words, question, time_question):
     asked = time_question(words, question, words.spans, True)
     smaller = time_question(words, question, words.smaller, False)
     best, alone = asked.best, asked.best.seconds["alone"]
-    exponent = math.log(alone / smaller.best.seconds["alone"]) / math.log(words.spans / words.smaller)
+    exponent = measuring.exponent_of({words.smaller: smaller.best.seconds["alone"], words.spans: alone})
     tools = best.tools()
     told = ", ".join("%s %.0f" % (tool, 1000 * best.seconds[tool]) for tool in tools) or "none"
     ratio = "%.2f" % (alone / best.seconds[tools[0]]) if tools else ""
@@ -464,12 +461,7 @@ def report_all(words, questions, tools, time_question):
 
 def parser_of(description):
     """What may be said of the program, the load and the rounds."""
-    parser = argparse.ArgumentParser(description=description, formatter_class=argparse.RawDescriptionHelpFormatter)
-    parser.add_argument("--program", default=PROGRAM)
-    parser.add_argument("--spans", type=int, default=100_000)
-    parser.add_argument("--smaller", type=int, default=25_000)
-    parser.add_argument("--routes", type=int, default=400)
-    parser.add_argument("--rounds", type=int, default=5)
+    parser = measuring.parser_of(description, program=measuring.RUN, spans=100_000, smaller=25_000, routes=400, rounds=5)
     parser.add_argument("--only", help="one question by its name")
     return parser
 

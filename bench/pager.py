@@ -16,65 +16,28 @@ pages all of them come to be held as changes, so there is nothing to read, and `
 checks and without a proof: slower, but each size alike.
 """
 
-import argparse
-import os
-import re
-import shutil
-import sys
-import tempfile
+from copies import Bench, make_repository, parser_of_repository
 
-from copies import make_repository, output_of
-
-PROGRAM = "pager_bench"
-STANDS_ON = ["rs_disk", "rs_page", "rs_pager", "rs_pages", "rs_refusal"]
-FILES = ["main.rt", "driver.rt"]
-LINE = re.compile(r"pages=(\d+) scattered=(\d+) in_runs=(\d+)")
-
-
-def command_of(program, is_proved):
-    """What runs the program, up to its argument. It is built before that."""
-    if not is_proved:
-        return ["rt", "try", "--steps", "1", "--seconds", "600", "--"]
-    status, output = output_of(["rt", "run", "--", "1000"], program)
-    if status != 0 or not LINE.search(output):
-        sys.exit("%s\nthe program could not be built" % "\n".join(output.split("\n")[-40:]))
-    return [os.path.join(program, "out", PROGRAM)]
-
-
-def timed(command, program, size):
-    """The nanoseconds of a step of each load."""
-    _status, output = output_of(command + [str(size)], program)
-    line = LINE.search(output)
-    if not line or int(line[1]) != size:
-        sys.exit("%s\nno times for %d pages" % (output[-4000:], size))
-    return {"scattered": int(line[2]), "in runs": int(line[3])}
+LOADS = {"in_runs": "in runs", "scattered": "scattered"}
+BENCH = Bench("pager", ["rs_disk", "rs_page", "rs_pager", "rs_pages", "rs_refusal"], ["main.rt", "driver.rt"], list(LOADS), "pages")
 
 
 def main():
-    parser = argparse.ArgumentParser(description=__doc__, formatter_class=argparse.RawDescriptionHelpFormatter)
-    parser.add_argument("--sizes", default="1000,10000,100000")
-    parser.add_argument("--rounds", type=int, default=7)
-    parser.add_argument("--folder")
-    parser.add_argument("--unproved", action="store_true")
-    words = parser.parse_args()
-    sizes = [int(size) for size in words.sizes.split(",")]
-    folder = words.folder or tempfile.mkdtemp(prefix="pager-bench-")
-    try:
-        program = make_repository(folder, PROGRAM, STANDS_ON, "pager", FILES)
-        command = command_of(program, not words.unproved)
-        best = {}
+    words = parser_of_repository(__doc__, [1_000, 10_000, 100_000], 7).parse_args()
+    sizes, best = words.sizes, {}
+    with BENCH.folder(words.folder) as folder:
+        program = make_repository(folder, BENCH)
+        command = BENCH.command(program, not words.unproved)
         for _round in range(words.rounds):
             for size in sizes:
-                for load, spent in timed(command, program, size).items():
-                    best[load, size] = min(spent, best.get((load, size), spent))
-        for load in ["in runs", "scattered"]:
-            for size in sizes:
-                print("%-9s %7d pages %8d ns a step" % (load, size, best[load, size]))
-            print("%-9s ratio of %d pages to %d: %.2f" % (load, sizes[-1], sizes[0],
-                                                         best[load, sizes[-1]] / max(1, best[load, sizes[0]])), flush=True)
-    finally:
-        if not words.folder:
-            shutil.rmtree(folder, ignore_errors=True)
+                fields = BENCH.timed(command, program, size)
+                for load in LOADS:
+                    best[load, size] = min(fields[load], best.get((load, size), fields[load]))
+    for load, title in LOADS.items():
+        for size in sizes:
+            print("%-9s %7d pages %8d ns a step" % (title, size, best[load, size]))
+        print("%-9s ratio of %d pages to %d: %.2f" % (title, sizes[-1], sizes[0],
+                                                     best[load, sizes[-1]] / max(1, best[load, sizes[0]])), flush=True)
 
 
 if __name__ == "__main__":

@@ -21,48 +21,23 @@ instructions of each load instead (`valgrind --tool=callgrind`), which are the s
 and runs beside it: those of a run that ends with the load, less those of a run that ends before it.
 """
 
-import argparse
-import math
-import os
-import re
-import shutil
 import sqlite3
 import sys
-import tempfile
 import time
 
-from copies import instructions_of, make_repository, output_of
+from copies import Bench, instructions_of, make_repository, parser_of_repository
+from measuring import exponent_of
 
-PROGRAM = "records_bench"
 STANDS_ON = ["rs_contents", "rs_attr", "rs_versioned", "rs_cell_versions", "rs_facts", "rs_value", "rs_pager", "rs_pages", "rs_page", "rs_disk", "rs_refusal", "arrayvec"]
 FILES = ["main.rt", "spans.rt", "table.rt", "whole_file.rt", "Fitting.antt"]
 LOADS = ["ordered", "shuffled", "searches", "check", "pass", "define", "indexed_check", "indexed_pass"]
+BENCH = Bench("records", STANDS_ON, FILES, LOADS, first_size=1200)
 SEARCHES = 1_000
 ROUTES = 400
 # as the program has it
 STRIDE = 15_485_863
 # what the program does, one part after the other: the loads, and before a check the file is written
 PARTS = ["ordered", "shuffled", "searches", None, "check", "pass", None, "indexed_check", "indexed_pass"]
-FIELD = re.compile(r"(\w+)=(\d+)")
-
-
-def command_of(program, is_proved):
-    """What runs the program, up to its argument. It is built before that."""
-    if not is_proved:
-        return ["rt", "try", "--steps", "1", "--seconds", "1200", "--"]
-    status, output = output_of(["rt", "run", "--", "1200"], program)
-    if status != 0 or not fields_of(output, 1200):
-        sys.exit("%s\nthe program could not be built" % "\n".join(output.split("\n")[-40:]))
-    return [os.path.join(program, "out", PROGRAM)]
-
-
-def fields_of(output, size):
-    """What the program printed of this size; none where it didn't."""
-    for line in output.split("\n"):
-        fields = {name: int(number) for name, number in FIELD.findall(line)}
-        if fields.get("count") == size and all(load in fields for load in LOADS):
-            return fields
-    return None
 
 
 def hits_of(size):
@@ -73,10 +48,8 @@ def hits_of(size):
 
 
 def timed(command, program, size):
-    _status, output = output_of(command + [str(size)], program)
-    fields = fields_of(output, size)
-    if not fields:
-        sys.exit("%s\nno times for %d spans" % (output[-4000:], size))
+    """What each load took, where the program has the records that it should."""
+    fields = BENCH.timed(command, program, size)
     counts = [fields["ordered_records"], fields["shuffled_records"], fields["living"] + fields["garbage"], fields["garbage"]]
     counts += [fields["checked"] + fields["garbage"], fields["indexed_checked"], fields["hits"]]
     if counts != [size, size, size, min(size, SEARCHES), size, size, hits_of(size)]:
@@ -114,7 +87,7 @@ def tell(found, sizes, unit):
         for size in sizes:
             print("%-13s %7d spans %9.1f %s" % (load, size, found[load, size] / 1e6, unit))
         if len(sizes) > 1:
-            growth = math.log(found[load, sizes[-1]] / found[load, sizes[0]]) / math.log(sizes[-1] / sizes[0])
+            growth = exponent_of({size: found[load, size] for size in sizes})
             print("%-13s growth exponent %.2f" % (load, growth), flush=True)
     for size in sizes:
         passes = [found[kind + "check", size] / found[kind + "pass", size] for kind in ("", "indexed_")]
@@ -143,27 +116,19 @@ def beside_sqlite(size, rounds):
 
 
 def main():
-    parser = argparse.ArgumentParser(description=__doc__, formatter_class=argparse.RawDescriptionHelpFormatter)
-    parser.add_argument("--sizes", default="25000,50000,100000")
-    parser.add_argument("--rounds", type=int, default=5)
-    parser.add_argument("--folder")
-    parser.add_argument("--unproved", action="store_true")
+    parser = parser_of_repository(__doc__, [25_000, 50_000, 100_000], 5)
     parser.add_argument("--instructions", action="store_true")
     words = parser.parse_args()
-    sizes = [int(size) for size in words.sizes.split(",")]
-    folder = words.folder or tempfile.mkdtemp(prefix="records-bench-")
-    try:
-        program = make_repository(folder, PROGRAM, STANDS_ON, "records", FILES)
-        command = command_of(program, not words.unproved)
+    sizes = words.sizes
+    with BENCH.folder(words.folder) as folder:
+        program = make_repository(folder, BENCH)
+        command = BENCH.command(program, not words.unproved)
         if words.instructions:
             tell(count(command, program, sizes), sizes, "million instructions")
         else:
             tell(measure(command, program, sizes, words.rounds), sizes, "ms")
             for size in sizes:
                 print("sqlite3 checks %d records in %.1f ms, with two indexes in %.1f" % (size, *beside_sqlite(size, words.rounds)))
-    finally:
-        if not words.folder:
-            shutil.rmtree(folder, ignore_errors=True)
 
 
 if __name__ == "__main__":

@@ -20,6 +20,10 @@ import threading
 import time
 
 ROOT = os.path.join(os.path.dirname(os.path.abspath(__file__)), "..")
+sys.path.insert(1, os.path.join(ROOT, "bench"))
+
+from copies import dependencies  # noqa: E402
+
 TICK = os.sysconf("SC_CLK_TCK")
 SECONDS_BETWEEN_LOOKS = 0.25
 KINDS = ["proof", "tests", "edits"]
@@ -47,13 +51,8 @@ class Span:
 
 
 def crates():
-    """Each crate of crates.txt with what it stands on."""
-    below = {}
-    with open(os.path.join(ROOT, "crates.txt"), encoding="utf-8") as file:
-        for line in file:
-            name, colon, rest = line.partition("#")[0].partition(":")
-            if colon:
-                below[name.split()[0]] = rest.split()
+    """Each crate of the repository with those of its crates that it stands on."""
+    below = dependencies()
     return {name: [it for it in names if it in below] for name, names in below.items()}
 
 

@@ -4,10 +4,10 @@ import os
 import sys
 from decimal import Decimal
 
-from files_and_peers import Unexpected, expect
+from harness import Wrong, expect
+from programs import ROOT
 
 HERE = os.path.dirname(os.path.abspath(__file__))
-ROOT = os.path.dirname(HERE)
 CLIENTS = os.path.join(ROOT, "clients", "python")
 NETWORK = os.path.join(ROOT, "examples", "network.txt")
 sys.path.insert(0, CLIENTS)
@@ -29,8 +29,8 @@ def expect_error(kind, call, *arguments, **named):
     except kind as fault:
         return fault
     except Exception as fault:
-        raise Unexpected("%s was wanted, and %r came" % (kind.__name__, fault)) from fault
-    raise Unexpected("%s was wanted, and %.200r came" % (kind.__name__, got))
+        raise Wrong("%s was wanted, and %r came" % (kind.__name__, fault)) from fault
+    raise Wrong("%s was wanted, and %.200r came" % (kind.__name__, got))
 
 
 def expect_refused(number, words, call, *arguments):

@@ -9,7 +9,7 @@ from contextlib import suppress
 from decimal import Decimal as D
 
 from client_parts import DEFINED, SEED, expect_error, expect_refused, measures, network, roadseg, running
-from files_and_peers import expect
+from harness import expect
 
 # Lines that are carried out, and lines that are refused.
 

@@ -9,14 +9,11 @@ cut a reply, or send what is no reply. What is wanted was written by hand, or is
 wanted, and at last `N passed, M failed`.
 """
 
-import argparse
-import concurrent.futures
 import os
 import signal
 import socket
 import subprocess
 import sys
-import tempfile
 import threading
 import time
 from contextlib import contextmanager, suppress
@@ -26,7 +23,9 @@ from client_parts import CLIENTS, DEFINED, expect_error, expect_refused, measure
 from client_rows import ROW_TESTS, is_a_cursor_open
 from diagrams import DIAGRAM_TESTS
 from document_scripts import DOCUMENT_TESTS
-from files_and_peers import LONGEST, NOT_OPENED, PROGRAM, Program, Unexpected, expect, put, serving
+from files_and_peers import LONGEST, NOT_OPENED, Program, put, serving
+from harness import Wrong, expect, run_tests
+from programs import PROGRAM
 
 # Servers that fail.
 
@@ -173,7 +172,7 @@ def nothing_is_sent_after_a_reply_was_broken_off(_program):
         road._wire.line = interrupted
         with suppress(KeyboardInterrupt):
             road.execute("SELECT signs")
-            raise Unexpected("no interrupt")
+            raise Wrong("no interrupt")
         expect("what was read", calls, [b"0 ROW A 1.000 1\n"])
         expect_error(roadseg.Failed, road.execute, "SAVE")
     expect("lines", [line for line in server.received() if line], [b"0 SELECT signs\n"])
@@ -393,31 +392,6 @@ TESTS = [
 ]
 
 
-def fault_of(test, path):
-    """What is wrong in one test, or None."""
-    with tempfile.TemporaryDirectory(prefix="roadseg-") as folder:
-        try:
-            test(Program(path, folder))
-        except (Unexpected, roadseg.Error, OSError, subprocess.SubprocessError) as fault:
-            return "%s: %s" % (test.__name__, fault)
-    return None
-
-
-def main():
-    parser = argparse.ArgumentParser(description="Tries the client in Python and its diagrams against the program.")
-    parser.add_argument("--program", default=PROGRAM, metavar="PATH")
-    parser.add_argument("--jobs", type=int, default=os.cpu_count() or 1, metavar="N")
-    parser.add_argument("names", nargs="*", metavar="TEST")
-    words = parser.parse_args()
-    path = os.path.abspath(words.program)
-    tests = [test for test in TESTS if not words.names or test.__name__ in words.names]
-    with concurrent.futures.ThreadPoolExecutor(words.jobs) as pool:
-        faults = [fault for fault in pool.map(lambda test: fault_of(test, path), tests) if fault]
-    for fault in faults:
-        print(fault)
-    print("%d passed, %d failed" % (len(tests) - len(faults), len(faults)))
-    return 1 if faults else 0
-
-
 if __name__ == "__main__":
-    sys.exit(main())
+    said = "Tries the client in Python and its diagrams against the program."
+    sys.exit(run_tests(said, TESTS, Program, PROGRAM, [roadseg.Error]))

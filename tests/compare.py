@@ -22,6 +22,7 @@ from itertools import zip_longest
 from multiprocessing import Pool
 from typing import NamedTuple
 
+from harness import summary
 from positions import check_positions
 from programs import answer_of, replies_of
 from random_lines import RandomLines
@@ -239,36 +240,47 @@ def report_positions(programs):
     return passed, failed
 
 
-def options():
-    parser = argparse.ArgumentParser(description="Compares the program with the slow machine.")
+def parser_of(description, lines, rounds, said_of_lines):
+    """The options that say what is compared, and over which rounds."""
+    parser = argparse.ArgumentParser(description=description)
     add_options(parser)
     parser.add_argument("--slow", default=SLOW, help="what it is compared with (default: the slow machine)")
-    parser.add_argument("--lines", type=int, default=20_000, help="pseudo-random lines in all")
-    parser.add_argument("--rounds", type=int, default=40, help="fresh runs that share the lines")
+    parser.add_argument("--lines", type=int, default=lines, help=said_of_lines)
+    parser.add_argument("--rounds", type=int, default=rounds, help="fresh runs that share the lines")
     parser.add_argument("--seed", type=int, default=0)
     parser.add_argument("--only", type=int, help="the number of one round, which is run alone")
     parser.add_argument("--counts", action="store_true", help="print how many lines of each sort there were")
-    return parser.parse_args()
+    return parser
 
 
-def main():
-    chosen = options()
+def chosen_of(rounds, number):
+    """The round of this number alone, or all."""
+    return rounds if number is None else [rounds[number]]
+
+
+def compare_rounds(chosen, rounds, tally, jobs=None):
+    """Compares rounds, and prints what differs. Counts their lines in a tally, and gives how many passed and failed."""
     programs = Programs(program_of(chosen), chosen.slow)
-    rounds = rounds_of(chosen.seed, chosen.lines, chosen.rounds)
-    if chosen.only is not None:
-        rounds = [rounds[chosen.only]]
-    tally = Tally()
-    with Pool() as pool:
+    with Pool(jobs) as pool:
         compared = list(pool.imap(compare_round, [(programs, chosen.ways, made) for made in rounds]))
         for one in compared:
             tally.add(one.tally)
-        results = [report_rounds(pool, programs, compared)]
-    results.append(report_tally(tally, tally.lines >= FEWEST_TALLIED, chosen.counts))
-    results.append(report_positions(programs))
-    passed, failed = (sum(numbers) for numbers in zip(*results))
+        return report_rounds(pool, programs, compared)
+
+
+def report_all(chosen, rounds, tally, results):
+    """Prints the last lines, and gives the exit status."""
     print("%d lines in %d rounds of seed %d: %s" % (tally.lines, len(rounds), chosen.seed, tally.summary()))
-    print("%d passed, %d failed" % (passed, failed))
-    return 1 if failed else 0
+    return summary(*map(sum, zip(*results)))
+
+
+def main():
+    chosen = parser_of("Compares the program with the slow machine.", 20_000, 40, "pseudo-random lines in all").parse_args()
+    rounds, tally = chosen_of(rounds_of(chosen.seed, chosen.lines, chosen.rounds), chosen.only), Tally()
+    results = [compare_rounds(chosen, rounds, tally)]
+    results.append(report_tally(tally, tally.lines >= FEWEST_TALLIED, chosen.counts))
+    results.append(report_positions(Programs(program_of(chosen), chosen.slow)))
+    return report_all(chosen, rounds, tally, results)
 
 
 if __name__ == "__main__":

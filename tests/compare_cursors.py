@@ -11,14 +11,11 @@ compare.py. `--all` is the long run: 100,000 lines in 40 rounds, and 10,000 chan
 The last line is `N passed, M failed`: rounds, once in each way, and sorts.
 """
 
-import argparse
 import sys
-from multiprocessing import Pool
 
-from compare import SLOW, Programs, Round, compare_round, report_rounds, report_tally
+from compare import Round, chosen_of, compare_rounds, parser_of, report_all, report_tally
 from cursor_lines import CursorLines
 from tally import CURSOR_SORTS, Tally
-from ways import add_options, program_of
 
 ALL_SESSIONS = "all sessions"
 SHARE = (4_000, 2, 1_500)  # lines, rounds, and lines of the round of all sessions
@@ -42,19 +39,13 @@ def rounds_of(chosen):
     count = chosen.lines // chosen.rounds
     rounds = [CursorRound(number, chosen.seed, "cursors", count) for number in range(chosen.rounds)]
     rounds.append(CursorRound(chosen.rounds, chosen.seed, ALL_SESSIONS, chosen.sessions_lines))
-    return rounds if chosen.only is None else [rounds[chosen.only]]
+    return chosen_of(rounds, chosen.only)
 
 
 def options():
-    parser = argparse.ArgumentParser(description="Compares the program with the slow machine where many cursors are open.")
-    add_options(parser)
-    parser.add_argument("--slow", default=SLOW, help="what it is compared with (default: the slow machine)")
-    parser.add_argument("--lines", type=int, default=SHARE[0], help="pseudo-random lines beside twelve cursors")
-    parser.add_argument("--rounds", type=int, default=SHARE[1], help="fresh runs that share the lines")
+    description = "Compares the program with the slow machine where many cursors are open."
+    parser = parser_of(description, SHARE[0], SHARE[1], "pseudo-random lines beside twelve cursors")
     parser.add_argument("--sessions-lines", type=int, default=SHARE[2], help="pseudo-random lines of all sessions")
-    parser.add_argument("--seed", type=int, default=0)
-    parser.add_argument("--only", type=int, help="the number of one round, which is run alone")
-    parser.add_argument("--counts", action="store_true", help="print how many lines of each sort there were")
     parser.add_argument("--all", action="store_true", help="the long run")
     parser.add_argument("--jobs", type=int, metavar="N")
     chosen = parser.parse_args()
@@ -65,19 +56,10 @@ def options():
 
 def main():
     chosen = options()
-    programs = Programs(program_of(chosen), chosen.slow)
-    rounds = rounds_of(chosen)
-    tally = Tally(CURSOR_SORTS)
-    with Pool(chosen.jobs) as pool:
-        compared = list(pool.imap(compare_round, [(programs, chosen.ways, made) for made in rounds]))
-        for one in compared:
-            tally.add(one.tally)
-        results = [report_rounds(pool, programs, compared)]
+    rounds, tally = rounds_of(chosen), Tally(CURSOR_SORTS)
+    results = [compare_rounds(chosen, rounds, tally, chosen.jobs)]
     results.append(report_tally(tally, chosen.only is None, chosen.counts))
-    passed, failed = (sum(numbers) for numbers in zip(*results))
-    print("%d lines in %d rounds of seed %d: %s" % (tally.lines, len(rounds), chosen.seed, tally.summary()))
-    print("%d passed, %d failed" % (passed, failed))
-    return 1 if failed else 0
+    return report_all(chosen, rounds, tally, results)
 
 
 if __name__ == "__main__":

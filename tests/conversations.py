@@ -48,9 +48,11 @@ import shlex
 import shutil
 import sys
 
+from harness import summary
+from programs import ROOT, replies_of
 from ways import FETCHED, WAYS, add_options, answer_in, program_of
 
-ROOT = os.path.dirname(os.path.dirname(os.path.abspath(__file__)))
+FOLDER = os.path.join(ROOT, "tests", "conversations")
 DOCUMENTS = ["README.md", os.path.join("docs", "LANGUAGE.md"), os.path.join("docs", "COOKBOOK.md")]
 
 # What a document says where its examples follow the lines of a file.
@@ -59,9 +61,6 @@ FOLLOWS = re.compile(r"<!-- each example follows (\S+) -->")
 # Of so many lines of a conversation the differences are printed; the others are counted.
 DIFFERENCES_SHOWN = 5
 BYTES_SHOWN = 300
-
-# The last line of a reply.
-FINISH = re.compile(rb"[0-9]+ (OK|ERR) ")
 
 # The reply to a line that is only to be accepted.
 ACCEPTED = re.compile(rb"[0-9]+ OK [0-9]+\n")
@@ -240,11 +239,21 @@ def conversations_of(path):
             if block and block[0][1].startswith("> ")]
 
 
+def path_of(name):
+    """The file of the conversation of this name."""
+    return os.path.join(FOLDER, name + ".txt")
+
+
+def exchanges_of(name):
+    """What is sent in the conversation of this name, each with its answer."""
+    [conversation] = conversations_of(path_of(name))
+    return [(bytes(exchange.sent), bytes(exchange.wanted)) for exchange in conversation.exchanges]
+
+
 def all_files():
     """The files that are run where none is named."""
-    folder = os.path.join(ROOT, "tests", "conversations")
-    texts = sorted(name for name in os.listdir(folder) if name.endswith(".txt"))
-    return [os.path.join(folder, name) for name in texts] + [os.path.join(ROOT, name) for name in DOCUMENTS]
+    texts = sorted(name for name in os.listdir(FOLDER) if name.endswith(".txt"))
+    return [os.path.join(FOLDER, name) for name in texts] + [os.path.join(ROOT, name) for name in DOCUMENTS]
 
 
 def expanded(conversation):
@@ -263,17 +272,6 @@ def expanded(conversation):
 def lines_of(data):
     """The bytes cut after each LF; a rest without one is the last."""
     return [line for line in re.split(rb"(?<=\n)", data) if line]
-
-
-def replies_of(out):
-    """The output cut after each line that ends a reply; a rest without one is the last."""
-    replies, reply = [], []
-    for line in lines_of(out):
-        reply.append(line)
-        if FINISH.match(line) and line.endswith(b"\n"):
-            replies.append(b"".join(reply))
-            reply = []
-    return replies + [b"".join(reply)] if reply else replies
 
 
 def shown(data):
@@ -349,7 +347,7 @@ def read_all(files):
 
 
 def hold_all(conversations, faults, words):
-    """Holds the conversations side by side, prints what is wrong, and answers whether all passed."""
+    """Holds the conversations side by side, prints what is wrong, and gives the exit status."""
     failed = len(faults)
     for fault in faults:
         print(fault)
@@ -360,8 +358,7 @@ def hold_all(conversations, faults, words):
             if found:
                 failed += 1
                 print("\n".join(found), flush=True)
-    print("%d passed, %d failed" % (len(turns) + len(faults) - failed, failed))
-    return failed == 0
+    return summary(len(turns) + len(faults) - failed, failed)
 
 
 def main():
@@ -381,7 +378,7 @@ def main():
     program = shlex.split(words.program)
     if not program or not shutil.which(program[0]):
         sys.exit("there is no program %s" % words.program)
-    return 0 if hold_all(conversations, faults, words) else 1
+    return hold_all(conversations, faults, words)
 
 
 if __name__ == "__main__":

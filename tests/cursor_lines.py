@@ -58,10 +58,7 @@ class CursorLines(RandomLines):
         return super().flaw(share * FLAWS)
 
     def first_events(self):
-        for _ in range(FIRST_EVENTS):
-            tokens, effect = self.insert()
-            yield self.flawless(tokens)
-            effect()
+        return self.first_of(self.insert, FIRST_EVENTS)
 
     def first_indexes(self):
         """The first indexes, and as many cursors as there may be."""

@@ -17,7 +17,8 @@ from decimal import Decimal as D
 from typing import NamedTuple
 
 from client_parts import CLIENTS, HERE, NETWORK, SEED, expect_error, network, roadseg
-from files_and_peers import LONGEST, Unexpected, expect
+from files_and_peers import LONGEST
+from harness import Wrong, expect
 
 import diagram  # of the clients, whose folder client_parts names
 import labels
@@ -108,7 +109,7 @@ def expect_apart(what, boxes):
             if other.left >= box.right:
                 break
             if box.overlaps(other):
-                raise Unexpected("%s: %.60r overlaps %.60r" % (what, name, other_name))
+                raise Wrong("%s: %.60r overlaps %.60r" % (what, name, other_name))
 
 
 def expect_readable(read):
@@ -129,7 +130,7 @@ def expect_readable(read):
             continue
         for name, box in texts:
             if box.overlaps(Box(min(x1, x2) - 0.1, y1 + 0.1, max(x1, x2) + 0.1, max(y2 - 2, y1 + 0.2))):
-                raise Unexpected("a line crosses %.60r" % name)
+                raise Wrong("a line crosses %.60r" % name)
 
 
 # Rows to draw.
@@ -247,7 +248,7 @@ def expect_near(what, got, wanted):
     numbers = [(a, b) for one, other in zip(got, wanted) for a, b in zip(one, other)]
     shapes = [[len(one) for one in many] for many in (got, wanted)]
     if shapes[0] != shapes[1] or any(abs(a - b) >= 0.02 for a, b in numbers):
-        raise Unexpected("%s: wanted %.300r, got %.300r" % (what, wanted, got))
+        raise Wrong("%s: wanted %.300r, got %.300r" % (what, wanted, got))
 
 
 def a_part_of_a_route_is_cut_out(_program):

@@ -9,8 +9,10 @@ import subprocess
 import sys
 from typing import NamedTuple
 
-from client_parts import CLIENTS, NETWORK, ROOT
-from files_and_peers import LONGEST, Unexpected, bytes_at, expect, serving
+from client_parts import CLIENTS, NETWORK
+from files_and_peers import LONGEST, serving
+from harness import Wrong, bytes_at, expect
+from programs import ROOT
 
 COOKBOOK = os.path.join(ROOT, "docs", "COOKBOOK.md")
 README = os.path.join(ROOT, "README.md")
@@ -99,7 +101,7 @@ def diagrams_are_drawn_as_they_are_kept(program):
     expect("scripts", run_section(program, COOKBOOK, DRAWN), 1)
     for name in ("SR12.svg", "US40.svg"):
         if bytes_at(program.file(name)) != bytes_at(os.path.join(ROOT, "examples", name)):
-            raise Unexpected("examples/%s is drawn otherwise" % name)
+            raise Wrong("examples/%s is drawn otherwise" % name)
 
 
 def two_csv_files_become_a_payment_table_and_a_diagram(program):

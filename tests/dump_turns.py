@@ -5,17 +5,14 @@ moved that views name, sound files written by hand, an alignment that is too lon
 (random_files.py), of which a quarter stand for a state. The same seed and number give the same turn.
 """
 
-import os
 from functools import partial
 from typing import NamedTuple
 
-from conversations import conversations_of
+from conversations import exchanges_of
 from file_writer import Alignment, Description, Route, Table, View, written
 from random_files import RandomFile
 from random_lines import RandomLines
 from whole_files import SOUND
-
-CONVERSATIONS = os.path.join(os.path.dirname(os.path.abspath(__file__)), "conversations")
 
 # Conversations that leave something long, much or odd.
 LIMITS = (
@@ -91,8 +88,7 @@ def random_turn(seed, kind, number):
 
 
 def limit_turn(name):
-    [conversation] = conversations_of(os.path.join(CONVERSATIONS, name + ".txt"))
-    return Turn(name, lines=b"".join(bytes(exchange.sent) for exchange in conversation.exchanges))
+    return Turn(name, lines=b"".join(sent for sent, _ in exchanges_of(name)))
 
 
 def sound_turn(name):

@@ -21,7 +21,6 @@ import argparse
 import os
 import subprocess
 import sys
-import tempfile
 from collections import Counter
 from functools import lru_cache, partial
 from itertools import chain, islice, repeat
@@ -30,14 +29,12 @@ from typing import NamedTuple
 
 from file_questions import Exchange, exchanges_of, route_defined
 from file_writer import DAMAGED, NOT_CLOSED, OK, written
-from programs import replies_of
+from harness import bytes_at, summary
+from programs import PROGRAM, SHARED_MEMORY, replies_of, scratch_folder  # noqa: F401: damaged_files.py takes the second
 from random_files import RandomFile
 from slow_file import lines_of, read
 from whole_files import SOUND, files
 
-HERE = os.path.dirname(os.path.abspath(__file__))
-PROGRAM = os.path.join(os.path.dirname(HERE), "crates", "roadseg", "out", "roadseg")
-SHARED_MEMORY = "/dev/shm"
 BATCH = 25  # files that a process compares before it gives its counts
 LONGEST_RUN = 120  # seconds
 MOST_PRINTED = 20  # differences
@@ -114,8 +111,7 @@ class Program(NamedTuple):
             file.write(data)
 
     def bytes(self):
-        with open(self.file, "rb") as file:
-            return file.read()
+        return bytes_at(self.file)
 
     def compare(self, exchanges, answer):
         """Sends lines, whose replies have to be as wanted, in a run that has to end as the answer to the file asks."""
@@ -178,8 +174,7 @@ class Compared(NamedTuple):
 def compare(path, cases):
     """Compares what is said of some files."""
     counts, faults = Counter(), []
-    folder = SHARED_MEMORY if os.path.isdir(SHARED_MEMORY) else None
-    with tempfile.TemporaryDirectory(prefix="roadseg-files-", dir=folder) as folder:
+    with scratch_folder("roadseg-files-") as folder:
         program = Program(path, os.path.join(folder, "file"))
         for case in cases:
             found = read(case.data)
@@ -275,9 +270,7 @@ def main():
             results.append(report("each byte changed", pool.imap(these, batches_of(byte_cases())), BYTES_CHANGED))
         these = partial(compare_turns, path, chosen.seed)
         results.append(report("pseudo-random, seed %d" % chosen.seed, pool.imap(these, batches_of(turns))))
-    passed, failed = (sum(numbers) for numbers in zip(*results))
-    print("%d passed, %d failed" % (passed, failed))
-    return 1 if failed else 0
+    return summary(*map(sum, zip(*results)))
 
 
 if __name__ == "__main__":

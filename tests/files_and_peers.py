@@ -9,8 +9,6 @@ holds comes from the format (file_writer.py). PATH is `crates/roadseg/out/roadse
 function of the list TESTS. It prints what is not as wanted, and at last `N passed, M failed`.
 """
 
-import argparse
-import concurrent.futures
 import os
 import random
 import re
@@ -20,31 +18,30 @@ import socket
 import struct
 import subprocess
 import sys
-import tempfile
 import time
 from collections import Counter
 from contextlib import contextmanager, suppress
 from functools import partial
 from typing import NamedTuple
 
-from conversations import conversations_of
+from conversations import conversations_of, exchanges_of, path_of
 from file_writer import PAGE_BYTES, written
+from harness import bytes_at, expect, run_tests
+from programs import PROGRAM, Ended
 from slow_file import lines_of, read
 from slow_machine import Machine
-from slow_pages import FREE, PAGE_HEADER, Pages
+from slow_pages import FLAG_PLACE, FREE, PAGE_HEADER, Pages, as_closed
 from stored_machine import contents_of, machine_of
 from whole_files import SOUND
+from wide_rows import WIDE_TABLE, measure
 
 HERE = os.path.dirname(os.path.abspath(__file__))
-PROGRAM = os.path.join(os.path.dirname(HERE), "crates", "roadseg", "out", "roadseg")
-CONVERSATIONS = os.path.join(HERE, "conversations")
-CURSORS = os.path.join(CONVERSATIONS, "a-cursor-keeps-its-opening.txt")
+CURSORS = "a-cursor-keeps-its-opening"
 KEPT = os.path.join(HERE, "kept")  # files that an earlier build closed, each beside a conversation over it
 LONGEST = 60  # seconds that anything may take
 STALL = 1  # seconds
 NEAR = 32  # bytes
 PIECE_PAUSE = 0.001  # seconds between pieces of a line
-OPEN_FLAG = 28  # the place of its byte
 COUNT_OF_PAGES = 32  # and of three numbers in page 0: of pages, of the first free one, and of free ones
 FULL = "/dev/full"  # each write to it fails
 
@@ -67,7 +64,6 @@ SAVED = (
 )
 
 WIDE_ROUTE = b"0 DEFINE ROUTE A FROM 0 TO 10000\n"
-WIDE_TABLE = b"0 DEFINE LINE TABLE wide (%s)\n" % b", ".join(b"c%d TEXT(40)" % k for k in range(12))
 WIDE_ROWS = 3_000  # seven of them in a page
 LONG_TABLE = b"0 DEFINE LINE TABLE long (n INT)\n"
 LONG_TABLES = (100_000, 400_000)  # rows, some hundred of them in a page
@@ -84,23 +80,6 @@ READ_FAULT = b"roadseg: read fault\n"
 WRITE_FAULT = b"roadseg: write fault\n"
 DAMAGED = b"roadseg: ERR 94 damaged file\n"
 NOT_CLOSED = b"roadseg: ERR 95 file not closed\n"
-
-
-class Unexpected(Exception):
-    """Something is not as wanted."""
-
-
-def expect(what, got, wanted):
-    if got != wanted:
-        raise Unexpected("%s: wanted %.300r, got %.300r" % (what, wanted, got))
-
-
-class Ended(NamedTuple):
-    """The status of a run, and what it wrote to standard output and standard error."""
-
-    status: int
-    out: bytes
-    errors: bytes
 
 
 class Program(NamedTuple):
@@ -127,16 +106,6 @@ class Program(NamedTuple):
         if sent:
             self.expect(["run", "--file", file], sent, out)
         return file
-
-
-def bytes_at(path):
-    with open(path, "rb") as file:
-        return file.read()
-
-
-def as_closed(data):
-    """The bytes of a file, with the flag that says that it is closed."""
-    return data[:OPEN_FLAG] + b"\0" + data[OPEN_FLAG + 1 :]
 
 
 def put(path, data, place=0):
@@ -179,14 +148,13 @@ def a_closed_file_is_as_the_format_says(program):
 def what_is_saved_stands_in_the_file(program):
     """After SAVE, after each line, and after each REOPEN the file in use is, but for its flag, one of the slow machine's state."""
     for name in SAVED:
-        [conversation] = conversations_of(os.path.join(CONVERSATIONS, name + ".txt"))
         file, machine = program.file(name), Machine()
         program.expect(["create", "--file", file], b"", b"")
         with started(program, "run", "--file", file) as process:
-            for exchange in conversation.exchanges:
-                expect(exchange.sent, answer_to(process, exchange.sent), exchange.wanted)
-                machine.answer(bytes(exchange.sent).removesuffix(b"\n"))
-                if not exchange.sent.endswith(b"REOPEN\n"):
+            for sent, wanted in exchanges_of(name):
+                expect(sent, answer_to(process, sent), wanted)
+                machine.answer(sent.removesuffix(b"\n"))
+                if not sent.endswith(b"REOPEN\n"):
                     expect("SAVE", answer_to(process, b"0 SAVE\n"), b"0 OK 0\n")
                 expect_state(file, machine)
             expect("the end", ended(process), Ended(0, b"", b""))
@@ -196,7 +164,7 @@ def what_is_saved_stands_in_the_file(program):
 def expect_state(file, machine):
     """The bytes of a file in use, but for its flag, stand for the state of a machine."""
     data = bytes_at(file)
-    expect("the flag of a file in use", data[OPEN_FLAG], 1)
+    expect("the flag of a file in use", data[FLAG_PLACE], 1)
     found = read(as_closed(data))
     expect("why the file is none", found.why, None)
     expect("what is in it", contents_of(machine_of(found.state)), contents_of(machine))
@@ -217,16 +185,16 @@ def a_file_that_changes_in_use_is_judged_anew(program):
         rows = answer_to(process, SELECTED)
         expect("the rows before", rows, b"0 ROW A 0.000 2.500 'AC'\n0 OK 1\n")
         for flag in (b"\0", b"\7", b"\1"):
-            put(file, flag, OPEN_FLAG)
+            put(file, flag, FLAG_PLACE)
             expect("REOPEN with the flag %r" % flag, answer_to(process, b"0 REOPEN\n"), b"0 OK 0\n")
             expect("the rows with the flag %r" % flag, answer_to(process, SELECTED), rows)
-            expect("the flag after that", bytes_at(file)[OPEN_FLAG], flag[0])
+            expect("the flag after that", bytes_at(file)[FLAG_PLACE], flag[0])
         put(file, with_a_page_more(bytes_at(file)))
         expect("whether that is a file", read(as_closed(bytes_at(file))).answer, b"OK")
         expect("REOPEN with a free page more", answer_to(process, b"0 REOPEN\n"), b"0 ERR 94 damaged file\n")
         os.truncate(file, len(data))
-        put(file, data[:OPEN_FLAG])
-        put(file, data[OPEN_FLAG + 1 :], OPEN_FLAG + 1)
+        put(file, data[:FLAG_PLACE])
+        put(file, data[FLAG_PLACE + 1 :], FLAG_PLACE + 1)
         expect("REOPEN without it", answer_to(process, b"0 REOPEN\n"), b"0 OK 0\n")
         for place in places_near_bytes(data):
             byte = bytes([data[place] ^ 1 << place % 8])
@@ -261,7 +229,7 @@ def with_a_page_more(data):
 def places_near_bytes(data):
     """The places that are near some byte that is not 0, and each sixteenth of the others; but for that of the open flag."""
     near = (place for place in range(len(data)) if place % 16 == 0 or any(data[max(0, place - NEAR) : place + NEAR]))
-    return [place for place in near if place != OPEN_FLAG]
+    return [place for place in near if place != FLAG_PLACE]
 
 
 def answer_to(process, line):
@@ -314,9 +282,9 @@ def a_long_table_is_read_by_its_height(program):
             answers_to(process, [b"0 SAVE\n"])
             place, other = 3 * (rows // 10), 3 * (rows // 12)  # of rows that were not read last
             for line, most in (
-                (b"0 SELECT WINDOW(long, A FROM %s TO %s)\n" % (measured(place), measured(place + 30)), 2 * height),
+                (b"0 SELECT WINDOW(long, A FROM %s TO %s)\n" % (measure(place), measure(place + 30)), 2 * height),
                 (long_row(rows // 8 + 0.4), height + 2),
-                (b"0 REMOVE long ON A FROM %s TO %s\n" % (measured(other), measured(other + 1)), height + 2),
+                (b"0 REMOVE long ON A FROM %s TO %s\n" % (measure(other), measure(other + 1)), height + 2),
             ):
                 reads = calls_for(process, line)[0]
                 expect("%d reads of %d rows for %.60r, 1 to %d" % (reads, rows, line, most), 1 <= reads <= most, True)
@@ -327,11 +295,7 @@ def a_long_table_is_read_by_its_height(program):
 def long_row(number):
     """A line that inserts a row of its own along a thousandth."""
     place = int(3 * number)
-    return b"0 INSERT INTO long ON A FROM %s TO %s VALUES (%d)\n" % (measured(place), measured(place + 1), place)
-
-
-def measured(thousandths):
-    return b"%d.%03d" % divmod(thousandths, 1000)
+    return b"0 INSERT INTO long ON A FROM %s TO %s VALUES (%d)\n" % (measure(place), measure(place + 1), place)
 
 
 def calls_for(process, line):
@@ -397,12 +361,12 @@ def a_damaged_file_is_refused(program):
 
 def a_file_that_was_not_closed_is_refused(program):
     file = program.created(DEFINED, b"0 OK 0\n0 OK 0\n")
-    put(file, b"\x01", OPEN_FLAG)
+    put(file, b"\x01", FLAG_PLACE)
     data = bytes_at(file)
     program.expect(["run", "--file", file], SELECTED, b"", NOT_CLOSED)
     program.expect(["serve", "--file", file, "--listen", "nowhere"], b"", b"", NOT_CLOSED)
     expect("the file after that", bytes_at(file), data)
-    put(file, b"\x00", OPEN_FLAG)
+    put(file, b"\x00", FLAG_PLACE)
     program.expect(["run", "--file", file], SELECTED, b"0 OK 0\n")
 
 
@@ -549,7 +513,7 @@ def words_that_ask_nothing_read_nothing(program):
         (["run", b"\xff"], 2),
         ([b"\xff"], 2),
     ):
-        with open(CURSORS, "rb") as lines:
+        with open(path_of(CURSORS), "rb") as lines:
             done = subprocess.run([program.path, *words], stdin=lines, capture_output=True, timeout=LONGEST)
             place = os.lseek(lines.fileno(), 0, os.SEEK_CUR)
         said = (done.returncode, done.stdout != b"", done.stderr != b"", place)
@@ -652,14 +616,13 @@ def serving(program, file, connections):
 
 
 def cursors_outlive_their_connection(program):
-    [conversation] = conversations_of(CURSORS)
-    exchanges = conversation.exchanges
+    exchanges = exchanges_of(CURSORS)
     for cut in (0, 2, len(exchanges) - 4, len(exchanges) - 2, len(exchanges)):
         file = program.file(str(cut))
         program.expect(["create", "--file", file], b"", b"")
         with serving(program, file, 2) as server:
             for part in (exchanges[:cut], exchanges[cut:]):
-                server.expect_answers(b"".join(one.sent for one in part), b"".join(one.wanted for one in part))
+                server.expect_answers(b"".join(sent for sent, _ in part), b"".join(wanted for _, wanted in part))
             server.expect_end()
         program.expect(["run", "--file", file], b"1 FETCH c 1\n", b"1 ERR 60 no such cursor\n")
 
@@ -791,7 +754,7 @@ def a_killed_server_leaves_its_file_open(program):
         program.expect(["serve", "--file", file], b"", b"", NOT_CLOSED)
         program.expect(["create", "--file", file], b"", b"", EXISTS)
         expect("the file after that", bytes_at(file), data)
-        put(file, b"\x00", OPEN_FLAG)
+        put(file, b"\x00", FLAG_PLACE)
 
 
 TESTS = [
@@ -829,31 +792,5 @@ TESTS = [
 ]
 
 
-def fault_of(test, path):
-    """What is wrong in one test, or None."""
-    with tempfile.TemporaryDirectory(prefix="roadseg-") as folder:
-        try:
-            test(Program(path, folder))
-        except (Unexpected, OSError, subprocess.SubprocessError) as fault:
-            return "%s: %s" % (test.__name__, fault)
-    return None
-
-
-def main():
-    parser = argparse.ArgumentParser(description="Runs the program on files and for peers of a network.")
-    parser.add_argument("--program", default=PROGRAM, metavar="PATH")
-    parser.add_argument("--jobs", type=int, default=os.cpu_count() or 1, metavar="N")
-    parser.add_argument("names", nargs="*", metavar="TEST")
-    words = parser.parse_args()
-    path = os.path.abspath(words.program)
-    tests = [test for test in TESTS if not words.names or test.__name__ in words.names]
-    with concurrent.futures.ThreadPoolExecutor(words.jobs) as pool:
-        faults = [fault for fault in pool.map(lambda test: fault_of(test, path), tests) if fault]
-    for fault in faults:
-        print(fault)
-    print("%d passed, %d failed" % (len(tests) - len(faults), len(faults)))
-    return 1 if faults else 0
-
-
 if __name__ == "__main__":
-    sys.exit(main())
+    sys.exit(run_tests("Runs the program on files and for peers of a network.", TESTS, Program, PROGRAM))

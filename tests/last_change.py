@@ -11,22 +11,18 @@ replies have to be the slow machine's, and the file that is left, by the slow re
 `N passed, M failed`, counted in rounds.
 """
 
-import argparse
 import os
 import re
 import subprocess
 import sys
-import tempfile
 from collections import Counter
 
-from programs import answer_of, replies_of
+from harness import Wrong, expect, parser_of, summary
+from programs import PROGRAM, answer_of, expect_answers, scratch_folder
 from random_lines import RandomLines
-from slow_file import read
 from slow_machine import MOST_CHANGES, Machine
-from stored_machine import ChangingMachine, machine_of
+from stored_machine import expect_same_answers, machine_at
 
-HERE = os.path.dirname(os.path.abspath(__file__))
-PROGRAM = os.path.join(os.path.dirname(HERE), "crates", "roadseg", "out", "roadseg")
 SHARE, ALL = (2_400, 6), (40_000, 80)  # lines and rounds
 LEFT = (0, 0, 1, 0, 2, 7)  # changes
 FIRST_LINES = 150
@@ -36,10 +32,6 @@ COUNT_BYTES = 8
 # What changes a state, and what does not.
 CHANGES = ("define_", "move_", "drop_", "insert", "remove")
 CHANGE = re.compile(rb"[0-9]+ +(DEFINE|MOVE|DROP|INSERT|REMOVE) ")
-
-
-class Wrong(Exception):
-    """Something is not as wanted."""
 
 
 class FewChanges(RandomLines):
@@ -69,13 +61,13 @@ def judged(program, file, seed, number, lines):
     machine, writer = Machine(), FewChanges("last %d %d" % (seed, number), "short")
     first = [line.sent for line in writer.round(FIRST_LINES) if line.sent.endswith(b"\n")] + [b"0 REOPEN\n"]
     writer.cursors.clear()
-    expect_answers(program, file, first, [machine.answer(line[:-1]) for line in first])
+    expect_answers(answer_over(program, file, first), first, [machine.answer(line[:-1]) for line in first])
     writer.left = LEFT[number % len(LEFT)]
     machine.changes = MOST_CHANGES - writer.left
     put_count(file, machine.changes)
     more = [line.sent for line in (writer.line() for _ in range(lines))]
     wanted = [machine.answer(line[:-1]) for line in more]
-    expect_answers(program, file, more, wanted)
+    expect_answers(answer_over(program, file, more), more, wanted)
     expect_state(file, machine)
     return Counter(kind_of(line, reply) for line, reply in zip(more, wanted))
 
@@ -92,33 +84,19 @@ def put_count(file, count):
         data.write(count.to_bytes(COUNT_BYTES, "big"))
 
 
-def expect_answers(program, file, lines, wanted):
-    answer = answer_of("%s run --file %s" % (program, file), b"".join(lines))
-    if answer.complaint:
-        raise Wrong("the program " + answer.complaint)
-    for line, reply, reply_wanted in zip(lines, replies_of(answer.out) + [b""] * len(lines), wanted):
-        if reply != reply_wanted:
-            raise Wrong("%.300r: wanted %.300r, got %.300r" % (line, reply_wanted, reply))
+def answer_over(program, file, lines):
+    return answer_of("%s run --file %s" % (program, file), b"".join(lines))
 
 
 def expect_state(file, machine):
     """The file stands for the slow machine's state."""
-    with open(file, "rb") as data:
-        found = read(data.read())
-    if found.state is None:
-        raise Wrong("the slow reader says of the file %s, %s" % (found.answer.decode(), found.why))
-    stored = machine_of(found.state, ChangingMachine)
-    if stored.changes != machine.changes:
-        raise Wrong("the file has %d changes, and %d are wanted" % (stored.changes, machine.changes))
-    for name in machine.tables:
-        line = b"0 SELECT %s AS RELATIVE" % name
-        if stored.answer(line) != machine.answer(line):
-            raise Wrong("the file's answer to %r" % line)
+    stored = machine_at(file)
+    expect("how many changes the file has", stored.changes, machine.changes)
+    expect_same_answers(stored, machine, [b"0 SELECT %s AS RELATIVE" % name for name in machine.tables])
 
 
 def arguments():
-    parser = argparse.ArgumentParser(description=__doc__, formatter_class=argparse.RawDescriptionHelpFormatter)
-    parser.add_argument("--program", default=PROGRAM, metavar="PATH")
+    parser = parser_of(__doc__, PROGRAM)
     parser.add_argument("--lines", type=int, default=SHARE[0])
     parser.add_argument("--rounds", type=int, default=SHARE[1])
     parser.add_argument("--seed", type=int, default=0)
@@ -132,14 +110,12 @@ def arguments():
 def main():
     words = arguments()
     told, faults = Counter(), []
-    program = os.path.abspath(words.program)
-    folder = "/dev/shm" if os.path.isdir("/dev/shm") else None
     for number in range(words.rounds):
-        with tempfile.TemporaryDirectory(prefix="roadseg-", dir=folder) as room:
-            file = os.path.join(room, "file")
-            subprocess.run([program, "create", "--file", file], check=True)
+        with scratch_folder() as folder:
+            file = os.path.join(folder, "file")
+            subprocess.run([words.program, "create", "--file", file], check=True)
             try:
-                told += judged(program, file, words.seed, number, words.lines // words.rounds)
+                told += judged(words.program, file, words.seed, number, words.lines // words.rounds)
             except Wrong as fault:
                 faults.append("round %d of seed %d: %s" % (number, words.seed, fault))
     for fault in faults:
@@ -150,8 +126,7 @@ def main():
     if told["changes", "27"] < words.lines / 12 or told["others", "OK"] < words.lines / 12:
         faults.append("few lines")
         print("there are few changes that are refused by 27, or few other lines that are answered")
-    print("%d passed, %d failed" % (words.rounds - len(faults), len(faults)))
-    return 1 if faults else 0
+    return summary(words.rounds - len(faults), len(faults))
 
 
 if __name__ == "__main__":

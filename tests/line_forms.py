@@ -15,7 +15,6 @@ Without --all a share is taken: some of the bytes of each line, and some of the 
 It prints what is not as wanted, and at last `N passed, M failed`, counted in lines, conversations and runs.
 """
 
-import argparse
 import os
 import random
 import resource
@@ -26,13 +25,13 @@ from functools import partial
 from multiprocessing import Pool
 
 import refusing
-from programs import answer_of, replies_of
+from conversations import exchanges_of
+from harness import Wrong, parser_of, summary
+from programs import PROGRAM, answer_of, expect_answers, scratch_folder
 from slow_machine import Machine
 from ways import WAYS, Roadseg, answer_in
-from worked import REFUSED, WORKED, exchanges_of
+from worked import REFUSED, WORKED
 
-HERE = os.path.dirname(os.path.abspath(__file__))
-PROGRAM = os.path.join(os.path.dirname(HERE), "crates", "roadseg", "out", "roadseg")
 LONGEST = 60  # seconds
 FAULTS_SHOWN = 20
 WRITE_FAULT = b"roadseg: write fault\n"
@@ -49,10 +48,6 @@ SHARE_OF_ROOMS = 40  # and each number of bytes of so many
 
 # Spans longer than the slow machine takes.
 TOO_LONG = ("longest-route-is-one-run", "limit-of-totals")
-
-
-class Wrong(Exception):
-    """Something is not as wanted."""
 
 
 # Changed lines.
@@ -241,14 +236,6 @@ def all_limits(words, _item):
     return len(WAYS)
 
 
-def expect_answers(answer, lines, replies, title=""):
-    if answer.complaint:
-        raise Wrong("%sthe program %s" % (title, answer.complaint))
-    for line, reply, wanted in zip(lines, replies_of(answer.out) + [b""] * len(lines), replies):
-        if reply != wanted:
-            raise Wrong("%s%.100r: wanted %.300r, got %.300r" % (title, line, wanted, reply))
-
-
 TESTS = {"changed lines": (changed_lines, NAMES), "pieces": (pieces, NAMES), "cut replies": (cut_replies, NAMES),
          "all limits": (all_limits, ("in each way",))}  # fmt: skip
 
@@ -263,22 +250,18 @@ def fault_of(words, task):
 
 
 def arguments():
-    parser = argparse.ArgumentParser(description=__doc__, formatter_class=argparse.RawDescriptionHelpFormatter)
-    parser.add_argument("--program", default=PROGRAM, metavar="PATH")
+    parser = parser_of(__doc__, PROGRAM)
     parser.add_argument("--jobs", type=int)
     parser.add_argument("--seed", type=int, default=0)
     parser.add_argument("--all", action="store_true", dest="is_all")
     parser.add_argument("tests", nargs="*", metavar="TEST")
-    words = parser.parse_args()
-    words.program = os.path.abspath(words.program)
-    return words
+    return parser.parse_args()
 
 
 def main():
     words = arguments()
-    folder = "/dev/shm" if os.path.isdir("/dev/shm") else None
     tasks = [(test, item) for test, (_, items) in TESTS.items() if not words.tests or test in words.tests for item in items]
-    with tempfile.TemporaryDirectory(prefix="roadseg-", dir=folder) as words.folder:
+    with scratch_folder() as words.folder:
         words.library = refusing.build(words.folder)
         with Pool(words.jobs) as pool:
             results = list(pool.imap(partial(fault_of, words), tasks))
@@ -288,8 +271,7 @@ def main():
     faults = [fault for _, fault in results if fault]
     for fault in faults[:FAULTS_SHOWN]:
         print(fault)
-    print("%d passed, %d failed" % (sum(count for count, _ in results), len(faults)))
-    return 1 if faults else 0
+    return summary(sum(count for count, _ in results), len(faults))
 
 
 if __name__ == "__main__":

@@ -10,7 +10,6 @@ wants it; and the status is 0. The file that is left has to hold what was accept
 10,000 lines by default, and 100,000 with --all. It prints for each run how many lines were refused, what is not as wanted, and at last `N passed, M failed`, counted in runs.
 """
 
-import argparse
 import os
 import resource
 import subprocess
@@ -18,17 +17,15 @@ import sys
 import tempfile
 from functools import partial
 
-HERE = os.path.dirname(os.path.abspath(__file__))
-ROOT = os.path.dirname(HERE)
+from harness import Wrong, expect, parser_of, summary
+from programs import PROGRAM, ROOT, replies_of, scratch_folder
+from slow_machine import Machine
+from stored_machine import expect_same_answers, machine_at
+
 sys.path.insert(1, os.path.join(ROOT, "bench"))
 
-from load import inserts, setup  # noqa: E402
-from programs import replies_of  # noqa: E402
-from slow_file import read  # noqa: E402
-from slow_machine import Machine  # noqa: E402
-from stored_machine import ChangingMachine, machine_of  # noqa: E402
+from load import inserts, setup_for  # noqa: E402
 
-PROGRAM = os.path.join(ROOT, "crates", "roadseg", "out", "roadseg")
 MB = 1_000_000
 SHARE, ALL = 10_000, 100_000  # lines
 ROOMS, SHARE_OF_ROOMS = (24, 32, 64, 256), (5, 6, 24)  # megabytes
@@ -40,13 +37,9 @@ NO_START = b"roadseg: ERR 90 out of memory\n"
 EXHAUSTED, DISK = b"90 out of memory\n", b"91 disk\n"
 
 
-class Wrong(Exception):
-    """Something is not as wanted."""
-
-
 def lines_of(count):
     """The load, then what needs much memory, and then what needs little."""
-    lines = setup(ROUTES, 1 + 20 * (count // ROUTES + 1) // 1000) + inserts(count, ROUTES)
+    lines = setup_for(count, ROUTES) + inserts(count, ROUTES)
     lines += ["0 SELECT OVERLAY(pave, RENAME(RENAME(pave, surf TO s), lanes TO n))", "0 TOTAL pave BY (surf) SUM lanes", "0 SELECT pave"]
     for route in range(0, ROUTES, EACH_ROUTE):
         lines += ["0 SELECT WINDOW(pave, R%d)" % route, "0 TOTAL WINDOW(pave, R%d) BY (lanes)" % route]
@@ -87,21 +80,8 @@ def judged(lines, replies, faults):
         if fault:
             refused[fault] += 1
         else:
-            wanted = machine.answer(line[:-1])
-            if reply != wanted:
-                raise Wrong("%.100r: wanted %.300r, got %.300r" % (line, wanted, reply))
+            expect("%.100r" % line, reply, machine.answer(line[:-1]))
     return machine, refused
-
-
-def judge_file(file, machine):
-    with open(file, "rb") as data:
-        found = read(data.read())
-    if found.state is None:
-        raise Wrong("the slow reader says of the file %s, %s" % (found.answer.decode(), found.why))
-    stored = machine_of(found.state, ChangingMachine)
-    for line in (b"0 SELECT pave", b"0 EXPLAIN pave"):
-        if stored.answer(line) != machine.answer(line):
-            raise Wrong("the file's answer to %r" % line)
 
 
 def judge(words, room, is_over_file):
@@ -115,7 +95,7 @@ def judge(words, room, is_over_file):
         return "no room to start"
     machine, refused = judged(lines, replies, [EXHAUSTED] if file else [EXHAUSTED, DISK])
     if file:
-        judge_file(file, machine)
+        expect_same_answers(machine_at(file), machine, (b"0 SELECT pave", b"0 EXPLAIN pave"))
     told = ", ".join("%d refused %s" % (count, fault.split(b" ")[0].decode()) for fault, count in refused.items())
     return "%d lines, %s" % (len(lines), told)
 
@@ -125,13 +105,11 @@ def rooms_of(text):
 
 
 def arguments():
-    parser = argparse.ArgumentParser(description=__doc__, formatter_class=argparse.RawDescriptionHelpFormatter)
-    parser.add_argument("--program", default=PROGRAM, metavar="PATH")
+    parser = parser_of(__doc__, PROGRAM)
     parser.add_argument("--lines", type=int, default=SHARE)
     parser.add_argument("--rooms", type=rooms_of, default=SHARE_OF_ROOMS, metavar="MB,..")
     parser.add_argument("--all", action="store_true", dest="is_all")
     words = parser.parse_args()
-    words.program = os.path.abspath(words.program)
     if words.is_all:
         words.lines, words.rooms = ALL, ROOMS
     return words
@@ -140,8 +118,7 @@ def arguments():
 def main():
     words = arguments()
     passed = failed = 0
-    folder = "/dev/shm" if os.path.isdir("/dev/shm") else None
-    with tempfile.TemporaryDirectory(prefix="roadseg-", dir=folder) as words.folder:
+    with scratch_folder() as words.folder:
         for room in words.rooms:
             for is_over_file in (True, False):
                 title = "%g MB, %s" % (room, "over a file" if is_over_file else "in memory")
@@ -151,8 +128,7 @@ def main():
                 except Wrong as fault:
                     print("%s: %s" % (title, fault), flush=True)
                     failed += 1
-    print("%d passed, %d failed" % (passed, failed))
-    return 1 if failed else 0
+    return summary(passed, failed)
 
 
 if __name__ == "__main__":

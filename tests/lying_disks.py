@@ -23,32 +23,25 @@ DISK, 2,000 by default, and 20,000 with --all. It prints what is not as wanted, 
 many refused, and how many while a call was false, and at last `N passed, M failed`, counted in disks.
 """
 
-import argparse
-import os
 import random
 import re
 import sys
-import tempfile
 from collections import Counter
 
-from refusing import HONEST, OTHER_BYTES, ZEROS, Ended, Lie, Program, Wrong, build, expect
+from harness import Wrong, expect, parser_of, summary
+from programs import PROGRAM, scratch_folder
+from refusing import HONEST, OTHER_BYTES, WELL, ZEROS, Lie, Program, build
 from slow_file import read
 from slow_machine import Machine
-from slow_pages import Pages
-from stored_machine import ChangingMachine, machine_of
+from slow_pages import PAGE_BYTES, Pages, as_closed
+from stored_machine import ChangingMachine, expect_same_answers, machine_of
+from wide_rows import WIDE_TABLE, measure, wide_row
 
-HERE = os.path.dirname(os.path.abspath(__file__))
-PROGRAM = os.path.join(os.path.dirname(HERE), "crates", "roadseg", "out", "roadseg")
-SHARED_MEMORY = "/dev/shm"
 SHARE, ALL = 2_000, 20_000  # lines
-WELL = Ended(0, b"", b"")
-OPEN_FLAG = 28  # the place of its byte
-PAGE_BYTES = 4096
 
 WIDE_ROWS = 1_600  # with their index some 460 pages, more than are kept
 GAP = 3  # thousandths from one row to the next
 ROUTE_END = max(WIDE_ROWS * GAP, 3_700) + 100
-WIDE_COLUMNS = 12
 
 # How many lines are sent to an honest disk, and then to one that lies, at the most.
 HONEST_LINES, LYING_LINES = 6, 20
@@ -60,24 +53,14 @@ REPLY = re.compile(rb"((\d+) ROW [^\n]+\n)*\d+ (OK \d+|ERR (90|91|92|94) [^\n]+)
 # The file, and lines over it.
 
 
-def wide_row(place, number):
-    values = b", ".join(b"'%039d%d'" % (number % 7, column % 10) for column in range(WIDE_COLUMNS))
-    return b"INSERT INTO wide ON A FROM %s TO %s VALUES (%s)" % (measure(place), measure(place + 1), values)
-
-
-def measure(place):
-    return b"%d.%03d" % divmod(place, 1000)
-
-
 def first_lines():
-    columns = b", ".join(b"c%d TEXT(40)" % column for column in range(WIDE_COLUMNS))
     yield b"0 DEFINE ROUTE A FROM 0 TO " + measure(ROUTE_END)
-    yield b"0 DEFINE LINE TABLE wide (%s)" % columns
+    yield WIDE_TABLE.removesuffix(b"\n")
     yield b"0 DEFINE LINE TABLE pave (surf TEXT(8))"
     yield b"0 DEFINE INDEX ws ON wide (c1)"
     yield b"0 DEFINE REFERENT A K0 AT 1"
     for number in range(WIDE_ROWS):
-        yield b"0 " + wide_row(GAP * number, number)
+        yield b"0 " + wide_row(b"A", GAP * number, number)
     for number in range(40):
         span = measure(90 * number), measure(90 * number + 50)
         yield b"0 INSERT INTO pave ON A FROM %s TO %s VALUES ('s%d')" % (*span, number % 3)
@@ -118,7 +101,7 @@ class Lines:
         start = self.by.randrange(ROUTE_END - 20)
         end = start + self.by.randrange(1, 20)
         return self.by.choice([
-            wide_row(start, self.by.randrange(9)),
+            wide_row(b"A", start, self.by.randrange(9)),
             b"REMOVE wide ON A FROM %s TO %s" % (measure(start), measure(end)),
             b"INSERT INTO pave ON A FROM %s TO %s VALUES ('s%d')" % (measure(start), measure(end), self.by.randrange(4)),
             b"REMOVE pave ON A FROM %s TO %s WHERE surf = 's1'" % (measure(start), measure(end)),
@@ -185,8 +168,8 @@ class Trial:
         expect("why the file is damaged", found.why, None)
         stored = machine_of(found.state, ChangingMachine)
         expect("how many changes were accepted", stored.changes, self.machine.changes)
-        for line in (b"0 SELECT wide", b"0 SELECT pave AS RELATIVE", b"0 EXPLAIN WHERE(wide, c1 = '1')", b"0 EXPLAIN v"):
-            expect("the file's answer to %r" % line, stored.answer(line), self.machine.answer(line))
+        lines = (b"0 SELECT wide", b"0 SELECT pave AS RELATIVE", b"0 EXPLAIN WHERE(wide, c1 = '1')", b"0 EXPLAIN v")
+        expect_same_answers(stored, self.machine, lines)
 
 
 class Zeros(Trial):
@@ -273,9 +256,7 @@ class OtherBytes(Trial):
 
     def reopen(self, has_changes):
         reply = self.ask(b"0 REOPEN")
-        data = bytearray(self.program.bytes_left())
-        data[OPEN_FLAG] = 0
-        found = read(bytes(data))
+        found = read(as_closed(self.program.bytes_left()))
         expect("REOPEN (%s)" % found.why, reply, b"0 OK 0\n" if found.state else b"0 ERR 94 damaged file\n")
         if not has_changes:
             self.machine.answer(b"0 REOPEN")
@@ -313,20 +294,8 @@ def judged(program, data, name, words):
     return told
 
 
-def base(program):
-    """The bytes of the file."""
-    with program.create(program.file()) as run:
-        expect("the creation", run.end(), WELL)
-    with program.run(program.file()) as run:
-        for line, reply in zip(first_lines(), run.ask_all([line + b"\n" for line in first_lines()])):
-            expect("whether %.60r is accepted" % line, b" OK " in reply, True)
-        expect("the end", run.end(), WELL)
-    return program.bytes_left()
-
-
 def arguments():
-    parser = argparse.ArgumentParser(description=__doc__, formatter_class=argparse.RawDescriptionHelpFormatter)
-    parser.add_argument("--program", default=PROGRAM, metavar="PATH")
+    parser = parser_of(__doc__, PROGRAM)
     parser.add_argument("--lines", type=int, default=SHARE)
     parser.add_argument("--seed", type=int, default=0)
     parser.add_argument("--all", action="store_true", dest="is_all")
@@ -339,11 +308,10 @@ def arguments():
 def main():
     words = arguments()
     faults = []
-    folder = SHARED_MEMORY if os.path.isdir(SHARED_MEMORY) else None
     names = words.disks or list(DISKS)
-    with tempfile.TemporaryDirectory(prefix="roadseg-", dir=folder) as folder:
-        program = Program(os.path.abspath(words.program), build(folder), folder)
-        data = base(program)
+    with scratch_folder() as folder:
+        program = Program(words.program, build(folder), folder)
+        data = program.bytes_after([line + b"\n" for line in first_lines()])
         for name in names:
             try:
                 told = judged(program, data, name, words)
@@ -354,8 +322,7 @@ def main():
                 faults.append("%s: %s" % (name, fault))
     for fault in faults:
         print(fault)
-    print("%d passed, %d failed" % (len(names) - len(faults), len(faults)))
-    return 1 if faults else 0
+    return summary(len(names) - len(faults), len(faults))
 
 
 if __name__ == "__main__":

@@ -8,7 +8,6 @@ has no more memory than after the first hundred. 800 peers connect by default, 1
 wanted, what memory there was, and at last `N passed, M failed`, counted in tests.
 """
 
-import argparse
 import os
 import random
 import socket
@@ -16,7 +15,9 @@ import sys
 import tempfile
 import time
 
-from files_and_peers import LONGEST, PROGRAM, Program, Unexpected, expect, line_sent_to, received, reset, serving
+from files_and_peers import LONGEST, Program, line_sent_to, received, reset, serving
+from harness import Wrong, expect, named, parser_of, summary
+from programs import PROGRAM
 
 SHARE, ALL = 800, 10_000
 FIRST = 100  # peers, after which memory is looked at first
@@ -100,7 +101,7 @@ def a_peer_that_never_reads_keeps_others_waiting(program, _words):
             second.sendall(b"7 SELECT none\n")
             second.settimeout(QUIET)
             try:
-                raise Unexpected("an answer beside a peer that does not read: %r" % second.recv(1))
+                raise Wrong("an answer beside a peer that does not read: %r" % second.recv(1))
             except TimeoutError:
                 second.settimeout(LONGEST)
             memory = memory_of(server.process)
@@ -116,25 +117,22 @@ TESTS = (thousands_of_peers, a_peer_may_take_its_time, a_peer_that_never_reads_k
 
 
 def main():
-    parser = argparse.ArgumentParser(description=__doc__, formatter_class=argparse.RawDescriptionHelpFormatter)
-    parser.add_argument("--program", default=PROGRAM, metavar="PATH")
+    parser = parser_of(__doc__, PROGRAM)
     parser.add_argument("--peers", type=int, default=SHARE)
     parser.add_argument("--seed", type=int, default=0)
     parser.add_argument("--all", action="store_true", dest="is_all")
     parser.add_argument("names", nargs="*", metavar="TEST")
     words = parser.parse_args()
     words.peers = ALL if words.is_all else words.peers
-    tests = [test for test in TESTS if not words.names or test.__name__ in words.names]
-    failed = 0
+    tests, failed = named(TESTS, words.names), 0
     for test in tests:
         with tempfile.TemporaryDirectory(prefix="roadseg-") as folder:
             try:
-                test(Program(os.path.abspath(words.program), folder), words)
-            except (Unexpected, OSError) as fault:
+                test(Program(words.program, folder), words)
+            except (Wrong, OSError) as fault:
                 print("%s: %s" % (test.__name__, fault))
                 failed += 1
-    print("%d passed, %d failed" % (len(tests) - failed, failed))
-    return 1 if failed else 0
+    return summary(len(tests) - failed, failed)
 
 
 if __name__ == "__main__":

@@ -1,10 +1,39 @@
-"""Runs a program over lines, and cuts what it answers into replies."""
+"""Where the built programs are, runs of them over lines, and what they answer, cut into replies."""
 
+import os
+import re
+import select
 import shlex
 import subprocess
+import tempfile
+from contextlib import suppress
 from typing import NamedTuple
 
+from harness import Wrong, expect
+
+ROOT = os.path.dirname(os.path.dirname(os.path.abspath(__file__)))
+SHARED_MEMORY = "/dev/shm"
 LONGEST_RUN = 300  # seconds
+SENT_AT_ONCE = 16_384  # bytes of lines: a pipe holds more
+
+# The last line of a reply.
+FINISH = re.compile(rb"^[0-9]+ (?:OK|ERR) [^\n]*\n", re.MULTILINE)
+
+
+def built(crate):
+    """The path of a crate's program, as the gate builds it."""
+    return os.path.join(ROOT, "crates", crate, "out", crate)
+
+
+PROGRAM = built("roadseg")
+
+
+def scratch_folder(prefix="roadseg-"):
+    """A folder for files of a test, which goes at the end of the context; in memory where the system has that."""
+    return tempfile.TemporaryDirectory(prefix=prefix, dir=SHARED_MEMORY if os.path.isdir(SHARED_MEMORY) else None)
+
+
+# Whole runs.
 
 
 class Answer(NamedTuple):
@@ -27,11 +56,95 @@ def answer_of(program, data, longest=LONGEST_RUN):
 
 
 def replies_of(out):
-    """The replies one by one: each ends with its OK or ERR line."""
-    replies, reply = [], b""
-    for line in out.splitlines(keepends=True):
-        reply += line
-        if line.split(b" ")[1:2] in ([b"OK"], [b"ERR"]):
-            replies.append(reply)
-            reply = b""
-    return replies + [reply] if reply else replies
+    """The output cut after each line that ends a reply; a rest without one is the last."""
+    ends = [0, *(found.end() for found in FINISH.finditer(out))]
+    replies = [out[start:end] for start, end in zip(ends, ends[1:])]
+    return replies + [out[ends[-1] :]] if ends[-1] < len(out) else replies
+
+
+def expect_answers(answer, lines, replies, title=""):
+    """Expects these replies to lines. The title is put before what is wrong."""
+    if answer.complaint:
+        raise Wrong("%sthe program %s" % (title, answer.complaint))
+    for line, reply, wanted in zip(lines, replies_of(answer.out) + [b""] * len(lines), replies):
+        expect("%s%.300r" % (title, line), reply, wanted)
+
+
+# Runs that go on.
+
+
+class Ended(NamedTuple):
+    """How a run ended: its status, and what it wrote to standard output, but for what was read before, and to standard error."""
+
+    status: int
+    out: bytes
+    errors: bytes
+
+
+def batches(lines):
+    """The lines some at a time, of no more bytes than are sent at once, and at least one."""
+    some, length = [], 0
+    for line in lines:
+        if some and length + len(line) > SENT_AT_ONCE:
+            yield some
+            some, length = [], 0
+        some.append(line)
+        length += len(line)
+    if some:
+        yield some
+
+
+class Running:
+    """A run of a program, to which lines are sent. It is ended where nothing else has done so."""
+
+    def __init__(self, words, longest, **settings):
+        """Starts it. A reply or its end may take so many seconds."""
+        pipe = subprocess.PIPE
+        self.process = subprocess.Popen(words, stdin=pipe, stdout=pipe, stderr=pipe, bufsize=0, **settings)
+        self.longest = longest
+        self.poll = select.poll()
+        self.poll.register(self.process.stdout, select.POLLIN)
+
+    def __enter__(self):
+        return self
+
+    def __exit__(self, *_fault):
+        self.process.kill()
+        self.process.wait()
+        for stream in (self.process.stdin, self.process.stdout, self.process.stderr):
+            stream.close()
+
+    def ask(self, line):
+        """The reply to a line."""
+        return self.ask_all([line])[0]
+
+    def ask_all(self, lines):
+        """The replies to lines, some of which are sent at once."""
+        found = []
+        for some in batches(lines):
+            self.send(b"".join(some))
+            found += self.replies(len(some))
+        return found
+
+    def send(self, sent):
+        """Sends bytes, as long as the program has not ended."""
+        with suppress(BrokenPipeError):
+            self.process.stdin.write(sent)
+
+    def replies(self, count):
+        """The next replies."""
+        raise NotImplementedError
+
+    def piece(self):
+        """What it writes next; nothing where it has ended."""
+        if not self.poll.poll(self.longest * 1_000):
+            raise Wrong("no reply within %d seconds" % self.longest)
+        return os.read(self.process.stdout.fileno(), 65_536)
+
+    def end(self):
+        """How it ends by itself once its input does."""
+        try:
+            out, errors = self.process.communicate(timeout=self.longest)
+        except subprocess.TimeoutExpired:
+            raise Wrong("no end within %d seconds" % self.longest) from None
+        return Ended(self.process.returncode, out, errors)

@@ -146,22 +146,20 @@ class RandomLines(Commands):
 
     def first_events(self):
         """Some events, so that the first queries have rows."""
-        for _ in range(45 if self.kind == "short" else 12):
-            tokens, effect = self.insert()
-            yield self.flawless(tokens)
-            effect()
+        return self.first_of(self.insert, 45 if self.kind == "short" else 12)
 
     def first_alignments(self):
         """Some alignments, so that the first queries have rows that were carried."""
-        for _ in range(3):
-            tokens, effect = self.define_alignment()
-            yield self.flawless(tokens)
-            effect()
+        return self.first_of(self.define_alignment, 3)
 
     def first_indexes(self):
         """Some indexes, so that the first plans have them."""
-        for _ in range(8):
-            tokens, effect = self.define_index()
+        return self.first_of(self.define_index, 8)
+
+    def first_of(self, write, count):
+        """So many lines of a command, each of which takes effect."""
+        for _ in range(count):
+            tokens, effect = write()
             yield self.flawless(tokens)
             effect()
 

@@ -29,29 +29,25 @@ says how many at the most. It prints how refusals were told, what is not as want
 `N passed, M failed`, counted in runs.
 """
 
-import argparse
 import itertools
 import multiprocessing
 import os
 import re
 import sys
-import tempfile
 from bisect import bisect_left
 from collections import Counter
 from typing import NamedTuple
 
-from conversations import conversations_of
-from refusing import NOTHING, Counts, Ended, Program, Refusal, Wrong, build, expect
+from conversations import FOLDER, exchanges_of
+from harness import Wrong, expect, parser_of, summary
+from programs import PROGRAM, Ended, scratch_folder
+from refusing import NOTHING, WELL, Counts, Program, Refusal, build
+from slow_pages import FLAG_PLACE, as_closed
 from worked import WORKED
 
-HERE = os.path.dirname(os.path.abspath(__file__))
-FOLDER = os.path.join(HERE, "conversations")
-PROGRAM = os.path.join(os.path.dirname(HERE), "crates", "roadseg", "out", "roadseg")
-SHARED_MEMORY = "/dev/shm"
 FAULTS_SHOWN = 20
 FORKING = multiprocessing.get_context("fork")  # what is to be done is not sent to the processes: they begin with it
 RUNS_OF_A_TASK = 25
-OPEN_FLAG = 28  # the place of its byte
 SHORT = 1_000  # bytes of a short read or write
 MOST_HELD = 1_024  # changed pages: a step that finds more writes them home before it begins
 
@@ -80,7 +76,6 @@ EXHAUSTED = b"roadseg: ERR 90 out of memory\n"
 DISK_FAULT = b"roadseg: ERR 91 disk\n"
 DAMAGED = b"roadseg: ERR 94 damaged file\n"
 NOT_CLOSED = b"roadseg: ERR 95 file not closed\n"
-WELL = Ended(0, b"", b"")
 
 # The commands that change nothing where they are accepted, and the refusals of lines that are no text with a session.
 QUERY = re.compile(rb"[0-9]+ +(SELECT|TOTAL|TRANSLATE|EXPLAIN) ")
@@ -273,8 +268,7 @@ class Judge:
             return
         left, data = self.program.bytes_left(), self.held.data
         if self.kind in ("write", "sync"):
-            put_back = left[:OPEN_FLAG] + data[OPEN_FLAG:OPEN_FLAG + 1] + left[OPEN_FLAG + 1:]
-            expect("the file but for its flag", put_back == data, True)
+            expect("the file but for its flag", as_closed(left) == as_closed(data), True)
             self.how += ", the file as it was" if left == data else ", the flag set"
         else:
             expect("the file", left == data, True)
@@ -295,7 +289,7 @@ class Judge:
 
     def judge_left(self, is_well):
         """The file that is left is closed, as it has to be where all is well, and answered from as before; or it is refused."""
-        is_closed = self.program.bytes_left()[OPEN_FLAG] == 0
+        is_closed = self.program.bytes_left()[FLAG_PLACE] == 0
         expect("whether the file is closed", is_closed or not is_well, True)
         queries = self.held.queries_at(self.program, len(self.held.lines))
         is_answered = is_answered_over(self.program, queries, [DAMAGED, NOT_CLOSED])
@@ -485,13 +479,12 @@ def refuse_all(words):
     return every, faults
 
 
-def script_at(path):
-    """The conversation of a file."""
-    [conversation] = conversations_of(path)
-    exchanges = [(bytes(exchange.sent), bytes(exchange.wanted)) for exchange in conversation.exchanges]
+def script_of(name):
+    """The conversation of this name."""
+    exchanges = exchanges_of(name)
     lines = [Line(sent, wanted) for sent, wanted in exchanges if sent.endswith(b"\n")]
     tail = b"".join(sent for sent, _wanted in exchanges if not sent.endswith(b"\n"))
-    return Script(os.path.basename(path).removesuffix(".txt"), lines, tail)
+    return Script(name, lines, tail)
 
 
 def names_of(words):
@@ -506,8 +499,7 @@ def names_of(words):
 
 
 def arguments():
-    parser = argparse.ArgumentParser(description=__doc__, formatter_class=argparse.RawDescriptionHelpFormatter)
-    parser.add_argument("--program", default=PROGRAM, metavar="PATH")
+    parser = parser_of(__doc__, PROGRAM)
     parser.add_argument("--jobs", type=int, default=os.cpu_count() or 1, metavar="N")
     parser.add_argument("--worked", action="store_true", dest="is_worked")
     parser.add_argument("--all", action="store_true", dest="is_all")
@@ -522,10 +514,9 @@ def arguments():
 
 def main():
     words = arguments()
-    folder = SHARED_MEMORY if os.path.isdir(SHARED_MEMORY) else None
-    with tempfile.TemporaryDirectory(prefix="roadseg-", dir=folder) as folder:
-        Work.program = Program(os.path.abspath(words.program), build(folder), folder)
-        scripts = [script_at(os.path.join(FOLDER, name + ".txt")) for name in names_of(words)]
+    with scratch_folder() as folder:
+        Work.program = Program(words.program, build(folder), folder)
+        scripts = [script_of(name) for name in names_of(words)]
         # one that is a cut line alone has no replies, by which a start is told from an end
         faults = prepare([script for script in scripts if script.lines], words.jobs)
         told, found = refuse_all(words)
@@ -534,8 +525,7 @@ def main():
         print(fault)
     for kind in sorted({kind for kind, _how in told}):
         print("%s: %s" % (kind, ", ".join("%s %d" % (how, count) for (one, how), count in sorted(told.items()) if one == kind)))
-    print("%d passed, %d failed" % (len(Work.turns) + sum(told.values()), len(faults)))
-    return 1 if faults else 0
+    return summary(len(Work.turns) + sum(told.values()), len(faults))
 
 
 if __name__ == "__main__":

@@ -11,41 +11,33 @@ and device calls are refused as N says, evenly spread. It prints how refusals we
 `N passed, M failed`, counted in runs.
 """
 
-import argparse
 import os
 import sys
-import tempfile
 from collections import Counter
 
-from refusals import EACH, FAULTS_SHOWN, FORKING, PROGRAM, WELL, Held, Line, Script, Work, judged, numbers_of, parts_of
-from refusing import Program, Refusal, Wrong, build, expect
+from harness import Wrong, parser_of, summary
+from programs import PROGRAM, scratch_folder
+from refusals import EACH, FAULTS_SHOWN, FORKING, Held, Line, Script, Work, judged, numbers_of, parts_of
+from refusing import Program, Refusal, build
 from slow_machine import Machine
+from wide_rows import WIDE_TABLE, wide_row
 
 SHARE = 120
-ROWS, COLUMNS, GAP = 2_400, 12, 3  # more pages than are kept
+ROWS, GAP = 2_400, 3  # more pages than are kept
 ROUTE = b"7.300"
 QUERIES = (b"0 SELECT WINDOW(wide, A FROM 0.100 TO 0.130)\n", b"0 SELECT WINDOW(wide, A FROM 6.9 TO 6.93) AS RELATIVE\n",
            b"0 TOTAL WINDOW(wide, B) BY (c1)\n", b"0 EXPLAIN v\n", b"0 TRANSLATE A @K0 AS ABSOLUTE\n")  # fmt: skip
 
 
-def measure(place):
-    return b"%d.%03d" % divmod(place, 1000)
-
-
-def wide_row(route, place, number):
-    values = b", ".join(b"'%039d%d'" % (number % 7, column % 10) for column in range(COLUMNS))
-    return b"0 INSERT INTO wide ON %s FROM %s TO %s VALUES (%s)\n" % (route, measure(place), measure(place + 1), values)
-
-
 def load():
     yield b"0 DEFINE ROUTE A FROM 0 TO %s\n" % ROUTE
     yield b"0 DEFINE ROUTE B FROM 0 TO 1\n"
-    yield b"0 DEFINE LINE TABLE wide (%s)\n" % b", ".join(b"c%d TEXT(40)" % column for column in range(COLUMNS))
+    yield WIDE_TABLE
     yield b"0 DEFINE REFERENT A K0 AT 1\n"
     yield b"0 DEFINE ALIGNMENT re (A FROM 0 TO 1 INTO B AT 0)\n"
     yield b"0 DEFINE VIEW v AS DISSOLVE(WINDOW(wide, A FROM 3 TO 7), (c2))\n"
     for number in range(ROWS):
-        yield wide_row(b"A", GAP * number, number)
+        yield b"0 %s\n" % wide_row(b"A", GAP * number, number)
 
 
 def report():
@@ -55,7 +47,7 @@ def report():
     yield b"2 OPEN c FOR WINDOW(wide, A FROM 5 TO 6)\n"
     for turn in range(3):
         yield b"1 FETCH c 2\n"
-        yield wide_row(b"A", 3_001 + GAP * turn, turn)
+        yield b"0 %s\n" % wide_row(b"A", 3_001 + GAP * turn, turn)
         yield b"0 MOVE REFERENT A K0 TO 3.00%d\n" % turn
         yield b"1 FETCH d 2\n"
         yield b"0 REMOVE wide ON A FROM 5 TO 5.050\n"
@@ -97,17 +89,6 @@ def answered(machine):
     return [Line(query, machine.answer(query[:-1])) for query in QUERIES]
 
 
-def base(program):
-    """The bytes of the file."""
-    with program.create(program.file()) as run:
-        expect("the creation", run.end(), WELL)
-    with program.run(program.file()) as run:
-        for line, reply in zip(load(), run.ask_all(load())):
-            expect("whether %.60r is accepted" % line, b" OK " in reply, True)
-        expect("the end", run.end(), WELL)
-    return program.bytes_left()
-
-
 def refusals_of(held, most):
     """What is refused: each growth and each device call of a FETCH, or so many of them."""
     refusals = []
@@ -121,8 +102,7 @@ def refusals_of(held, most):
 
 
 def arguments():
-    parser = argparse.ArgumentParser(description=__doc__, formatter_class=argparse.RawDescriptionHelpFormatter)
-    parser.add_argument("--program", default=PROGRAM, metavar="PATH")
+    parser = parser_of(__doc__, PROGRAM)
     parser.add_argument("--jobs", type=int, default=os.cpu_count() or 1, metavar="N")
     parser.add_argument("--most", type=int, default=SHARE, metavar="N")
     parser.add_argument("--all", action="store_true", dest="is_all")
@@ -134,10 +114,9 @@ def arguments():
 def main():
     words = arguments()
     told, faults = Counter(), []
-    folder = "/dev/shm" if os.path.isdir("/dev/shm") else None
-    with tempfile.TemporaryDirectory(prefix="roadseg-", dir=folder) as folder:
-        program = Work.program = Program(os.path.abspath(words.program), build(folder), folder)
-        held = Report(base(program))
+    with scratch_folder() as folder:
+        program = Work.program = Program(words.program, build(folder), folder)
+        held = Report(program.bytes_after(list(load())))
         held.count(program)
         Work.turns = [held]
         refusals = refusals_of(held, words.most)
@@ -149,8 +128,7 @@ def main():
     for fault in faults[:FAULTS_SHOWN]:
         print(fault)
     print(", ".join("%s %s %d" % (*key, count) for key, count in sorted(told.items())))
-    print("%d passed, %d failed" % (sum(told.values()), len(faults)))
-    return 1 if faults else 0
+    return summary(sum(told.values()), len(faults))
 
 
 if __name__ == "__main__":

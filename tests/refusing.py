@@ -3,20 +3,19 @@ tells of it."""
 
 import mmap
 import os
-import re
-import select
 import struct
 import subprocess
 from typing import NamedTuple
+
+from harness import Wrong, bytes_at, expect
+from programs import FINISH, Ended, Running
 
 HERE = os.path.dirname(os.path.abspath(__file__))
 SOURCE = os.path.join(HERE, "refusing.c")
 LONGEST = 60  # seconds that a reply or an end may take
 
-SENT_AT_ONCE = 16_384  # bytes of lines: a pipe holds more
-
-# The last line of a reply.
-FINISH = re.compile(rb"^[0-9]+ (?:OK|ERR) [^\n]*\n", re.MULTILINE)
+# The end of a run in which nothing is wrong.
+WELL = Ended(0, b"", b"")
 
 # What the library tells: how many calls of each kind were made, which kind was refused, whether the program came to its end, how
 # many calls were false, how many bytes reads asked for, and how many bytes of memory are in use and were at the most.
@@ -27,15 +26,6 @@ REFUSED, HAS_ENDED, LIES, BYTES_READ, _MEMORY, MOST_MEMORY = range(len(KINDS), l
 # What it is asked to do from now on.
 ASKED = struct.Struct("@6L")
 ZEROS, OTHER_BYTES = 1, 2
-
-
-class Wrong(Exception):
-    """Something is not as wanted."""
-
-
-def expect(what, got, wanted):
-    if got != wanted:
-        raise Wrong("%s: wanted %.300r, got %.300r" % (what, wanted, got))
 
 
 def build(folder):
@@ -95,29 +85,8 @@ class Counts(NamedTuple):
         return sum(self) - self.growths
 
 
-class Ended(NamedTuple):
-    """How a run ended: its status, and what it wrote after its last reply and to standard error."""
-
-    status: int
-    out: bytes
-    errors: bytes
-
-
-def batches(lines):
-    """The lines some at a time, of no more bytes than are sent at once, and at least one."""
-    some, length = [], 0
-    for line in lines:
-        if some and length + len(line) > SENT_AT_ONCE:
-            yield some
-            some, length = [], 0
-        some.append(line)
-        length += len(line)
-    if some:
-        yield some
-
-
-class Run:
-    """A run of the program, to which lines are sent."""
+class Run(Running):
+    """A run of the program, with the library loaded before it."""
 
     def __init__(self, program, words, refusal):
         told = os.memfd_create("told")
@@ -125,49 +94,18 @@ class Run:
         self.told = mmap.mmap(told, TOLD.size + ASKED.size)
         self.is_noted = False
         settings = dict(os.environ, LD_PRELOAD=program.library, REFUSED_TOLD=str(told), **refusal.settings())
-        pipe = subprocess.PIPE
-        self.process = subprocess.Popen([program.path, *words], stdin=pipe, stdout=pipe, stderr=pipe, bufsize=0,
-                                        env=settings, pass_fds=[told])
+        super().__init__([program.path, *words], LONGEST, env=settings, pass_fds=[told])
         os.close(told)
-        self.poll = select.poll()
-        self.poll.register(self.process.stdout, select.POLLIN)
 
-    def __enter__(self):
-        return self
-
-    def __exit__(self, *_fault):
-        self.process.kill()
-        self.process.wait()
-        for stream in (self.process.stdin, self.process.stdout, self.process.stderr):
-            stream.close()
+    def __exit__(self, *fault):
+        super().__exit__(*fault)
         self.told.close()
-
-    def ask(self, line):
-        """The reply to a line, or what is written before the program ends."""
-        self.send(line)
-        return self.replies(1)[0]
-
-    def ask_all(self, lines):
-        """The replies to lines, some of which are sent at once."""
-        found = []
-        for some in batches(lines):
-            self.send(b"".join(some))
-            found += self.replies(len(some))
-        return found
-
-    def send(self, sent):
-        try:
-            self.process.stdin.write(sent)
-        except BrokenPipeError:
-            pass
 
     def replies(self, count):
         """The next replies. Where the program ends before, one is what it had written of it, and others are empty."""
         data, ends, seen = bytearray(), [0], 0
         while len(ends) <= count:
-            if not self.poll.poll(LONGEST * 1_000):
-                raise Wrong("no reply within %d seconds" % LONGEST)
-            piece = os.read(self.process.stdout.fileno(), 65_536)
+            piece = self.piece()
             if not piece:
                 break
             data += piece
@@ -203,14 +141,10 @@ class Run:
     def end(self, tail=b""):
         """How the run ends by itself once its input does, after a cut line."""
         self.send(tail)
-        try:
-            out, errors = self.process.communicate(timeout=LONGEST)
-        except subprocess.TimeoutExpired:
-            raise Wrong("no end within %d seconds" % LONGEST) from None
+        ended = super().end()
         if not self.told_now()[HAS_ENDED]:
-            how = (self.process.returncode, errors)
-            raise Wrong("it did not end by itself, or without refusing.c: status %d, %.300r" % how)
-        return Ended(self.process.returncode, out, errors)
+            raise Wrong("it did not end by itself, or without refusing.c: status %d, %.300r" % (ended.status, ended.errors))
+        return ended
 
 
 class Program(NamedTuple):
@@ -240,5 +174,14 @@ class Program(NamedTuple):
 
     def bytes_left(self):
         """The bytes of that file."""
-        with open(self.file(), "rb") as file:
-            return file.read()
+        return bytes_at(self.file())
+
+    def bytes_after(self, lines):
+        """The bytes of that file once it is created and told these lines, each of which is accepted."""
+        with self.create(self.file()) as run:
+            expect("the creation", run.end(), WELL)
+        with self.run(self.file()) as run:
+            for line, reply in zip(lines, run.ask_all(lines)):
+                expect("whether %.60r is accepted" % line, b" OK " in reply, True)
+            expect("the end", run.end(), WELL)
+        return self.bytes_left()

@@ -8,24 +8,18 @@ how many clean pages are held, and how many records are dead. PATH is `crates/rs
 of a function of the list TESTS. It prints what is not as wanted, and at last `N passed, M failed`.
 """
 
-import argparse
-import concurrent.futures
 import os
 import random
 import re
-import select
-import subprocess
 import sys
-import tempfile
 from typing import NamedTuple
 
-from files_and_peers import WIDE_TABLE, Ended, Unexpected, as_closed, bytes_at, expect
-from refusing import batches
+from harness import Wrong, bytes_at, expect, run_tests
+from programs import Ended, Running, built
 from slow_file import read
-from slow_pages import PAGE_BYTES, Pages
+from slow_pages import PAGE_BYTES, Pages, as_closed
+from wide_rows import WIDE_TABLE, measure
 
-HERE = os.path.dirname(os.path.abspath(__file__))
-PROGRAM = os.path.join(os.path.dirname(HERE), "crates", "rs_room", "out", "rs_room")
 LONGEST = 600  # seconds that a reply or an end may take
 SEED = 0
 
@@ -60,44 +54,19 @@ class Told(NamedTuple):
         return self.reply.splitlines()[-1].split(b" ")[1] == b"OK"
 
 
-class Room:
+class Room(Running):
     """A run of the program, over a file within a limit of pages, or in memory."""
 
     def __init__(self, program, *words):
-        pipe = subprocess.PIPE
-        words = [program, *map(str, words)]
-        self.process = subprocess.Popen(words, stdin=pipe, stdout=pipe, stderr=pipe, bufsize=0)
-        self.poll = select.poll()
-        self.poll.register(self.process.stdout, select.POLLIN)
+        super().__init__([program, *map(str, words)], LONGEST)
 
-    def __enter__(self):
-        return self
-
-    def __exit__(self, *_fault):
-        self.process.kill()
-        self.process.communicate()
-
-    def ask(self, line):
-        """What is told of a line."""
-        return self.ask_all([line])[0]
-
-    def ask_all(self, lines):
-        """What is told of each of some lines."""
-        told = []
-        for some in batches(lines):
-            self.process.stdin.write(b"".join(some))
-            told += self.told(len(some))
-        return told
-
-    def told(self, count):
+    def replies(self, count):
         """What is told of the next lines, so many."""
         data, found = bytearray(), []
         while len(found) < count:
-            if not self.poll.poll(LONGEST * 1_000):
-                raise Unexpected("no reply within %d seconds" % LONGEST)
-            piece = os.read(self.process.stdout.fileno(), 1 << 20)
+            piece = self.piece()
             if not piece:
-                raise Unexpected("it ended after %d of %d replies: %.300r" % (len(found), count, self.end()))
+                raise Wrong("it ended after %d of %d replies: %.300r" % (len(found), count, self.end()))
             data += piece
             if piece.endswith(b"\n"):
                 found = list(HELD.finditer(data))
@@ -110,10 +79,6 @@ class Room:
         for line, one in zip(lines, told):
             expect("%.80r is accepted" % line, (one.is_ok(), one.reply if not one.is_ok() else b""), (True, b""))
         return told
-
-    def end(self):
-        out, errors = self.process.communicate(timeout=LONGEST)
-        return Ended(self.process.returncode, out, errors)
 
     def expect_end(self):
         expect("the end", self.end(), Ended(0, b"", b""))
@@ -150,10 +115,6 @@ def removed(number):
 
 def span(number):
     return b"%s TO %s" % (measure(2 * number), measure(2 * number + 1))
-
-
-def measure(thousandths):
-    return b"%d.%03d" % divmod(thousandths, 1000)
 
 
 def row_line(number, session=0):
@@ -355,7 +316,7 @@ def fill(room):
             expect("the refusal of a row", told.reply, FULL)
             expect("many rows fit: %d" % number, number > 2 * FEW_PAGES, True)
             return number
-    raise Unexpected("more rows than there is room for")
+    raise Wrong("more rows than there is room for")
 
 
 def expect_full(room, number, wanted):
@@ -377,31 +338,5 @@ TESTS = [
 ]
 
 
-def fault_of(test, path):
-    """What is wrong in one test, or None."""
-    with tempfile.TemporaryDirectory(prefix="roadseg-") as folder:
-        try:
-            test(Program(path, folder))
-        except (Unexpected, OSError, subprocess.SubprocessError) as fault:
-            return "%s: %s" % (test.__name__, fault)
-    return None
-
-
-def main():
-    parser = argparse.ArgumentParser(description="Tests what an engine holds in memory, and a file of few pages.")
-    parser.add_argument("--program", default=PROGRAM, metavar="PATH")
-    parser.add_argument("--jobs", type=int, default=os.cpu_count() or 1, metavar="N")
-    parser.add_argument("names", nargs="*", metavar="TEST")
-    words = parser.parse_args()
-    path = os.path.abspath(words.program)
-    tests = [test for test in TESTS if not words.names or test.__name__ in words.names]
-    with concurrent.futures.ThreadPoolExecutor(words.jobs) as pool:
-        faults = [fault for fault in pool.map(lambda test: fault_of(test, path), tests) if fault]
-    for fault in faults:
-        print(fault)
-    print("%d passed, %d failed" % (len(tests) - len(faults), len(faults)))
-    return 1 if faults else 0
-
-
 if __name__ == "__main__":
-    sys.exit(main())
+    sys.exit(run_tests("Tests what an engine holds in memory, and a file of few pages.", TESTS, Program, built("rs_room")))

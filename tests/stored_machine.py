@@ -5,8 +5,9 @@ it would carry out as a change is `Changing`. Of a table with a span too long fo
 that were read, and no more: a command whose answer comes of such thousandths is `TooLong`.
 """
 
+from harness import Wrong, bytes_at, expect
 from slow_commands import DefineIndex, Named, Piece, parts_of, refuse_if
-from slow_file import query_of
+from slow_file import query_of, read
 from slow_machine import MOST_CHANGES, Machine
 from slow_queries import View, size_of
 from slow_tables import Route, Table
@@ -83,6 +84,20 @@ def machine_of(state, kind=StoredMachine):
     for name in queries:
         put_view(machine, name, queries)
     return machine
+
+
+def machine_at(path):
+    """The machine, which carries out changes too, in the state of a file, which has to stand for one."""
+    found = read(bytes_at(path))
+    if found.state is None:
+        raise Wrong("the slow reader says of the file %s, %s" % (found.answer.decode(), found.why))
+    return machine_of(found.state, ChangingMachine)
+
+
+def expect_same_answers(stored, machine, lines):
+    """The machine of a file answers lines as another one does."""
+    for line in lines:
+        expect("the file's answer to %r" % line, stored.answer(line), machine.answer(line))
 
 
 def contents_of(machine):

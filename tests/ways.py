@@ -10,17 +10,15 @@ import os
 import random
 import re
 import shlex
-import tempfile
 from bisect import bisect_right
 from typing import NamedTuple
 
-from programs import LONGEST_RUN, Answer, answer_of, replies_of
+from harness import bytes_at
+from programs import LONGEST_RUN, PROGRAM, Answer, answer_of, replies_of, scratch_folder
 from slow_file import read
 from slow_pages import Pages
 
-HERE = os.path.dirname(os.path.abspath(__file__))
-PROGRAM = shlex.quote(os.path.join(os.path.dirname(HERE), "crates", "roadseg", "out", "roadseg")) + " run"
-SHARED_MEMORY = "/dev/shm"
+RUN = shlex.quote(PROGRAM) + " run"
 
 # The ways, and what is said before a fault of each.
 WAYS = {"memory": "", "file": "over a file: ", "cut": "in several runs: ", "beside": "beside other cursors: "}
@@ -44,7 +42,7 @@ class Roadseg(NamedTuple):
 def add_options(parser):
     """Adds the options that say which program it is, and in which ways it answers."""
     names = ",".join(WAYS)
-    parser.add_argument("--program", default=PROGRAM, metavar="CMD", help="answers lines (default: as the gate built it)")
+    parser.add_argument("--program", default=RUN, metavar="CMD", help="answers lines (default: as the gate built it)")
     parser.add_argument("--create", metavar="CMD", help="creates a file (default: the first word of CMD, and `create`)")
     parser.add_argument("--ways", type=ways_named, default=list(WAYS), metavar="WAYS", help="some of %s" % names)
 
@@ -70,8 +68,7 @@ def answer_in(way, program, lines, replies, longest=LONGEST_RUN):
         return answer_beside_cursors(program, lines, replies, longest)
     bounds = [0, *(cuts_of(lines, replies) if way == "cut" else []), len(lines)]
     parts = [b"".join(lines[first:end]) for first, end in zip(bounds, bounds[1:])]
-    folder = SHARED_MEMORY if os.path.isdir(SHARED_MEMORY) else None
-    with tempfile.TemporaryDirectory(prefix="roadseg-", dir=folder) as folder:
+    with scratch_folder() as folder:
         file = os.path.join(folder, "file")
         over = " --file " + shlex.quote(file)
         answers = [answer_of(program.create + over, b"", longest)]
@@ -106,8 +103,7 @@ def with_other_cursors(lines, replies):
 def complaint_of(path, is_clear):
     """What is wrong with a file that was closed: it stands for no state, or has records that no version sees any more. Those that a
     cursor saw may be there unless it is clear: where a cursor was open at the end, nobody cleared them."""
-    with open(path, "rb") as file:
-        data = file.read()
+    data = bytes_at(path)
     found = read(data)
     if found.state is None:
         return "the slow reader says of the file %s, %s" % (found.answer.decode(), found.why)

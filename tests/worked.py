@@ -3,12 +3,6 @@
 Tests that are too long for every conversation take these.
 """
 
-import os
-
-from conversations import conversations_of
-
-FOLDER = os.path.join(os.path.dirname(os.path.abspath(__file__)), "conversations")
-
 WORKED = (
     "empty-table-has-no-rows",
     "touching-spans-join",
@@ -34,13 +28,3 @@ WORKED = (
 
 # Of these nothing is changed on the way: most of their lines are refused.
 REFUSED = ("refused-inserts-change-nothing", "lines-that-are-no-commands")
-
-
-def path_of(name):
-    return os.path.join(FOLDER, name + ".txt")
-
-
-def exchanges_of(name):
-    """What is sent in a conversation, and answered."""
-    [conversation] = conversations_of(path_of(name))
-    return [(bytes(exchange.sent), bytes(exchange.wanted)) for exchange in conversation.exchanges]

@@ -2,12 +2,10 @@
    removal of each row in another. A line of the text is a route's number, two measures in thousandths, a text of at most eight bytes
    and a number, with blanks between them; all lines are read before anything is timed. Prints nanoseconds. */
 
+#include "../beside.h"
+
 #include <inttypes.h>
-#include <sqlite3.h>
-#include <stdio.h>
-#include <stdlib.h>
 #include <string.h>
-#include <time.h>
 
 struct row {
     int route, low, high, lanes;
@@ -16,27 +14,6 @@ struct row {
 
 static struct row *rows;
 static size_t count;
-
-static void stop(sqlite3 *base) {
-    fprintf(stderr, "%s\n", sqlite3_errmsg(base));
-    exit(1);
-}
-
-static void run(sqlite3 *base, const char *text) {
-    if (sqlite3_exec(base, text, 0, 0, 0) != SQLITE_OK) stop(base);
-}
-
-static sqlite3_stmt *prepared(sqlite3 *base, const char *text) {
-    sqlite3_stmt *statement;
-    if (sqlite3_prepare_v2(base, text, -1, &statement, 0) != SQLITE_OK) stop(base);
-    return statement;
-}
-
-static uint64_t now(void) {
-    struct timespec time;
-    clock_gettime(CLOCK_MONOTONIC, &time);
-    return (uint64_t)time.tv_sec * 1000000000u + (uint64_t)time.tv_nsec;
-}
 
 static void read_rows(const char *path) {
     FILE *file = fopen(path, "r");

@@ -2,39 +2,16 @@
    for one record, and searches for what overlaps a span, by the key and by an rtree. A record is the key of a table without
    rowids. Prints nanoseconds, as main.rt.in does. */
 
+#include "../beside.h"
+
 #include <inttypes.h>
-#include <sqlite3.h>
-#include <stdio.h>
-#include <stdlib.h>
 #include <string.h>
-#include <time.h>
 
 enum { WIDTH = 40, ROUTES = 100, WHOLE = 3, INTERVALS = 1000 };
 
 static const uint64_t STRIDE = 15485863;
 
 static uint64_t count;
-
-static void stop(sqlite3 *base) {
-    fprintf(stderr, "%s\n", sqlite3_errmsg(base));
-    exit(1);
-}
-
-static void run(sqlite3 *base, const char *text) {
-    if (sqlite3_exec(base, text, 0, 0, 0) != SQLITE_OK) stop(base);
-}
-
-static sqlite3_stmt *prepared(sqlite3 *base, const char *text) {
-    sqlite3_stmt *statement;
-    if (sqlite3_prepare_v2(base, text, -1, &statement, 0) != SQLITE_OK) stop(base);
-    return statement;
-}
-
-static uint64_t now(void) {
-    struct timespec time;
-    clock_gettime(CLOCK_MONOTONIC, &time);
-    return (uint64_t)time.tv_sec * 1000000000u + (uint64_t)time.tv_nsec;
-}
 
 static uint64_t on_route(void) {
     uint64_t records = count / ROUTES;

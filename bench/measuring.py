@@ -1,0 +1,47 @@
+"""What the benches share: where the program is, the words that they take, sqlite3's side in C, what memory a process has, and how
+what is measured grows."""
+
+import argparse
+import math
+import os
+import re
+import subprocess
+import sys
+
+ROOT = os.path.dirname(os.path.dirname(os.path.abspath(__file__)))
+PROGRAM = os.path.join("crates", "roadseg", "out", "roadseg")
+RUN = PROGRAM + " run"
+
+
+def numbers_of(text):
+    """The numbers of a list with commas between."""
+    return [int(number) for number in text.split(",")]
+
+
+def parser_of(description, **defaults):
+    """A parser with an option for each of these names, whose value is of its default's type."""
+    parser = argparse.ArgumentParser(description=description, formatter_class=argparse.RawDescriptionHelpFormatter)
+    for name, default in defaults.items():
+        parser.add_argument("--" + name, type=numbers_of if isinstance(default, list) else type(default), default=default)
+    return parser
+
+
+def built_beside(bench, folder):
+    """The path of sqlite3's side of a bench, which is built into a folder."""
+    program = os.path.join(folder, "beside")
+    source = os.path.join(ROOT, "bench", bench, "beside.c")
+    if subprocess.run(["cc", "-O2", "-o", program, source, "-lsqlite3"], check=False).returncode != 0:
+        sys.exit("sqlite3's side could not be built")
+    return program
+
+
+def kilobytes_of(process, name):
+    """What memory a process has, by the system's name for it: VmRSS is what it has now, VmHWM at the most so far."""
+    with open("/proc/%d/status" % process.pid, encoding="ascii") as status:
+        return int(re.search(name + r":\s+(\d+) kB", status.read())[1])
+
+
+def exponent_of(measured):
+    """The growth exponent of what was measured of each size, from the first size to the last one."""
+    sizes = list(measured)
+    return math.log(measured[sizes[-1]] / measured[sizes[0]]) / math.log(sizes[-1] / sizes[0])
