@@ -8,7 +8,6 @@ has no more memory than after the first hundred. 800 peers connect by default, 1
 wanted, what memory there was, and at last `N passed, M failed`, counted in tests.
 """
 
-import os
 import random
 import socket
 import sys
@@ -21,7 +20,7 @@ from programs import PROGRAM
 
 SHARE, ALL = 800, 10_000
 FIRST = 100  # peers, after which memory is looked at first
-GROWTH = 64 * 1024  # bytes that a process may have more: what the system counts it by is four pages and more at a time
+GROWTH = 64 * 1024  # bytes that a process may have more
 PAUSE, LONG_PAUSE = 0.1, 1  # seconds between the bytes of a slow peer
 QUIET = 2  # seconds in which nothing comes to who waits
 
@@ -44,9 +43,10 @@ def created(program):
 
 
 def memory_of(process):
-    """Bytes of memory that a process has."""
-    with open("/proc/%d/statm" % process.pid, encoding="ascii") as file:
-        return int(file.read().split()[1]) * os.sysconf("SC_PAGE_SIZE")
+    """Bytes of memory that a process has, counted page by page: the counts in `statm` may be some pages off for each processor."""
+    with open("/proc/%d/smaps_rollup" % process.pid, encoding="ascii") as file:
+        resident = next(line for line in file if line.startswith("Rss:"))
+    return int(resident.split()[1]) * 1024
 
 
 def thousands_of_peers(program, words):
