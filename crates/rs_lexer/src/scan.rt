@@ -3,6 +3,7 @@
 //! It stops at the byte that no token goes on with, so a line is scanned in linear time.
 
 ghost use Rattle.std.specs.Prelude.{◌≡◌, ℕ, ◌+◌, ◌<◌, ◌≤◌, true, false, if◌then◌else◌, length, take, MatchOption, None};
+ghost use Rattle.std.specs.Str.{bytes_eq};
 ghost use Rattle.rs_grammar.specs.Words.{is_word_byte};
 ghost use Rattle.rs_lexer.specs.Lexis.{kind_in, word_kind, single_kind, token_kind, IsLongestToken};
 ghost use Rattle.rs_lexer.specs.Scanning.{rows_of, after, accepts, is_dead, kind_at, run};
@@ -36,12 +37,19 @@ pub enum State {
     Dead,
 }
 
+// Whether these bytes are the word. Most words of a table have another length, which tells it at once.
+fn is_word(bytes: &[u8], word: &[u8]) -> bool
+    ensures { result ≡ bytes_eq bytes.now word.now }
+{
+    bytes.len() == word.len() && bytes == word
+}
+
 // The kind beside a word in a table.
 fn kind_in(table: &[Reserved], word: &[u8]) -> Option<TokenKind>
     ensures { result ≡ kind_in (rows_of table.now) word.now }
 {
     for row in table {
-        if row.word.as_bytes() == word {
+        if is_word(row.word.as_bytes(), word) {
             return Some(row.kind);
         }
     }

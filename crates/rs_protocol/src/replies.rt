@@ -69,6 +69,9 @@ pub(crate) fn put_rows<W: Write>(writer: &mut W, session: u8, rows: &[String]) -
     ensures { Puts result (flat_map (row_text session) (rows_of rows.now))
         (W.contents writer.old) (W.contents writer.new) }
 {
+    if rows.is_empty() {
+        return Ok(());
+    }
     let mut pending = Pending::new();
     for row in rows {
         put_row(writer, &mut pending, session, row.as_str())?;
