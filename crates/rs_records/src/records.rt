@@ -4,6 +4,7 @@
 //! replaces, removes and truncates.
 
 ghost use Rattle.std.specs.Prelude.{◌≡◌, ℕ, ◌+◌, ◌-◌, ◌*◌, ◌<◌, ◌≤◌, ◌++◌, Some, length, take, drop, slice_get};
+ghost use Rattle.std.specs.List.{copy_within};
 ghost use Rattle.rs_records.specs.Records.{records, keys, IsPlace};
 
 use crate::order::is_below;
@@ -53,8 +54,30 @@ pub fn splice(bytes: &mut [u8], width: usize, count: usize, at: usize, removed: 
     let start = at * width;
     let tail = (at + removed) * width;
     let end = count * width;
-    bytes.copy_within(tail..end, start + added.len());
+    shift(bytes, tail, end, start + added.len());
     bytes[start..start + added.len()].copy_from_slice(added);
+}
+
+/// How many bytes are shifted by way of a copy, at the most: those of a page.
+const SHIFTED_BYTES: usize = 4_096;
+
+/// Copies the bytes from `start` up to `end` to those from `to` on. What is no longer than a page goes by way of a copy, as a whole
+/// and not byte by byte.
+fn shift(bytes: &mut [u8], start: usize, end: usize, to: usize)
+    requires part { start ≤ end }
+    requires inside { end ≤ length bytes.old }
+    requires room { to + (end - start) ≤ length bytes.old }
+    ensures { bytes.new ≡ copy_within bytes.old start end to }
+{
+    let count = end - start;
+    if count > SHIFTED_BYTES {
+        bytes.copy_within(start..end, to);
+        return;
+    }
+    let mut copy = [0; SHIFTED_BYTES];
+    let part = &mut copy[..count];
+    part.copy_from_slice(&bytes[start..end]);
+    bytes[to..to + count].copy_from_slice(part);
 }
 
 /// Copies the records from `at` on to the beginning of other bytes.

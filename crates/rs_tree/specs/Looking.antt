@@ -7,7 +7,6 @@ use Rattle.rs_tree.specs.Content.{content}
 use Rattle.rs_tree.specs.Node.{IsNode}
 use Rattle.rs_tree.specs.Searches.{wanted}
 use Rattle.rs_tree.specs.declared.layout.Layout.{Layout}
-use Rattle.rs_tree.specs.declared.look.InnerPage.{InnerPage}
 use Rattle.rs_tree.specs.declared.node.Node.TheVariants.{Leaf, Inner}
 
 -- the page is a leaf, and those of its cells that are wanted were put after the others
@@ -16,10 +15,10 @@ pub record HasLeaf (page : List ℕ) (number : ℕ) (layout : Layout) (low high 
   pub node : IsNode page number layout (Leaf count)
   pub found : Ascends (records count layout.width (content page)) → after ≡ before ++ wanted low high passes (records count layout.width (content page))
 
--- the page is an inner one, and this is a copy of it
-pub record HasInner (page : List ℕ) (number : ℕ) (layout : Layout) (inner : InnerPage) : Type 0 where
-  pub bytes : inner.page.bytes ≡ page
-  pub node : IsNode inner.page.bytes number layout (Inner inner.count)
+-- the page is an inner one with so many entries, and this is a copy of it
+pub record HasInner (page : List ℕ) (number : ℕ) (layout : Layout) (copy : List ℕ) (count : ℕ) : Type 0 where
+  pub bytes : copy ≡ page
+  pub node : IsNode copy number layout (Inner count)
 
 -- the working page with this number is a leaf, and so on
 pub record FindsLeaf (tied : Type 0) (map : PageMap) (number : ℕ) (layout : Layout) (low high : List ℕ) (passes : List ℕ → Bool) (before after : List (List ℕ)) : Type 0 where
@@ -27,7 +26,7 @@ pub record FindsLeaf (tied : Type 0) (map : PageMap) (number : ℕ) (layout : La
   pub there : tied → map.page number ≡ Some page
   pub leaf : HasLeaf page number layout low high passes before after
 
--- the working page with this number is an inner one, and this is a copy of it
-pub record FindsInner (tied : Type 0) (map : PageMap) (number : ℕ) (layout : Layout) (inner : InnerPage) : Type 0 where
-  pub there : tied → map.page number ≡ Some inner.page.bytes
-  pub node : IsNode inner.page.bytes number layout (Inner inner.count)
+-- the working page with this number is an inner one with so many entries, and this is a copy of it
+pub record FindsInner (tied : Type 0) (map : PageMap) (number : ℕ) (layout : Layout) (copy : List ℕ) (count : ℕ) : Type 0 where
+  pub there : tied → map.page number ≡ Some copy
+  pub node : IsNode copy number layout (Inner count)

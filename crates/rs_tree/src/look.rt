@@ -1,6 +1,7 @@
 //! A look at a page on the walk through a tree.
 //!
-//! The wanted cells of a leaf are copied from the page that is lent, and of an inner page there is a copy.
+//! The wanted cells of a leaf are copied from the page that is lent. An inner page is copied whole, into a place that the caller has for
+//! it.
 
 ghost use Rattle.std.specs.Prelude.{◌≡◌, ◌⊎◌, ◌<◌, ◌≤◌, ◌+◌, Bool, IfErr, IfNone, IfOk, IfSome, OnOk, Err};
 ghost use Rattle.std.specs.Fn.{FnReturnsAt};
@@ -20,16 +21,9 @@ use rs_pages::Pages;
 use rs_records::Cells;
 use rs_refusal::Refusal;
 
-/// A copy of an inner page, and how many entries it has.
-#[derive(Clone, Copy)]
-pub struct InnerPage {
-    pub page: Page,
-    pub count: usize,
-}
-
 /// Reads the page with this number, which is one of a tree's, and counts it: there is one read less left. The wanted cells of a
-/// leaf are put after those that were found; an inner page is answered. It is refused with 90, with 91, and with 94 where it is no
-/// page of a tree, or no read is left.
+/// leaf are put after those that were found; an inner page is copied, and it is answered how many entries it has. It is refused with 90,
+/// with 91, and with 94 where it is no page of a tree, or no read is left.
 pub fn look<P: Pages, S: Summary, F: Fn(&S) -> bool>(
     pages: &mut P,
     layout: Layout,
@@ -39,7 +33,8 @@ pub fn look<P: Pages, S: Summary, F: Fn(&S) -> bool>(
     keep: &F,
     left: &mut u32,
     cells: &mut Cells,
-) -> Result<Option<InnerPage>, Refusal>
+    copy: &mut Page,
+) -> Result<Option<usize>, Refusal>
     requires callable { F.IsAlwaysCallable keep.now }
     requires width { record_width cells.old ≡ layout.width }
     ensures rests { OnlyReads P.Pages result pages.old pages.new }
@@ -47,7 +42,8 @@ pub fn look<P: Pages, S: Summary, F: Fn(&S) -> bool>(
     ensures leaf { IfOk result (λ looked. IfNone looked ((test : S → Bool) → Computes (FnReturnsAt F.Fn keep.now) test
         → FindsLeaf (P.is_tied pages.old) (P.store pages.old).map number layout
         low.now high.now (λ cell. test (S.of cell)) (listed cells.old) (listed cells.new))) }
-    ensures inner { IfOk result (λ looked. IfSome looked (FindsInner (P.is_tied pages.old) (P.store pages.old).map number layout)) }
+    ensures inner { IfOk result (λ looked. IfSome looked (FindsInner (P.is_tied pages.old) (P.store pages.old).map number layout
+        copy.new.bytes)) }
     ensures none { IfOk result (λ looked. IfSome looked (λ _. listed cells.new ≡ listed cells.old)) }
     ensures counted { OnOk result (left.old ≡ left.new + 1) }
     ensures fewer { left.new ≤ left.old }
@@ -60,7 +56,7 @@ pub fn look<P: Pages, S: Summary, F: Fn(&S) -> bool>(
     }
     *left -= 1;
     match pages.page(number) {
-        Ok(page) => look_at(page, number, layout, low, high, keep, cells),
+        Ok(page) => look_at(page, number, layout, low, high, keep, cells, copy),
         Err(refusal) => Err(refusal),
     }
 }
@@ -74,13 +70,14 @@ fn look_at<S: Summary, F: Fn(&S) -> bool>(
     high: &[u8],
     keep: &F,
     cells: &mut Cells,
-) -> Result<Option<InnerPage>, Refusal>
+    copy: &mut Page,
+) -> Result<Option<usize>, Refusal>
     requires callable { F.IsAlwaysCallable keep.now }
     requires width { record_width cells.old ≡ layout.width }
     ensures width { record_width cells.new ≡ layout.width }
     ensures leaf { IfOk result (λ looked. IfNone looked ((test : S → Bool) → Computes (FnReturnsAt F.Fn keep.now) test
         → HasLeaf page.now.bytes number layout low.now high.now (λ cell. test (S.of cell)) (listed cells.old) (listed cells.new))) }
-    ensures inner { IfOk result (λ looked. IfSome looked (HasInner page.now.bytes number layout)) }
+    ensures inner { IfOk result (λ looked. IfSome looked (HasInner page.now.bytes number layout copy.new.bytes)) }
     ensures none { IfOk result (λ looked. IfSome looked (λ _. listed cells.new ≡ listed cells.old)) }
     ensures refused { IfErr result (λ why. (why ≡ Refusal.OutOfMemory) ⊎ (why ≡ Refusal.DamagedFile)) }
     ensures damaged { result ≡ Err Refusal.DamagedFile → (node : Node) → IsNode page.now.bytes number layout node → ⊥ }
@@ -90,7 +87,10 @@ fn look_at<S: Summary, F: Fn(&S) -> bool>(
             collect(page, count, layout, low, high, keep, cells)?;
             Ok(None)
         }
-        Some(Node::Inner(count)) => Ok(Some(InnerPage { page: *page, count })),
+        Some(Node::Inner(count)) => {
+            *copy = *page;
+            Ok(Some(count))
+        }
         None => Err(Refusal::DamagedFile),
     }
 }

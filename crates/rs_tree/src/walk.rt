@@ -55,23 +55,18 @@ pub fn walk<P: Pages, S: Summary, F: Fn(&S) -> bool>(
         → HasNoPart (form_in S.Summary layout) (P.store pages.old).map number
         levels left.old }
 {
-    let Some(inner) = look(pages, layout, number, low, high, keep, left, cells)? else {
+    let mut inner = Page::new();
+    let Some(count) = look(
+        pages, layout, number, low, high, keep, left, cells, &mut inner,
+    )?
+    else {
         return Ok(());
     };
     if levels == 0 {
         return Err(Refusal::DamagedFile);
     }
     walk_entries(
-        pages,
-        layout,
-        &inner.page,
-        inner.count,
-        levels,
-        low,
-        high,
-        keep,
-        left,
-        cells,
+        pages, layout, &inner, count, levels, low, high, keep, left, cells,
     )
 }
 

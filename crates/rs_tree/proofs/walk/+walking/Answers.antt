@@ -18,72 +18,72 @@ use Rattle.rs_tree.proofs.Entering.{walks_leaf, walks_inner, once_inner, no_part
 use Rattle.rs_tree.proofs.walk.+walking.Goals as goal
 use Rattle.rs_tree.specs.Forms.{form_in}
 
-pub walk-returns-in_err-inner-clause-damaged : goal.walk-returns-in_err-inner-clause-damaged
-walk-returns-in_err-inner-clause-damaged g t c = λ is tied.
+pub walk-returns-in_err-count-clause-damaged : goal.walk-returns-in_err-count-clause-damaged
+walk-returns-in_err-count-clause-damaged g t c = λ is tied.
     let p = err_from_is_err_and c.from_residual.result c.from_residual.ensures.1 in
-    let why : c.in_err-inner.field-0.0 ≡ refusal.DamagedFile = cc (p.1, p.2, is) in
+    let why : c.in_err-count.field-0.0 ≡ refusal.DamagedFile = cc (p.1, p.2, is) in
     no_node-no_part (λ bytes cells. g.S.Summary.says bytes (joined g.S.Summary.unit g.S.Summary.join g.S.Summary.of cells)) c.args.layout
-    (g.P.Pages.store c.args.pages.now).map c.args.number c.args.levels c.args.left.now (λ some. c.in_err-inner.ensures.damaged (ap Err why) tied some)
+    (g.P.Pages.store c.args.pages.now).map c.args.number c.args.levels c.args.left.now (λ some. c.in_err-count.ensures.damaged (ap Err why) tied some)
 
 pub walk-returns-in_default-clause-walks : goal.walk-returns-in_default-clause-walks
 walk-returns-in_default-clause-walks g t c = λ tied test computes accepts.
     let found : FindsLeaf (g.P.Pages.is_tied c.args.pages.now) (g.P.Pages.store c.args.pages.now).map c.args.number c.args.layout
     c.args.low.now c.args.high.now (λ cell. test (g.S.Summary.of cell)) (listed c.args.cells.now) (listed c.look.new.cells) =
-    where_none c.in_ok-inner.field-0 c.in_default.not-Some c.in_ok-inner.ensures.leaf test computes in
+    where_none c.in_ok-count.field-0 c.in_default.not-Some c.in_ok-count.ensures.leaf test computes in
     walks_leaf (λ bytes cells. g.S.Summary.says bytes (joined g.S.Summary.unit g.S.Summary.join g.S.Summary.of cells)) c.args.layout
     (g.P.Pages.store c.args.pages.now).map c.args.number found.page c.args.low.now c.args.high.now (λ cell. test (g.S.Summary.of cell))
     (listed c.args.cells.now) (listed c.look.new.cells) c.args.left.now c.look.new.left c.look.new.left
-    c.in_ok-inner.ensures.counted (found.there tied) found.leaf.count found.leaf.node found.leaf.found
+    c.in_ok-count.ensures.counted (found.there tied) found.leaf.count found.leaf.node found.leaf.found
 
 pub walk-returns-then-levels-eq0-clause-damaged : goal.walk-returns-then-levels-eq0-clause-damaged
 walk-returns-then-levels-eq0-clause-damaged g t c = λ is tied.
     let form : Form = form_in g.S.Summary c.args.layout in
-    let found : FindsInner (g.P.Pages.is_tied c.args.pages.now) (g.P.Pages.store c.args.pages.now).map c.args.number c.args.layout c.in-Some.inner = search rules in
+    let found : FindsInner (g.P.Pages.is_tied c.args.pages.now) (g.P.Pages.store c.args.pages.now).map c.args.number c.args.layout c.look.new.copy.bytes c.in-Some.count = search rules in
     let none = no_level-no_part (λ bytes cells. g.S.Summary.says bytes (joined g.S.Summary.unit g.S.Summary.join g.S.Summary.of cells)) c.args.layout
-    (g.P.Pages.store c.args.pages.now).map c.args.number c.in-Some.inner.page.bytes [] [] (λ _. true) [] [] c.args.left.now c.look.new.left 0
-    c.in_ok-inner.ensures.counted (found.there tied) c.in-Some.inner.count found.node in
+    (g.P.Pages.store c.args.pages.now).map c.args.number c.look.new.copy.bytes [] [] (λ _. true) [] [] c.args.left.now c.look.new.left 0
+    c.in_ok-count.ensures.counted (found.there tied) c.in-Some.count found.node in
     subst (λ levels. HasNoPart form (g.P.Pages.store c.args.pages.now).map c.args.number levels c.args.left.now) (sym c.if-levels-eq0.true) none
 
 pub walk-walk_entries-requires : goal.walk-walk_entries-requires
 walk-walk_entries-requires g t c κs within =
-    let found : FindsInner (g.P.Pages.is_tied c.args.pages.now) (g.P.Pages.store c.args.pages.now).map c.args.number c.args.layout c.in-Some.inner = search rules in
-    let fit : c.in-Some.inner.count * entry_bytes c.args.layout ≤ 4080 =
-    records_fit c.in-Some.inner.page.bytes kind.Inner c.args.number c.in-Some.inner.count (entry_bytes c.args.layout) found.node.0 in
+    let found : FindsInner (g.P.Pages.is_tied c.args.pages.now) (g.P.Pages.store c.args.pages.now).map c.args.number c.args.layout c.look.new.copy.bytes c.in-Some.count = search rules in
+    let fit : c.in-Some.count * entry_bytes c.args.layout ≤ 4080 =
+    records_fit c.look.new.copy.bytes kind.Inner c.args.number c.in-Some.count (entry_bytes c.args.layout) found.node.0 in
     search rules
 
 pub walk-returns-clause-walks : goal.walk-returns-clause-walks
 walk-returns-clause-walks g t c =
-    let found : FindsInner (g.P.Pages.is_tied c.args.pages.now) (g.P.Pages.store c.args.pages.now).map c.args.number c.args.layout c.in-Some.inner = search rules in
+    let found : FindsInner (g.P.Pages.is_tied c.args.pages.now) (g.P.Pages.store c.args.pages.now).map c.args.number c.args.layout c.look.new.copy.bytes c.in-Some.count = search rules in
     let same : listed c.look.new.cells ≡ listed c.args.cells.now = search rules in
     on_ok c.walk_entries.result c.walk_entries.ensures.walks (λ walks tied test computes accepts.
-    let later = g.met.P.Pages.keeps_tied c.args.pages.now c.look.new.pages c.in_ok-inner.ensures.rests.below tied in
+    let later = g.met.P.Pages.keeps_tied c.args.pages.now c.look.new.pages c.in_ok-count.ensures.rests.below tied in
     walks_inner (λ bytes cells. g.S.Summary.says bytes (joined g.S.Summary.unit g.S.Summary.join g.S.Summary.of cells)) c.args.layout
-    (g.P.Pages.store c.args.pages.now).map c.args.number c.in-Some.inner.page.bytes c.args.low.now c.args.high.now (λ cell. test (g.S.Summary.of cell))
+    (g.P.Pages.store c.args.pages.now).map c.args.number c.look.new.copy.bytes c.args.low.now c.args.high.now (λ cell. test (g.S.Summary.of cell))
     (listed c.args.cells.now) (listed c.walk_entries.new.cells) c.args.left.now c.look.new.left c.walk_entries.new.left
-    c.in_ok-inner.ensures.counted (found.there tied) c.in-Some.inner.count (g.P.Pages.store c.look.new.pages).map
-    (c.in_ok-inner.ensures.rests.rests.keeps.pages tied) found.node
-    (subst (λ before. WalksEntries (form_in g.S.Summary c.args.layout) (g.P.Pages.store c.look.new.pages).map c.in-Some.inner.page.bytes c.in-Some.inner.count
+    c.in_ok-count.ensures.counted (found.there tied) c.in-Some.count (g.P.Pages.store c.look.new.pages).map
+    (c.in_ok-count.ensures.rests.rests.keeps.pages tied) found.node
+    (subst (λ before. WalksEntries (form_in g.S.Summary c.args.layout) (g.P.Pages.store c.look.new.pages).map c.look.new.copy.bytes c.in-Some.count
     c.args.low.now c.args.high.now (λ cell. test (g.S.Summary.of cell)) before (listed c.walk_entries.new.cells) c.look.new.left c.walk_entries.new.left) same
     (walks later test computes accepts)))
 
 pub walk-returns-clause-once : goal.walk-returns-clause-once
 walk-returns-clause-once g t c =
-    let found : FindsInner (g.P.Pages.is_tied c.args.pages.now) (g.P.Pages.store c.args.pages.now).map c.args.number c.args.layout c.in-Some.inner = search rules in
+    let found : FindsInner (g.P.Pages.is_tied c.args.pages.now) (g.P.Pages.store c.args.pages.now).map c.args.number c.args.layout c.look.new.copy.bytes c.in-Some.count = search rules in
     on_ok c.walk_entries.result c.walk_entries.ensures.once (λ once tied.
-    let later = g.met.P.Pages.keeps_tied c.args.pages.now c.look.new.pages c.in_ok-inner.ensures.rests.below tied in
+    let later = g.met.P.Pages.keeps_tied c.args.pages.now c.look.new.pages c.in_ok-count.ensures.rests.below tied in
     once_inner (λ bytes cells. g.S.Summary.says bytes (joined g.S.Summary.unit g.S.Summary.join g.S.Summary.of cells)) c.args.layout
-    (g.P.Pages.store c.args.pages.now).map c.args.number c.in-Some.inner.page.bytes [] [] (λ _. true) [] [] c.args.left.now c.look.new.left c.walk_entries.new.left
-    c.in_ok-inner.ensures.counted (found.there tied) c.in-Some.inner.count (g.P.Pages.store c.look.new.pages).map
-    (c.in_ok-inner.ensures.rests.rests.keeps.pages tied) found.node (once later))
+    (g.P.Pages.store c.args.pages.now).map c.args.number c.look.new.copy.bytes [] [] (λ _. true) [] [] c.args.left.now c.look.new.left c.walk_entries.new.left
+    c.in_ok-count.ensures.counted (found.there tied) c.in-Some.count (g.P.Pages.store c.look.new.pages).map
+    (c.in_ok-count.ensures.rests.rests.keeps.pages tied) found.node (once later))
 
 pub walk-returns-clause-damaged : goal.walk-returns-clause-damaged
 walk-returns-clause-damaged g t c = λ is tied.
-    let found : FindsInner (g.P.Pages.is_tied c.args.pages.now) (g.P.Pages.store c.args.pages.now).map c.args.number c.args.layout c.in-Some.inner = search rules in
-    let later = g.met.P.Pages.keeps_tied c.args.pages.now c.look.new.pages c.in_ok-inner.ensures.rests.below tied in
+    let found : FindsInner (g.P.Pages.is_tied c.args.pages.now) (g.P.Pages.store c.args.pages.now).map c.args.number c.args.layout c.look.new.copy.bytes c.in-Some.count = search rules in
+    let later = g.met.P.Pages.keeps_tied c.args.pages.now c.look.new.pages c.in_ok-count.ensures.rests.below tied in
     no_parts-no_part (λ bytes cells. g.S.Summary.says bytes (joined g.S.Summary.unit g.S.Summary.join g.S.Summary.of cells)) c.args.layout
-    (g.P.Pages.store c.args.pages.now).map c.args.number c.in-Some.inner.page.bytes [] [] (λ _. true) [] [] c.args.left.now c.look.new.left 0
-    c.in_ok-inner.ensures.counted (found.there tied) c.in-Some.inner.count c.args.levels (g.P.Pages.store c.look.new.pages).map
-    (c.in_ok-inner.ensures.rests.rests.keeps.pages tied) found.node (c.walk_entries.ensures.damaged is later)
+    (g.P.Pages.store c.args.pages.now).map c.args.number c.look.new.copy.bytes [] [] (λ _. true) [] [] c.args.left.now c.look.new.left 0
+    c.in_ok-count.ensures.counted (found.there tied) c.in-Some.count c.args.levels (g.P.Pages.store c.look.new.pages).map
+    (c.in_ok-count.ensures.rests.rests.keeps.pages tied) found.node (c.walk_entries.ensures.damaged is later)
 
 pub walk_entries-record_at-entry-requires : goal.walk_entries-record_at-entry-requires
 walk_entries-record_at-entry-requires g t c =
