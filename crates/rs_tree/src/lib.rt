@@ -19,6 +19,7 @@ pub mod splicing;
 pub mod summary;
 pub mod summing;
 pub mod walk;
+pub mod wanted;
 
 pub use entry::write_entry;
 pub use layout::Layout;

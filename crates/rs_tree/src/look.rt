@@ -15,6 +15,7 @@ ghost use Rattle.rs_tree.specs.Walking.{IsWalkRefusal};
 ghost use Rattle.rs_tree.specs.declared.node.Node.{Node};
 
 use crate::collect::collect;
+use crate::wanted::Wanted;
 use crate::{Layout, Node, Summary, read_node};
 use rs_page::{Page, PageNumber};
 use rs_pages::Pages;
@@ -28,20 +29,18 @@ pub fn look<P: Pages, S: Summary, F: Fn(&S) -> bool>(
     pages: &mut P,
     layout: Layout,
     number: PageNumber,
-    low: &[u8],
-    high: &[u8],
-    keep: &F,
+    wanted: &Wanted<'_, F>,
     left: &mut u32,
     cells: &mut Cells,
     copy: &mut Page,
 ) -> Result<Option<usize>, Refusal>
-    requires callable { F.IsAlwaysCallable keep.now }
+    requires callable { F.IsAlwaysCallable wanted.now.keep.now }
     requires width { record_width cells.old ≡ layout.width }
     ensures rests { OnlyReads P.Pages result pages.old pages.new }
     ensures width { record_width cells.new ≡ layout.width }
-    ensures leaf { IfOk result (λ looked. IfNone looked ((test : S → Bool) → Computes (FnReturnsAt F.Fn keep.now) test
+    ensures leaf { IfOk result (λ looked. IfNone looked ((test : S → Bool) → Computes (FnReturnsAt F.Fn wanted.now.keep.now) test
         → FindsLeaf (P.is_tied pages.old) (P.store pages.old).map number layout
-        low.now high.now (λ cell. test (S.of cell)) (listed cells.old) (listed cells.new))) }
+        wanted.now.low.now wanted.now.high.now (λ cell. test (S.of cell)) (listed cells.old) (listed cells.new))) }
     ensures inner { IfOk result (λ looked. IfSome looked (FindsInner (P.is_tied pages.old) (P.store pages.old).map number layout
         copy.new.bytes)) }
     ensures none { IfOk result (λ looked. IfSome looked (λ _. listed cells.new ≡ listed cells.old)) }
@@ -56,7 +55,7 @@ pub fn look<P: Pages, S: Summary, F: Fn(&S) -> bool>(
     }
     *left -= 1;
     match pages.page(number) {
-        Ok(page) => look_at(page, number, layout, low, high, keep, cells, copy),
+        Ok(page) => look_at(page, number, layout, wanted, cells, copy),
         Err(refusal) => Err(refusal),
     }
 }
@@ -66,17 +65,15 @@ fn look_at<S: Summary, F: Fn(&S) -> bool>(
     page: &Page,
     number: PageNumber,
     layout: Layout,
-    low: &[u8],
-    high: &[u8],
-    keep: &F,
+    wanted: &Wanted<'_, F>,
     cells: &mut Cells,
     copy: &mut Page,
 ) -> Result<Option<usize>, Refusal>
-    requires callable { F.IsAlwaysCallable keep.now }
+    requires callable { F.IsAlwaysCallable wanted.now.keep.now }
     requires width { record_width cells.old ≡ layout.width }
     ensures width { record_width cells.new ≡ layout.width }
-    ensures leaf { IfOk result (λ looked. IfNone looked ((test : S → Bool) → Computes (FnReturnsAt F.Fn keep.now) test
-        → HasLeaf page.now.bytes number layout low.now high.now (λ cell. test (S.of cell)) (listed cells.old) (listed cells.new))) }
+    ensures leaf { IfOk result (λ looked. IfNone looked ((test : S → Bool) → Computes (FnReturnsAt F.Fn wanted.now.keep.now) test
+        → HasLeaf page.now.bytes number layout wanted.now.low.now wanted.now.high.now (λ cell. test (S.of cell)) (listed cells.old) (listed cells.new))) }
     ensures inner { IfOk result (λ looked. IfSome looked (HasInner page.now.bytes number layout copy.new.bytes)) }
     ensures none { IfOk result (λ looked. IfSome looked (λ _. listed cells.new ≡ listed cells.old)) }
     ensures refused { IfErr result (λ why. (why ≡ Refusal.OutOfMemory) ⊎ (why ≡ Refusal.DamagedFile)) }
@@ -84,7 +81,15 @@ fn look_at<S: Summary, F: Fn(&S) -> bool>(
 {
     match read_node(page, number, layout) {
         Some(Node::Leaf(count)) => {
-            collect(page, count, layout, low, high, keep, cells)?;
+            collect(
+                page,
+                count,
+                layout,
+                wanted.low,
+                wanted.high,
+                wanted.keep,
+                cells,
+            )?;
             Ok(None)
         }
         Some(Node::Inner(count)) => {

@@ -8,6 +8,7 @@ ghost use Rattle.rs_tree.specs.Forms.{form_in};
 ghost use Rattle.rs_pages.specs.Calls.{OnlyReads};
 
 use crate::walk::walk;
+use crate::wanted::Wanted;
 use crate::{Layout, Summary};
 use rs_page::PageNumber;
 use rs_pages::Pages;
@@ -44,9 +45,8 @@ pub fn descend<P: Pages, S: Summary, F: Fn(&S) -> bool>(
     }
     let count = pages.count();
     let mut left = count;
-    walk::<P, S, F>(
-        pages, layout, root, LEVELS, low, high, keep, &mut left, &mut cells,
-    )?;
+    let wanted = Wanted { low, high, keep };
+    walk::<P, S, F>(pages, layout, root, LEVELS, &wanted, &mut left, &mut cells)?;
     Ok((cells, count - left))
 }
 

@@ -18,6 +18,7 @@ ghost use Rattle.rs_pages.specs.Calls.{OnlyReads};
 use crate::asking::accepts;
 use crate::entry::{child, summary};
 use crate::look::look;
+use crate::wanted::Wanted;
 use crate::{Layout, Summary, content};
 use rs_page::{Page, PageNumber};
 use rs_pages::Pages;
@@ -31,22 +32,20 @@ pub fn walk<P: Pages, S: Summary, F: Fn(&S) -> bool>(
     layout: Layout,
     number: PageNumber,
     levels: u32,
-    low: &[u8],
-    high: &[u8],
-    keep: &F,
+    wanted: &Wanted<'_, F>,
     left: &mut u32,
     cells: &mut Cells,
 ) -> Result<(), Refusal>
-    requires callable { F.IsAlwaysCallable keep.now }
+    requires callable { F.IsAlwaysCallable wanted.now.keep.now }
     requires width { record_width cells.old ≡ layout.width }
     requires summary { layout.summary ≡ S.WIDTH }
     ensures rests { OnlyReads P.Pages result pages.old pages.new }
     ensures width { record_width cells.new ≡ layout.width }
     ensures fewer { left.new ≤ left.old }
-    ensures walks { OnOk result (P.is_tied pages.old → (test : S → Bool) → Computes (FnReturnsAt F.Fn keep.now) test
+    ensures walks { OnOk result (P.is_tied pages.old → (test : S → Bool) → Computes (FnReturnsAt F.Fn wanted.now.keep.now) test
         → AcceptsParts S.join test
         → Walks (form_in S.Summary layout) (P.store pages.old).map number
-        low.now high.now (λ cell. test (S.of cell)) (listed cells.old) (listed cells.new) left.old left.new) }
+        wanted.now.low.now wanted.now.high.now (λ cell. test (S.of cell)) (listed cells.old) (listed cells.new) left.old left.new) }
     ensures once { OnOk result (P.is_tied pages.old
         → ReadsOnce (form_in S.Summary layout) (P.store pages.old).map number
         left.old left.new) }
@@ -56,18 +55,13 @@ pub fn walk<P: Pages, S: Summary, F: Fn(&S) -> bool>(
         levels left.old }
 {
     let mut inner = Page::new();
-    let Some(count) = look(
-        pages, layout, number, low, high, keep, left, cells, &mut inner,
-    )?
-    else {
+    let Some(count) = look(pages, layout, number, wanted, left, cells, &mut inner)? else {
         return Ok(());
     };
     if levels == 0 {
         return Err(Refusal::DamagedFile);
     }
-    walk_entries(
-        pages, layout, &inner, count, levels, low, high, keep, left, cells,
-    )
+    walk_entries(pages, layout, &inner, count, levels, wanted, left, cells)
 }
 
 /// Walks through what the entries of an inner page say.
@@ -78,13 +72,11 @@ fn walk_entries<P: Pages, S: Summary, F: Fn(&S) -> bool>(
     page: &Page,
     count: usize,
     levels: u32,
-    low: &[u8],
-    high: &[u8],
-    keep: &F,
+    wanted: &Wanted<'_, F>,
     left: &mut u32,
     cells: &mut Cells,
 ) -> Result<(), Refusal>
-    requires callable { F.IsAlwaysCallable keep.now }
+    requires callable { F.IsAlwaysCallable wanted.now.keep.now }
     requires width { record_width cells.old ≡ layout.width }
     requires summary { layout.summary ≡ S.WIDTH }
     requires fit { count * entry_bytes layout ≤ 4080 }
@@ -92,10 +84,10 @@ fn walk_entries<P: Pages, S: Summary, F: Fn(&S) -> bool>(
     ensures rests { OnlyReads P.Pages result pages.old pages.new }
     ensures width { record_width cells.new ≡ layout.width }
     ensures fewer { left.new ≤ left.old }
-    ensures walks { OnOk result (P.is_tied pages.old → (test : S → Bool) → Computes (FnReturnsAt F.Fn keep.now) test
+    ensures walks { OnOk result (P.is_tied pages.old → (test : S → Bool) → Computes (FnReturnsAt F.Fn wanted.now.keep.now) test
         → AcceptsParts S.join test
         → WalksEntries (form_in S.Summary layout) (P.store pages.old).map
-        page.now.bytes count low.now high.now (λ cell. test (S.of cell)) (listed cells.old) (listed cells.new)
+        page.now.bytes count wanted.now.low.now wanted.now.high.now (λ cell. test (S.of cell)) (listed cells.old) (listed cells.new)
         left.old left.new) }
     ensures once { OnOk result (P.is_tied pages.old
         → ReadsEntriesOnce (form_in S.Summary layout) (P.store pages.old).map
@@ -106,10 +98,10 @@ fn walk_entries<P: Pages, S: Summary, F: Fn(&S) -> bool>(
         page.now.bytes count levels left.old }
 {
     let bytes = content(page);
-    let (from, to) = entries_within(bytes, layout, count, low, high);
+    let (from, to) = entries_within(bytes, layout, count, wanted.low, wanted.high);
     for index in from..to {
         let entry = record_at(bytes, layout.entry_width(), index);
-        walk_entry(pages, layout, entry, levels, low, high, keep, left, cells)?;
+        walk_entry(pages, layout, entry, levels, wanted, left, cells)?;
     }
     Ok(())
 }
@@ -121,13 +113,11 @@ fn walk_entry<P: Pages, S: Summary, F: Fn(&S) -> bool>(
     layout: Layout,
     entry: &[u8],
     levels: u32,
-    low: &[u8],
-    high: &[u8],
-    keep: &F,
+    wanted: &Wanted<'_, F>,
     left: &mut u32,
     cells: &mut Cells,
 ) -> Result<(), Refusal>
-    requires callable { F.IsAlwaysCallable keep.now }
+    requires callable { F.IsAlwaysCallable wanted.now.keep.now }
     requires width { record_width cells.old ≡ layout.width }
     requires summary { layout.summary ≡ S.WIDTH }
     requires entry { length entry.now ≡ entry_bytes layout }
@@ -135,10 +125,10 @@ fn walk_entry<P: Pages, S: Summary, F: Fn(&S) -> bool>(
     ensures rests { OnlyReads P.Pages result pages.old pages.new }
     ensures width { record_width cells.new ≡ layout.width }
     ensures fewer { left.new ≤ left.old }
-    ensures walks { OnOk result (P.is_tied pages.old → (test : S → Bool) → Computes (FnReturnsAt F.Fn keep.now) test
+    ensures walks { OnOk result (P.is_tied pages.old → (test : S → Bool) → Computes (FnReturnsAt F.Fn wanted.now.keep.now) test
         → AcceptsParts S.join test
         → WalksEntry (form_in S.Summary layout) (P.store pages.old).map entry.now
-        low.now high.now (λ cell. test (S.of cell)) (listed cells.old) (listed cells.new) left.old left.new) }
+        wanted.now.low.now wanted.now.high.now (λ cell. test (S.of cell)) (listed cells.old) (listed cells.new) left.old left.new) }
     ensures once { OnOk result (P.is_tied pages.old
         → ReadsEntryOnce (form_in S.Summary layout) (P.store pages.old).map
         entry.now left.old left.new) }
@@ -147,21 +137,11 @@ fn walk_entry<P: Pages, S: Summary, F: Fn(&S) -> bool>(
         → HasNoPartOfEntry (form_in S.Summary layout) (P.store pages.old).map
         entry.now levels left.old }
 {
-    if !accepts(keep, &S::read(summary(entry, layout))) {
+    if !accepts(wanted.keep, &S::read(summary(entry, layout))) {
         return Ok(());
     }
     let number = child(entry, layout);
-    walk(
-        pages,
-        layout,
-        number,
-        levels - 1,
-        low,
-        high,
-        keep,
-        left,
-        cells,
-    )
+    walk(pages, layout, number, levels - 1, wanted, left, cells)
 }
 
 /// The first entry that may say a cell within the bounds, and the one after the last.

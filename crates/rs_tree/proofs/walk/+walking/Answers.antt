@@ -28,10 +28,10 @@ walk-returns-in_err-count-clause-damaged g t c = λ is tied.
 pub walk-returns-in_default-clause-walks : goal.walk-returns-in_default-clause-walks
 walk-returns-in_default-clause-walks g t c = λ tied test computes accepts.
     let found : FindsLeaf (g.P.Pages.is_tied c.args.pages.now) (g.P.Pages.store c.args.pages.now).map c.args.number c.args.layout
-    c.args.low.now c.args.high.now (λ cell. test (g.S.Summary.of cell)) (listed c.args.cells.now) (listed c.look.new.cells) =
+    c.args.wanted.now.low.now c.args.wanted.now.high.now (λ cell. test (g.S.Summary.of cell)) (listed c.args.cells.now) (listed c.look.new.cells) =
     where_none c.in_ok-count.field-0 c.in_default.not-Some c.in_ok-count.ensures.leaf test computes in
     walks_leaf (λ bytes cells. g.S.Summary.says bytes (joined g.S.Summary.unit g.S.Summary.join g.S.Summary.of cells)) c.args.layout
-    (g.P.Pages.store c.args.pages.now).map c.args.number found.page c.args.low.now c.args.high.now (λ cell. test (g.S.Summary.of cell))
+    (g.P.Pages.store c.args.pages.now).map c.args.number found.page c.args.wanted.now.low.now c.args.wanted.now.high.now (λ cell. test (g.S.Summary.of cell))
     (listed c.args.cells.now) (listed c.look.new.cells) c.args.left.now c.look.new.left c.look.new.left
     c.in_ok-count.ensures.counted (found.there tied) found.leaf.count found.leaf.node found.leaf.found
 
@@ -58,12 +58,12 @@ walk-returns-clause-walks g t c =
     on_ok c.walk_entries.result c.walk_entries.ensures.walks (λ walks tied test computes accepts.
     let later = g.met.P.Pages.keeps_tied c.args.pages.now c.look.new.pages c.in_ok-count.ensures.rests.below tied in
     walks_inner (λ bytes cells. g.S.Summary.says bytes (joined g.S.Summary.unit g.S.Summary.join g.S.Summary.of cells)) c.args.layout
-    (g.P.Pages.store c.args.pages.now).map c.args.number c.look.new.copy.bytes c.args.low.now c.args.high.now (λ cell. test (g.S.Summary.of cell))
+    (g.P.Pages.store c.args.pages.now).map c.args.number c.look.new.copy.bytes c.args.wanted.now.low.now c.args.wanted.now.high.now (λ cell. test (g.S.Summary.of cell))
     (listed c.args.cells.now) (listed c.walk_entries.new.cells) c.args.left.now c.look.new.left c.walk_entries.new.left
     c.in_ok-count.ensures.counted (found.there tied) c.in-Some.count (g.P.Pages.store c.look.new.pages).map
     (c.in_ok-count.ensures.rests.rests.keeps.pages tied) found.node
     (subst (λ before. WalksEntries (form_in g.S.Summary c.args.layout) (g.P.Pages.store c.look.new.pages).map c.look.new.copy.bytes c.in-Some.count
-    c.args.low.now c.args.high.now (λ cell. test (g.S.Summary.of cell)) before (listed c.walk_entries.new.cells) c.look.new.left c.walk_entries.new.left) same
+    c.args.wanted.now.low.now c.args.wanted.now.high.now (λ cell. test (g.S.Summary.of cell)) before (listed c.walk_entries.new.cells) c.look.new.left c.walk_entries.new.left) same
     (walks later test computes accepts)))
 
 pub walk-returns-clause-once : goal.walk-returns-clause-once
@@ -122,7 +122,7 @@ walk_entries-loop-index-preserved g t c =
       fewer = omega (arith, c.loop-index.invariant.fewer, c.in_ok-walk_entry.ensures.fewer);
       walks = λ tied test computes accepts.
           let later = g.met.P.Pages.keeps_tied c.args.pages.now c.loop-index.pages c.loop-index.invariant.rests.below tied in
-          walks_next form (g.P.Pages.store c.args.pages.now).map c.args.page.now.bytes c.args.count c.args.low.now c.args.high.now (λ cell. test (g.S.Summary.of cell))
+          walks_next form (g.P.Pages.store c.args.pages.now).map c.args.page.now.bytes c.args.count c.args.wanted.now.low.now c.args.wanted.now.high.now (λ cell. test (g.S.Summary.of cell))
           c.entries_within-from.result.0 c.loop-index.index c.record_at-entry.result.now (g.P.Pages.store c.loop-index.pages).map
           (listed c.args.cells.now) (listed c.loop-index.cells) (listed c.walk_entry.new.cells) c.args.left.now c.loop-index.left c.walk_entry.new.left
           c.loop-index.auto.index there (c.loop-index.invariant.rests.rests.keeps.pages tied) (c.loop-index.invariant.walks tied test computes accepts)
@@ -137,7 +137,7 @@ walk_entries-loop-index-preserved g t c =
 pub walk_entries-returns-clause-walks : goal.walk_entries-returns-clause-walks
 walk_entries-returns-clause-walks g t c = λ tied test computes accepts.
     let form : Form = form_in g.S.Summary c.args.layout in
-    walks_all form (g.P.Pages.store c.args.pages.now).map c.args.page.now.bytes c.args.count c.args.low.now c.args.high.now (λ cell. test (g.S.Summary.of cell))
+    walks_all form (g.P.Pages.store c.args.pages.now).map c.args.page.now.bytes c.args.count c.args.wanted.now.low.now c.args.wanted.now.high.now (λ cell. test (g.S.Summary.of cell))
     c.entries_within-from.result.0 c.entries_within-from.result.1 c.loop-index.index (listed c.args.cells.now) (listed c.loop-index.cells) c.args.left.now c.loop-index.left
     c.content-bytes.result.now c.content-bytes.ensures.bytes c.entries_within-from.ensures c.loop-index.invariant.ends c.loop-index.auto.index (omega arith)
     (c.loop-index.invariant.walks tied test computes accepts)
@@ -154,9 +154,9 @@ walk_entry-returns-then-not-accepts-clause-walks g t c = λ tied test computes a
     let reads = λ (s : g.row.S.Denot) (says : g.S.Summary.says (take c.args.layout.summary (drop child_bytes c.args.entry.now)) s).
     c.read.ensures s (subst (λ bytes. g.S.Summary.says bytes s) (sym c.summary.ensures.bytes) says) in
     let answered : c.accepts.result ≡ false = search rules in
-    walks_rejected form (g.P.Pages.store c.args.pages.now).map c.args.entry.now c.args.low.now c.args.high.now (λ cell. test (g.S.Summary.of cell)) (listed c.args.cells.now) c.args.left.now
+    walks_rejected form (g.P.Pages.store c.args.pages.now).map c.args.entry.now c.args.wanted.now.low.now c.args.wanted.now.high.now (λ cell. test (g.S.Summary.of cell)) (listed c.args.cells.now) c.args.left.now
     (λ height part told.
-    answer_told g.S.Summary.unit g.S.Summary.join g.S.Summary.of g.S.Summary.says c.args.layout.summary c.args.layout.width (FnReturnsAt g.F.Fn c.args.keep.now) test c.read.result c.accepts.result c.args.entry.now
+    answer_told g.S.Summary.unit g.S.Summary.join g.S.Summary.of g.S.Summary.says c.args.layout.summary c.args.layout.width (FnReturnsAt g.F.Fn c.args.wanted.now.keep.now) test c.read.result c.accepts.result c.args.entry.now
     g.met.S.Summary.unit_last accepts computes c.accepts.ensures reads height part told ∙ answered)
 
 pub walk_entry-returns-clause-walks : goal.walk_entry-returns-clause-walks
@@ -166,9 +166,9 @@ walk_entry-returns-clause-walks g t c =
     c.read.ensures s (subst (λ bytes. g.S.Summary.says bytes s) (sym c.summary.ensures.bytes) says) in
     let answered : c.accepts.result ≡ true = search rules in
     on_ok c.walk.result c.walk.ensures.walks (λ walks tied test computes accepts.
-    let here = subst (λ n. Walks form (g.P.Pages.store c.args.pages.now).map n c.args.low.now c.args.high.now (λ cell. test (g.S.Summary.of cell)) (listed c.args.cells.now) (listed c.walk.new.cells) c.args.left.now c.walk.new.left)
+    let here = subst (λ n. Walks form (g.P.Pages.store c.args.pages.now).map n c.args.wanted.now.low.now c.args.wanted.now.high.now (λ cell. test (g.S.Summary.of cell)) (listed c.args.cells.now) (listed c.walk.new.cells) c.args.left.now c.walk.new.left)
     c.child-number.ensures (walks tied test computes accepts) in
-    walks_accepted form (g.P.Pages.store c.args.pages.now).map c.args.entry.now c.args.low.now c.args.high.now (λ cell. test (g.S.Summary.of cell)) (listed c.args.cells.now) (listed c.walk.new.cells) c.args.left.now c.walk.new.left
+    walks_accepted form (g.P.Pages.store c.args.pages.now).map c.args.entry.now c.args.wanted.now.low.now c.args.wanted.now.high.now (λ cell. test (g.S.Summary.of cell)) (listed c.args.cells.now) (listed c.walk.new.cells) c.args.left.now c.walk.new.left
     (λ height part told.
-    answer_told g.S.Summary.unit g.S.Summary.join g.S.Summary.of g.S.Summary.says c.args.layout.summary c.args.layout.width (FnReturnsAt g.F.Fn c.args.keep.now) test c.read.result c.accepts.result c.args.entry.now
+    answer_told g.S.Summary.unit g.S.Summary.join g.S.Summary.of g.S.Summary.says c.args.layout.summary c.args.layout.width (FnReturnsAt g.F.Fn c.args.wanted.now.keep.now) test c.read.result c.accepts.result c.args.entry.now
     g.met.S.Summary.unit_last accepts computes c.accepts.ensures reads height part told ∙ answered) here)

@@ -24,9 +24,9 @@ invariant-walk_entries-loop-index g l = record {
   width : record_width l.cells ≡ l.layout.width;
   ends : l.index - l.from ≤ l.to - l.from;
   fewer : l.left ≤ l.fn.left;
-  walks : g.P.Pages.is_tied l.fn.pages → (test : g.row.S.Denot → Bool) → Computes (FnReturnsAt g.F.Fn l.keep) test → AcceptsParts g.S.Summary.join test
+  walks : g.P.Pages.is_tied l.fn.pages → (test : g.row.S.Denot → Bool) → Computes (FnReturnsAt g.F.Fn l.wanted.keep.now) test → AcceptsParts g.S.Summary.join test
       → WalksSome (form_in g.S.Summary l.layout) (g.P.Pages.store l.fn.pages).map l.page.bytes l.count
-      l.low l.high (λ cell. test (g.S.Summary.of cell)) l.from (l.index - l.from) (listed l.fn.cells) (listed l.cells) l.fn.left l.left;
+      l.wanted.low.now l.wanted.high.now (λ cell. test (g.S.Summary.of cell)) l.from (l.index - l.from) (listed l.fn.cells) (listed l.cells) l.fn.left l.left;
   once : g.P.Pages.is_tied l.fn.pages
       → ReadsSome (form_in g.S.Summary l.layout) (g.P.Pages.store l.fn.pages).map l.page.bytes l.count
       l.from (l.index - l.from) l.fn.left l.left;
