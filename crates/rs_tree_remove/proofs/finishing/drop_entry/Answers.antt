@@ -6,7 +6,7 @@ use Rattle.rs_tree.specs.Content.{content}
 use Rattle.rs_tree.specs.Form.{Form, joined}
 use Rattle.rs_tree.specs.Layouts.{entry_bytes}
 use Rattle.rs_tree.proofs.Entering.{entry_there}
-use Rattle.rs_tree.specs.Forms.{form, form_in}
+use Rattle.rs_tree.specs.Forms.{form_in}
 use Rattle.rs_page_owners.proofs.Working.{works_err}
 use Rattle.rs_tree_remove.specs.Finishing.{Finishes, NoneGaveWay}
 use Rattle.rs_tree_remove.specs.declared.answer.Removed.TheVariants.{Single}

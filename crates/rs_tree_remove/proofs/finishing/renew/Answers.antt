@@ -8,7 +8,7 @@ use Rattle.rs_tree.specs.Form.{Form}
 use Rattle.rs_tree.specs.Layouts.{entry_bytes}
 use Rattle.rs_tree.specs.Reading.{HasNoNode}
 use Rattle.rs_tree.proofs.Loading.{on_ok}
-use Rattle.rs_tree.specs.Forms.{form, form_in}
+use Rattle.rs_tree.specs.Forms.{form_in}
 use Rattle.rs_tree_edit.specs.Editing.{Splices}
 use Rattle.rs_page_owners.proofs.Working.{works_then}
 use Rattle.rs_tree_remove.specs.Finishing.{CantRenew, Renews}

@@ -2,7 +2,7 @@
 use Rattle.std.proofs.Common.{Err, [], ◌∷◌, ap, ◌∙◌, rules}
 use Rattle.std.proofs.lemmas.Result.{err_from_is_err_and}
 use Rattle.rs_tree.specs.Form.{Form, joined}
-use Rattle.rs_tree.specs.Forms.{form, form_in}
+use Rattle.rs_tree.specs.Forms.{form_in}
 use Rattle.rs_page_owners.proofs.Working.{works_err}
 use Rattle.rs_tree_remove.specs.Finishing.{CantRenew, NoneGaveWay}
 use Rattle.rs_tree_remove.proofs.Written.{renewed, renewed_one, cant_renew-none}

@@ -3,7 +3,7 @@ use Rattle.std.proofs.Common.{Err, [], ◌∷◌, ap, ◌∙◌}
 use Rattle.std.proofs.lemmas.Result.{err_from_is_err_and}
 use Rattle.rs_tree.specs.Form.{Form, joined}
 use Rattle.rs_tree.proofs.Loading.{on_ok}
-use Rattle.rs_tree.specs.Forms.{form, form_in}
+use Rattle.rs_tree.specs.Forms.{form_in}
 use Rattle.rs_page_owners.proofs.Working.{works_err, works_then}
 use Rattle.rs_tree_remove.specs.Finishing.{CantRenew, NoneGaveWay, Finishes}
 use Rattle.rs_tree_remove.specs.declared.answer.Removed.TheVariants.{Kept}

@@ -6,7 +6,7 @@ use Rattle.rs_records.specs.Records.{records, keys, IsPlace}
 use Rattle.rs_records.proofs.RecordLists.{length-keys}
 use Rattle.rs_tree.specs.Form.{Form, joined}
 use Rattle.rs_tree.proofs.Lists.{has_inside}
-use Rattle.rs_tree.specs.Forms.{form, form_in}
+use Rattle.rs_tree.specs.Forms.{form_in}
 use Rattle.rs_page_owners.proofs.Working.{NotReleased, released-works, works_err}
 use Rattle.rs_tree_remove.specs.Leaving.{HasNoOwnPart}
 use Rattle.rs_tree_remove.proofs.Leaves.{leaf_missing, leaf_gone, leaf_kept}

@@ -2,7 +2,7 @@
 use Rattle.std.proofs.Common.{◌*◌, Ok, Err, [], ◌∷◌, ap, ◌∙◌, subst, arith}
 use Rattle.std.proofs.lemmas.Result.{err_from_is_err_and}
 use Rattle.rs_tree.specs.Form.{Form}
-use Rattle.rs_tree.specs.Forms.{form, form_in}
+use Rattle.rs_tree.specs.Forms.{form_in}
 use Rattle.rs_page_owners.proofs.Working.{NotReleased, released-works, works_err, works_then}
 use Rattle.rs_tree_remove.specs.Finishing.{Finishes, NoneGaveWay}
 use Rattle.rs_tree_remove.specs.Mending.{NonePairs}

@@ -9,7 +9,7 @@ use Rattle.rs_tree.specs.Node.{IsNode}
 use Rattle.rs_tree.specs.declared.node.Node.TheVariants.{Leaf, Inner}
 use Rattle.rs_tree.specs.Reading.{HasNoNode}
 use Rattle.rs_tree.proofs.Entering.{entry_there, records_fit}
-use Rattle.rs_tree.specs.Forms.{form, form_in}
+use Rattle.rs_tree.specs.Forms.{form_in}
 use Rattle.rs_page_owners.proofs.Working.{works_err, works_then}
 use Rattle.rs_tree_remove.specs.Mending.{NonePairs, NoneLonely, Pairs, Mends}
 use Rattle.rs_tree_remove.proofs.Joining.{if_ok}

@@ -6,7 +6,7 @@ use Rattle.rs_tree.specs.Form.{Form, joined}
 use Rattle.rs_tree.specs.Layouts.{entry_bytes}
 use Rattle.rs_tree.specs.Reading.{HasNoNode}
 use Rattle.rs_tree.proofs.Entering.{entry_there}
-use Rattle.rs_tree.specs.Forms.{form, form_in}
+use Rattle.rs_tree.specs.Forms.{form_in}
 use Rattle.rs_page_owners.proofs.Working.{works_err, works_then}
 use Rattle.rs_tree_remove.specs.Finishing.{Finishes, NoneGaveWay}
 use Rattle.rs_tree_remove.specs.Mending.{NonePairs}
