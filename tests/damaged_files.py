@@ -2,7 +2,7 @@
 """Opens changed files of 5 to 3,000 pages with the built program, judges what is said beside the slow reader, and counts what
 opening them takes.
 
-    damaged_files.py [--program PATH] [--changes N] [--seed S] [--jobs N] [--all]
+    damaged_files.py [--program PATH] [--changes N] [--seed S] [--jobs N] [--all] [--part I/N]
 
 Each file is a sound one with one change of bytes or pages (grown_files.py). It is judged as in files.py: `run --file` opens or
 refuses it as the slow reader of files does; where it is opened, its questions are answered as by the slow machine, its bytes
@@ -13,16 +13,17 @@ stay, and after one definition more it stands for that state. For one change of 
 - it takes no more memory than 24 times the bytes of the file and a constant, whatever numbers stand in it. So each number of page
   0, of the directory and of the catalogue is also set to its greatest value, and to 2^63 where it is that wide.
 
-2,000 changes are made by default, most of them of small files, and 1,000,000 with --all. It prints what is not as wanted, how
-many files were OK, 94 and 95, what was taken at the most, and at last `N passed, M failed`.
+2,000 changes are made by default, most of them of small files, and 1,000,000 with --all: with `--part 2/9` each ninth batch of
+them from the second on, and nothing else. It prints what is not as wanted, how many files were OK, 94 and 95, what was taken at
+the most, and at last `N passed, M failed`.
 """
 
 import argparse
+import mmap
 import os
 import sys
-import tempfile
 from collections import Counter
-from functools import partial
+from functools import lru_cache, partial
 from itertools import islice
 from multiprocessing import Pool
 from typing import NamedTuple
@@ -30,7 +31,9 @@ from typing import NamedTuple
 import files
 import refusing
 from file_writer import DAMAGED, NOT_CLOSED, OK, PAGE_BYTES, Description, Record, Route, Table, written
+from forked import Forked
 from grown_files import SIZES, Change, grown, of_each_kind
+from programs import PROGRAM, library_of, scratch_folder
 from slow_file import read
 
 SHARE, ALL = 2_000, 1_000_000  # changes
@@ -57,22 +60,41 @@ class Opened(NamedTuple):
     memory: int
 
 
-def opened(program, data, answer):
-    """Opens a file, and counts."""
-    with program.run(program.file_of(data)) as run:
-        reply = run.ask(ASKED)
-        told = run.told_now() if reply else None
-        ended = run.end()
-        told = told or run.told_now()
-    refusing.expect("the reply", reply, REFUSED if answer == OK else b"")
-    refusing.expect("the end", ended, refusing.Ended(0 if answer == OK else 1, b"", files.SAID[answer]))
-    pages = len(data) // PAGE_BYTES + 1
-    return Opened(told[refusing.BYTES_READ] - PAGE_BYTES * pages, told[refusing.MOST_MEMORY])
+class Counting:
+    """The program, with refusing.c before it too, which counts what a run takes."""
+
+    def __init__(self, place, library):
+        told = os.memfd_create("told")
+        os.truncate(told, refusing.TOLD_BYTES)
+        self.told = mmap.mmap(told, refusing.TOLD_BYTES)
+        self.program = files.program_at(place)
+        words = [place.path, "run", "--file", self.program.file]
+        self.forked = Forked(words, [library, place.library], files.LONGEST_RUN, REFUSED_TOLD=told)
+        self.forked.begin()
+        self.before = self.told[:]  # where it opens its file
+
+    def opened(self, data, answer):
+        """Opens a file, and counts."""
+        self.program.put(data)
+        self.told[:] = self.before
+        ended = self.forked.run(ASKED)
+        told = refusing.TOLD.unpack_from(self.told)
+        wanted = refusing.Ended(0, REFUSED, b"") if answer == OK else refusing.Ended(1, b"", files.SAID[answer])
+        refusing.expect("the end", ended, wanted)
+        refusing.expect("whether it ends by itself", told[refusing.HAS_ENDED], 1)
+        pages = len(data) // PAGE_BYTES + 1
+        return Opened(told[refusing.BYTES_READ] - PAGE_BYTES * pages, told[refusing.MOST_MEMORY])
 
 
-def check_opened(program, case, answer):
+@lru_cache
+def counting(place, library):
+    """The program of this process that counts."""
+    return Counting(place, library)
+
+
+def check_opened(case, answer):
     """Counts what opening a file takes, and gives what is too much."""
-    took = opened(program, case.data, answer)
+    took = counting(Work.place, Work.library).opened(case.data, answer)
     pages = len(case.data) // PAGE_BYTES + 1
     catalogue = min(int.from_bytes(case.data[48:52], "big"), len(case.data))
     cut_off = len(case.data) % PAGE_BYTES
@@ -88,13 +110,9 @@ def check_opened(program, case, answer):
 
 
 class Work:
-    """The program of this process and of those that it starts, as other programs run it and with refusing.c before it."""
+    """Where the program is of which this process and those that it starts make runs, and refusing.c as it was built."""
 
-    path = library = folder = None
-
-    @staticmethod
-    def counted():
-        return refusing.Program(Work.path, Work.library, Work.folder)
+    place = library = None
 
 
 def changes_of(batch, seed):
@@ -109,11 +127,11 @@ def changes_of(batch, seed):
 def compared(seed, batch):
     """Compares what is said of the files of a batch, and counts what opening some of them takes."""
     cases = list(changes_of(batch, seed))
-    found = files.compare(Work.path, cases)
+    found = files.compare(Work.place, cases)
     most, faults = Opened(-sys.maxsize, 0), found.faults
-    for case in cases[::COUNTED]:
+    for case, answer in list(zip(cases, found.answers))[::COUNTED]:
         try:
-            took, more = check_opened(Work.counted(), case, read(case.data).answer)
+            took, more = check_opened(case, answer)
             most, faults = Opened(*map(max, most, took)), faults + more
         except refusing.Wrong as fault:
             faults.append("%s: %s" % (case.title, fault))
@@ -158,7 +176,7 @@ def counted(cases):
         answer = read(case.data).answer
         answers[answer] += 1
         try:
-            took, more = check_opened(Work.counted(), case, answer)
+            took, more = check_opened(case, answer)
             most, faults = Opened(*map(max, most, took)), faults + more
         except refusing.Wrong as fault:
             faults.append("%s: %s" % (case.title, fault))
@@ -180,11 +198,12 @@ def told_of(title, answers, most, faults):
 
 def arguments():
     parser = argparse.ArgumentParser(description=__doc__, formatter_class=argparse.RawDescriptionHelpFormatter)
-    parser.add_argument("--program", default=files.PROGRAM, metavar="PATH")
+    parser.add_argument("--program", default=PROGRAM, metavar="PATH")
     parser.add_argument("--changes", type=int, default=SHARE)
     parser.add_argument("--seed", type=int, default=0)
     parser.add_argument("--jobs", type=int)
     parser.add_argument("--all", action="store_true", dest="is_all")
+    parser.add_argument("--part", type=files.part, default=files.part("1/1"), metavar="I/N")
     words = parser.parse_args()
     words.changes = ALL if words.is_all else words.changes
     return words
@@ -192,19 +211,20 @@ def arguments():
 
 def main():
     words = arguments()
-    folder = files.SHARED_MEMORY if os.path.isdir(files.SHARED_MEMORY) else None
-    answers, most, faults = Counter(), Opened(-sys.maxsize, 0), []
-    with tempfile.TemporaryDirectory(prefix="roadseg-", dir=folder) as folder:
-        Work.path, Work.library, Work.folder = os.path.abspath(words.program), refusing.build(folder), folder
+    with scratch_folder() as folder:
+        Work.place = files.Place(os.path.abspath(words.program), library_of("forked", folder), folder)
+        Work.library = refusing.build(folder)
         with Pool(words.jobs) as pool:
             results = []
-            for title, cases in (("sound files", sound_files()), ("greatest numbers", greatest_numbers())):
+            others = (("sound files", sound_files()), ("greatest numbers", greatest_numbers()))
+            for title, cases in others if words.part.start == 0 else ():
                 answers, most, faults = Counter(), Opened(-sys.maxsize, 0), []
                 for some, took, found in pool.imap(counted, parts_of(cases)):
                     answers, most, faults = answers + some, Opened(*map(max, most, took)), faults + found
                 results.append(told_of(title, answers, most, faults))
             answers, most, faults = Counter(), Opened(-sys.maxsize, 0), []
-            for one, took in pool.imap(partial(compared, words.seed), batches_of(words.changes)):
+            batches = islice(batches_of(words.changes), words.part.start, None, words.part.step)
+            for one, took in pool.imap(partial(compared, words.seed), batches):
                 answers, most, faults = answers + one.counts, Opened(*map(max, most, took)), faults + one.faults
             results.append(told_of("changes of seed %d" % words.seed, answers, most, faults))
     passed, failed = (sum(numbers) for numbers in zip(*results))

@@ -1,7 +1,7 @@
 #!/usr/bin/env python3
 """Opens files with the built program and with the slow reader of files, and compares what both say.
 
-    files.py [--program PATH] [--seed S] [--turns N] [--turns-alone] [--only TURN] [--all-bytes]
+    files.py [--program PATH] [--seed S] [--turns N] [--turns-alone] [--only TURN] [--all-bytes] [--part I/N] [--jobs N]
 
 `roadseg run --file F` opens each file or refuses it 94 or 95, as the slow reader (slow_file.py) does from the bytes
 alone. A file that is opened is asked for what it holds (file_questions.py), and the answers have to be those of the
@@ -14,12 +14,14 @@ closed file of a row that was inserted four times, with each byte changed in tur
 is, and to one other value elsewhere; and pseudo-random ones (random_files.py), as many as there are turns. It prints
 what differs, for each group how many files were OK, 94 and 95, how many differ, and how many lines were answered, and
 at last `N passed, M failed`. `--turns 200000 --turns-alone` is the long run, and `--all-bytes` alone
-changes each byte of that row's file to all 255 other values.
+changes each byte of that row's file to all 255 other values: `--part 2/9` takes every ninth of these files from the second on.
+
+The program is started once, and each run is a fork of it (forked.py). Where the slow reader looks at nothing that it hasn't seen
+before, what it said is said again (read_again.py).
 """
 
 import argparse
 import os
-import subprocess
 import sys
 from collections import Counter
 from functools import lru_cache, partial
@@ -27,18 +29,19 @@ from itertools import chain, islice, repeat
 from multiprocessing import Pool
 from typing import NamedTuple
 
-from file_questions import Exchange, exchanges_of, route_defined
+from file_questions import Exchange
 from file_writer import DAMAGED, NOT_CLOSED, OK, written
-from harness import bytes_at, summary
-from programs import PROGRAM, SHARED_MEMORY, replies_of, scratch_folder  # noqa: F401: damaged_files.py takes the second
+from forked import Forked
+from harness import Wrong, summary
+from programs import PROGRAM, library_of, replies_of, scratch_folder
 from random_files import RandomFile
-from slow_file import lines_of, read
+from read_again import Readings, Talk
+from slow_file import lines_of
 from whole_files import SOUND, files
 
 BATCH = 25  # files that a process compares before it gives its counts
 LONGEST_RUN = 120  # seconds
 MOST_PRINTED = 20  # differences
-MOST_STATES = 2_000  # of which a process keeps what is asked of them
 MOST_LINES = 12  # of a state or a reply that is printed
 
 SAID = {
@@ -52,7 +55,7 @@ BYTES_CHANGED = (12_162, 66_959, 255)
 
 
 # A line that is sent to a file that is refused.
-UNANSWERED = Exchange(b"0 SAVE", b"")
+UNANSWERED = Talk([Exchange(b"0 SAVE", b"")])
 
 
 class Case(NamedTuple):
@@ -70,16 +73,25 @@ def written_cases():
     return [Case(file.name, file.data, file.wanted) for file in files()]
 
 
-def byte_cases(has_all=False):
-    """The closed file of the inserted row, with each byte changed, to all other values where a field is or where it is asked for."""
-    file = written(SOUND["inserted"]())
-    data = bytes(file.data)
+@lru_cache
+def inserted():
+    """The closed file of the inserted row."""
+    return written(SOUND["inserted"]())
+
+
+def byte_changes(has_all=False):
+    """The places of that file's bytes, each with its changes: all where a field is or where they are asked for."""
+    file = inserted()
     told = {place for name, places in file.fields.items() if not is_like_another(name) for place in places}
-    for place, byte in enumerate(data):
+    for place in range(len(file.data)):
         changes = range(1, 256) if has_all or place in told else [1 << place % 8]
-        for change in changes:
-            title = "byte %d of page %d is %d" % (place % 4096, place // 4096, byte ^ change)
-            yield Case(title, file.with_bytes(place, bytes([byte ^ change])))
+        yield from ((place, change) for change in changes)
+
+
+def byte_case(place, change):
+    """That file with a byte changed."""
+    byte = inserted().data[place] ^ change
+    return Case("byte %d of page %d is %d" % (place % 4096, place // 4096, byte), inserted().with_bytes(place, bytes([byte])))
 
 
 def is_like_another(name):
@@ -96,36 +108,44 @@ def random_case(seed, turn):
 # Runs of the program.
 
 
-class Differs(Exception):
-    """The program says something else than the slow reader or the slow machine."""
-
-
-class Program(NamedTuple):
-    """The built program, and the file that it opens, which is written anew for each case."""
+class Place(NamedTuple):
+    """Where the built program is, the library that forks it, and a folder for files."""
 
     path: str
-    file: str
+    library: str
+    folder: str
+
+
+class Program:
+    """The built program, the file that it opens, which is written anew for each case, and what was read of such files."""
+
+    def __init__(self, place):
+        self.file = os.path.join(place.folder, "opened-%d" % os.getpid())
+        self.opened = os.open(self.file, os.O_RDWR | os.O_CREAT)
+        self.forked = Forked([place.path, "run", "--file", self.file], [place.library], LONGEST_RUN)
+        self.readings = Readings()
 
     def put(self, data):
-        with open(self.file, "wb") as file:
-            file.write(data)
+        os.pwrite(self.opened, data, 0)
+        os.truncate(self.opened, len(data))
 
     def bytes(self):
-        return bytes_at(self.file)
+        return os.pread(self.opened, os.fstat(self.opened).st_size, 0)
 
-    def compare(self, exchanges, answer):
+    def compare(self, talk, answer):
         """Sends lines, whose replies have to be as wanted, in a run that has to end as the answer to the file asks."""
-        words = [self.path, "run", "--file", self.file]
-        sent = b"".join(line + b"\n" for line, _ in exchanges)
-        try:
-            done = subprocess.run(words, input=sent, capture_output=True, timeout=LONGEST_RUN)
-        except subprocess.TimeoutExpired:
-            raise Differs("the program does not end within %d seconds" % LONGEST_RUN) from None
-        if (done.returncode, done.stderr) != (0 if answer == OK else 1, SAID[answer]):
-            said = (done.returncode, text_of(done.stderr[-300:]), text_of(answer))
-            raise Differs("the program ends with status %d and says %r, the slow reader says %s" % said)
-        if done.stdout != b"".join(reply for _, reply in exchanges):
-            raise Differs(first_difference(exchanges, replies_of(done.stdout)))
+        done = self.forked.run(talk.sent)
+        if (done.status, done.errors) != (0 if answer == OK else 1, SAID[answer]):
+            said = (done.status, text_of(done.errors[-300:]), text_of(answer))
+            raise Wrong("the program ends with status %d and says %r, the slow reader says %s" % said)
+        if done.out != talk.replies:
+            raise Wrong(first_difference(talk.exchanges, replies_of(done.out)))
+
+
+@lru_cache
+def program_at(place):
+    """The program of this process."""
+    return Program(place)
 
 
 def first_difference(exchanges, replies):
@@ -147,78 +167,62 @@ def text_of(data):
 # Comparing.
 
 
-class Asked:
-    """A state, by all that can be said of it. Many files stand for the same one."""
-
-    def __init__(self, state):
-        self.state, self.said = state, tuple(lines_of(state))
-
-    def __eq__(self, other):
-        return self.said == other.said
-
-    def __hash__(self):
-        return hash(self.said)
-
-
-@lru_cache(maxsize=MOST_STATES)
-def exchanges_for(asked):
-    """What is asked of a state."""
-    return exchanges_of(asked.state)
-
-
 class Compared(NamedTuple):
     counts: Counter  # of the slow reader's answers, and of the lines that were answered
     faults: list
+    answers: list = ()  # of the slow reader, to each file
 
 
-def compare(path, cases):
+def compare(place, cases):
     """Compares what is said of some files."""
-    counts, faults = Counter(), []
-    with scratch_folder("roadseg-files-") as folder:
-        program = Program(path, os.path.join(folder, "file"))
-        for case in cases:
-            found = read(case.data)
-            counts[found.answer] += 1
-            try:
-                counts["lines"] += compare_one(program, case, found)
-            except Differs as differs:
-                faults.append("%s: %s%s" % (case.title, differs, " (%s)" % found.why if found.why else ""))
-    return Compared(counts, faults)
+    program, counts, faults, answers = program_at(place), Counter(), [], []
+    for case in cases:
+        found = program.readings.reading_of(case.data)
+        counts[found.answer] += 1
+        answers.append(found.answer)
+        try:
+            counts["lines"] += compare_one(program, case, found)
+        except Wrong as wrong:
+            faults.append("%s: %s%s" % (case.title, wrong, " (%s)" % found.why if found.why else ""))
+    return Compared(counts, faults, answers)
 
 
 def compare_one(program, case, found):
     """Compares what is said of a file: how many lines were answered."""
     if case.wanted not in (None, found.answer):
-        raise Differs("the slow reader says %s, and %s is wanted" % (text_of(found.answer), text_of(case.wanted)))
-    exchanges = exchanges_for(Asked(found.state)) if found.state else []
+        raise Wrong("the slow reader says %s, and %s is wanted" % (text_of(found.answer), text_of(case.wanted)))
     program.put(case.data)
-    program.compare(exchanges or [UNANSWERED], found.answer)
+    program.compare(found.talk if found.state else UNANSWERED, found.answer)
     if program.bytes() != case.data:
-        raise Differs("its bytes have changed")
-    if found.state:
-        compare_change(program, found.state)
-    return len(exchanges)
-
-
-def compare_change(program, state):
-    """Defines a route, and compares what the file then stands for."""
-    exchange, wanted = route_defined(state)
-    program.compare([exchange], OK)
-    found = read(program.bytes())
+        raise Wrong("its bytes have changed")
     if found.state is None:
-        raise Differs("after a change the file is %s: %s" % (text_of(found.answer), found.why))
+        return 0
+    compare_change(program, *found.route_defined)
+    return len(found.talk.exchanges)
+
+
+def compare_change(program, talk, wanted):
+    """Defines a route, and compares what the file then stands for."""
+    program.compare(talk, OK)
+    found = program.readings.reading_of(program.bytes())
+    if found.state is None:
+        raise Wrong("after a change the file is %s: %s" % (text_of(found.answer), found.why))
     if found.state != wanted:
         lines, wanted_lines = list(lines_of(found.state)), list(lines_of(wanted))
         said = (shown(without(lines, wanted_lines)), shown(without(wanted_lines, lines)))
-        raise Differs("after a change the file stands for %s, and for %s is wanted" % said)
+        raise Wrong("after a change the file stands for %s, and for %s is wanted" % said)
 
 
 def without(lines, others):
     return [line for line in lines if line not in others]
 
 
-def compare_turns(path, seed, turns):
-    return compare(path, [random_case(seed, turn) for turn in turns])
+def compare_bytes(place, changes):
+    return compare(place, [byte_case(*change) for change in changes])
+
+
+def compare_turns(place, seed, turns):
+    return compare(place, [random_case(seed, turn) for turn in turns])
 
 
 def batches_of(items):
@@ -252,23 +256,34 @@ def options():
     parser.add_argument("--only", type=int, help="one turn alone")
     parser.add_argument("--turns-alone", action="store_true", help="pseudo-random files alone")
     parser.add_argument("--all-bytes", action="store_true", help="each byte changed to each value, and nothing else")
+    parser.add_argument("--part", type=part, default=part("1/1"), metavar="I/N", help="a share of these")
+    parser.add_argument("--jobs", type=int, metavar="N", help="processes (default: as many as processors)")
     return parser.parse_args()
+
+
+def part(text):
+    """One of so many parts, as a slice of what is divided."""
+    number, count = map(int, text.split("/"))
+    if not 1 <= number <= count:
+        raise ValueError
+    return slice(number - 1, None, count)
 
 
 def main():
     chosen = options()
-    path = os.path.abspath(chosen.program)
     turns = range(chosen.turns) if chosen.only is None else [chosen.only]
     results = []
-    with Pool() as pool:
-        these = partial(compare, path)
+    with scratch_folder("roadseg-files-") as folder, Pool(chosen.jobs) as pool:
+        place = Place(os.path.abspath(chosen.program), library_of("forked", folder), folder)
+        these, of_bytes = partial(compare, place), partial(compare_bytes, place)
         if chosen.all_bytes:
-            results.append(report("each byte and value", pool.imap(these, batches_of(byte_cases(True)))))
+            changes = islice(byte_changes(True), chosen.part.start, None, chosen.part.step)
+            results.append(report("each byte and value", pool.imap(of_bytes, batches_of(changes))))
             turns = []
         elif chosen.only is None and not chosen.turns_alone:
             results.append(report("written by hand", pool.imap(these, batches_of(written_cases()))))
-            results.append(report("each byte changed", pool.imap(these, batches_of(byte_cases())), BYTES_CHANGED))
-        these = partial(compare_turns, path, chosen.seed)
+            results.append(report("each byte changed", pool.imap(of_bytes, batches_of(byte_changes())), BYTES_CHANGED))
+        these = partial(compare_turns, place, chosen.seed)
         results.append(report("pseudo-random, seed %d" % chosen.seed, pool.imap(these, batches_of(turns))))
     return summary(*map(sum, zip(*results)))
 

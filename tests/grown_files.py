@@ -19,7 +19,7 @@ COLUMNS = [(b"c%02d" % number, 40) for number in range(12)]
 WAYS = ["bytes"] * 9 + ["number"] * 3 + ["swap", "repeat", "cut", "append"]
 
 
-@lru_cache(maxsize=4)
+@lru_cache
 def grown(pages):
     """The bytes of a sound file of about so many pages."""
     said = of_each_kind()

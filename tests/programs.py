@@ -33,6 +33,14 @@ def scratch_folder(prefix="roadseg-"):
     return tempfile.TemporaryDirectory(prefix=prefix, dir=SHARED_MEMORY if os.path.isdir(SHARED_MEMORY) else None)
 
 
+def library_of(name, folder):
+    """Builds a library that is loaded before a program (LD_PRELOAD), of the C file of this name, and gives its path."""
+    library = os.path.join(folder, name + ".so")
+    source = os.path.join(ROOT, "tests", name + ".c")
+    subprocess.run(["gcc", "-O2", "-Wall", "-Wextra", "-Werror", "-shared", "-fPIC", "-o", library, source], check=True)
+    return library
+
+
 # Whole runs.
 
 

@@ -4,14 +4,11 @@ tells of it."""
 import mmap
 import os
 import struct
-import subprocess
 from typing import NamedTuple
 
 from harness import Wrong, bytes_at, expect
-from programs import FINISH, Ended, Running
+from programs import FINISH, Ended, Running, library_of
 
-HERE = os.path.dirname(os.path.abspath(__file__))
-SOURCE = os.path.join(HERE, "refusing.c")
 LONGEST = 60  # seconds that a reply or an end may take
 
 # The end of a run in which nothing is wrong.
@@ -25,15 +22,13 @@ REFUSED, HAS_ENDED, LIES, BYTES_READ, _MEMORY, MOST_MEMORY = range(len(KINDS), l
 
 # What it is asked to do from now on.
 ASKED = struct.Struct("@6L")
+TOLD_BYTES = TOLD.size + ASKED.size
 ZEROS, OTHER_BYTES = 1, 2
 
 
 def build(folder):
     """Builds the library, and gives its path."""
-    library = os.path.join(folder, "refusing.so")
-    words = ["gcc", "-O2", "-Wall", "-Wextra", "-Werror", "-shared", "-fPIC", "-o", library, SOURCE]
-    subprocess.run(words, check=True)
-    return library
+    return library_of("refusing", folder)
 
 
 class Refusal(NamedTuple):
@@ -90,8 +85,8 @@ class Run(Running):
 
     def __init__(self, program, words, refusal):
         told = os.memfd_create("told")
-        os.truncate(told, TOLD.size + ASKED.size)
-        self.told = mmap.mmap(told, TOLD.size + ASKED.size)
+        os.truncate(told, TOLD_BYTES)
+        self.told = mmap.mmap(told, TOLD_BYTES)
         self.is_noted = False
         settings = dict(os.environ, LD_PRELOAD=program.library, REFUSED_TOLD=str(told), **refusal.settings())
         super().__init__([program.path, *words], LONGEST, env=settings, pass_fds=[told])

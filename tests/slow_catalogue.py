@@ -6,6 +6,7 @@ a view's text says is looked at elsewhere.
 """
 
 import re
+from functools import lru_cache
 from typing import NamedTuple
 
 from slow_commands import Column
@@ -36,7 +37,7 @@ class TableItem(NamedTuple):
     name: bytes
     number: int
     is_line: bool
-    columns: list
+    columns: tuple
 
     def types(self):
         """The columns as a line defines them."""
@@ -109,7 +110,8 @@ class Bytes:
     def table(self):
         name, number, kind = self.name(), self.number(4), self.number(1)
         want(kind <= 1, "the kind of a table")
-        return TableItem(name, number, kind == 1, [(self.name(), self.number(1)) for _ in range(self.number(1))])
+        columns = [(self.name(), self.number(1)) for _ in range(self.number(1))]
+        return TableItem(name, number, kind == 1, tuple(columns))
 
     def index(self):
         return Index(self.name(), *self.numbers(2), self.number(1))
@@ -176,6 +178,7 @@ def check_alignment(alignment, routes):
         check_piece(piece, routes)
 
 
+@lru_cache
 def catalogue_of(data):
     """The definitions that the bytes of a catalogue say, each of which passes its checks."""
     catalogue = Bytes(data).catalogue()

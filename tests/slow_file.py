@@ -24,6 +24,7 @@ The state is a line for each thing, measures in thousandths, all names in the or
 import argparse
 import sys
 from collections import Counter
+from functools import lru_cache
 from typing import NamedTuple
 
 from slow_catalogue import Catalogue, catalogue_of, is_name
@@ -37,6 +38,7 @@ LIVING = 2**64 - 1
 MOST_CHANGES = 2**63 - 1
 MOST_REFERENTS = 1000
 NAME_BYTES = 32
+MOST_RECORDS = 20_000  # of which it is known what their cells say
 
 
 class Record(NamedTuple):
@@ -115,6 +117,7 @@ def row_of(data, columns):
     return tuple(values)
 
 
+@lru_cache(maxsize=MOST_RECORDS)
 def record_of(cell, columns):
     """The event that a cell says."""
     end = len(cell) - 20
@@ -294,26 +297,28 @@ def check_views(catalogue, referents):
 
 
 class Read(NamedTuple):
-    """What is answered to a file: OK and the state that it stands for, ERR 94 and why it stands for none, or ERR 95."""
+    """What is answered to a file: OK, the state that it stands for, and from where to where bytes were given; ERR 94 and why it
+    stands for none; or ERR 95."""
 
     answer: bytes
     state: State | None = None
     why: str | None = None
+    given: list | None = None
 
 
 def read(data):
     """What the bytes of a file say."""
     try:
-        return Read(b"OK", state=state_of(data))
+        pages = Pages(data)
+        return Read(b"OK", state=state_of(pages), given=pages.given)
     except Damaged as damaged:
         return Read(b"ERR 94", why=str(damaged))
     except NotClosed:
         return Read(b"ERR 95")
 
 
-def state_of(data):
-    """The state that the bytes of a file stand for: else `Damaged`, or `NotClosed` where the flag alone is wrong."""
-    pages = Pages(data)
+def state_of(pages):
+    """The state that a file's pages stand for: else `Damaged`, or `NotClosed` where the flag alone is wrong."""
     directory = pages.directory()
     catalogue = catalogue_of(pages.catalogue())
     want(directory.accepted <= MOST_CHANGES, "the accepted changes")

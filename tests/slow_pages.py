@@ -1,10 +1,12 @@
 """The pages of a file, for the slow reader of files: page 0, the directory, chains of pages, and trees.
 
 It is written from the format alone and shares nothing with the crates. Each page is taken once, by whoever it belongs
-to, and its first 16 bytes are looked at then. All numbers are big-endian. What does not fit is `Damaged`.
+to, and its first 16 bytes are looked at then. Of what follows no more is given than is counted there, where something is:
+so which bytes of a file the reader can have looked at is known. All numbers are big-endian. What does not fit is `Damaged`.
 """
 
 import struct
+from functools import lru_cache
 from typing import NamedTuple
 
 PAGE_BYTES = 4096
@@ -47,7 +49,8 @@ def as_closed(data):
 
 
 class Page(NamedTuple):
-    """A page that fits its kind and number: what is counted in it, the next page, and the bytes after its header."""
+    """A page that fits its kind and number: what is counted in it, the next page, and the bytes after its header, if something is
+    counted no more of them than that."""
 
     kind: int
     count: int
@@ -78,11 +81,12 @@ class Directory(NamedTuple):
 
 
 class Pages:
-    """The pages of a file up to the count that page 0 tells, and which of them were taken."""
+    """The pages of a file up to the count that page 0 tells, which were taken, and from where to where bytes were given."""
 
     def __init__(self, data):
         self.data = data
         self.taken = set()
+        self.given = []
         self.count = 1
         want(len(data) >= PAGE_BYTES, "a file has a page")
         content = self.take(0, FILE_HEADER).content
@@ -93,40 +97,38 @@ class Pages:
         want(self.count <= MOST_PAGES, "no more pages than the limit")
         want(self.count <= len(data) // PAGE_BYTES, "the file has its pages")
 
-    def take(self, number, *kinds):
-        """The page with this number, which is of one of these kinds and was not taken before."""
+    def take(self, number, *kinds, widths=()):
+        """The page with this number, which is of one of these kinds and was not taken before. Of kinds that count something
+        the bytes of each may be told."""
         want(number < self.count and number not in self.taken, "a page of its own")
         self.taken.add(number)
         start = number * PAGE_BYTES
         kind, zero, count, own_number, next_page, last = PAGE_HEADER.unpack_from(self.data, start)
+        end = start + HEADER_BYTES + min(count * widths[kind] if kind in widths else CONTENT_BYTES, CONTENT_BYTES)
+        self.given.append((start, end))
         want(kind in kinds, "the kind of page %d" % number)
         want(own_number == number and zero == 0 and last == 0, "the header of page %d" % number)
         want(next_page == 0 or kind in (CATALOGUE, FREE), "no next page of page %d" % number)
         want(count == 0 or kind in (LEAF, INNER, CATALOGUE), "no count in page %d" % number)
-        return Page(kind, count, next_page, self.data[start + HEADER_BYTES : start + PAGE_BYTES])
+        return Page(kind, count, next_page, self.data[start + HEADER_BYTES : end])
 
-    def chain(self, first, kind):
+    def chain(self, first, kind, widths=()):
         """The pages of a chain, from its first on; 0 is the end."""
         while first != 0:
-            page = self.take(first, kind)
+            page = self.take(first, kind, widths=widths)
             yield page
             first = page.next
 
     def directory(self):
         """What page 1 says."""
-        content = self.take(1, DIRECTORY).content
-        want(is_zeros(content[DIRECTORY_FORM.size :]), "the rest of page 1 is zeros")
-        numbers = DIRECTORY_FORM.unpack_from(content)
-        threes = zip(*(numbers[place : 3 * TABLES : 3] for place in range(3)))
-        indexes = list(numbers[3 * TABLES : 3 * TABLES + INDEXES])
-        return Directory(list(map(TreeItem._make, threes)), indexes, TreeItem(*numbers[-4:-1]), numbers[-1])
+        return directory_of(self.take(1, DIRECTORY).content)
 
     def catalogue(self):
         """The bytes of the definitions."""
         parts = []
-        for page in self.chain(self.first_catalogue, CATALOGUE):
+        for page in self.chain(self.first_catalogue, CATALOGUE, {CATALOGUE: 1}):
             want(page.count <= CONTENT_BYTES, "the bytes of a page of the catalogue")
-            parts.append(page.content[: page.count])
+            parts.append(page.content)
         data = b"".join(parts)
         want(len(data) == self.catalogue_bytes, "the catalogue has the bytes that page 0 tells")
         return data
@@ -157,15 +159,25 @@ class Pages:
 
     def levels(self, root, width, summary_bytes):
         """Level by level from the root: the entries of each inner page, and at last the cells of each leaf."""
-        levels, numbers = [], [root]
+        levels, numbers, widths = [], [root], {LEAF: width, INNER: 4 + summary_bytes + width}
         while True:
-            pages = [self.take(number, LEAF, INNER) for number in numbers]
+            pages = [self.take(number, LEAF, INNER, widths=widths) for number in numbers]
             kind = pages[0].kind
             want(all(page.kind == kind for page in pages), "leaves at one depth")
             if kind == LEAF:
-                return levels + [[parts_of(page, width, 1) for page in pages]]
-            levels.append([parts_of(page, 4 + summary_bytes + width, 2) for page in pages])
+                return levels + [[parts_of(page, widths[kind], 1) for page in pages]]
+            levels.append([parts_of(page, widths[kind], 2) for page in pages])
             numbers = [int.from_bytes(entry[:4], "big") for page in levels[-1] for entry in page]
+
+
+@lru_cache
+def directory_of(content):
+    """What the bytes of page 1 say."""
+    want(is_zeros(content[DIRECTORY_FORM.size :]), "the rest of page 1 is zeros")
+    numbers = DIRECTORY_FORM.unpack_from(content)
+    threes = zip(*(numbers[place : 3 * TABLES : 3] for place in range(3)))
+    indexes = list(numbers[3 * TABLES : 3 * TABLES + INDEXES])
+    return Directory(list(map(TreeItem._make, threes)), indexes, TreeItem(*numbers[-4:-1]), numbers[-1])
 
 
 def parts_of(page, width, fewest):
