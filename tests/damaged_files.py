@@ -31,7 +31,7 @@ from typing import NamedTuple
 import files
 import refusing
 from file_writer import DAMAGED, NOT_CLOSED, OK, PAGE_BYTES, Description, Record, Route, Table, written
-from forked import Forked
+from forked import Job
 from grown_files import SIZES, Change, grown, of_each_kind
 from programs import PROGRAM, library_of, scratch_folder
 from slow_file import read
@@ -67,20 +67,17 @@ class Counting:
         told = os.memfd_create("told")
         os.truncate(told, refusing.TOLD_BYTES)
         self.told = mmap.mmap(told, refusing.TOLD_BYTES)
-        self.program = files.program_at(place)
-        words = [place.path, "run", "--file", self.program.file]
-        self.forked = Forked(words, [library, place.library], files.LONGEST_RUN, REFUSED_TOLD=told)
-        self.forked.begin()
+        self.forked = files.forked_at(place, library, REFUSED_TOLD=told)
+        self.forked.runs([])
         self.before = self.told[:]  # where it opens its file
 
     def opened(self, data, answer):
         """Opens a file, and counts."""
-        self.program.put(data)
         self.told[:] = self.before
-        ended = self.forked.run(ASKED)
+        done, = self.forked.runs([Job(data, ASKED)])
         told = refusing.TOLD.unpack_from(self.told)
-        wanted = refusing.Ended(0, REFUSED, b"") if answer == OK else refusing.Ended(1, b"", files.SAID[answer])
-        refusing.expect("the end", ended, wanted)
+        wanted = (0, REFUSED, b"") if answer == OK else (1, b"", files.SAID[answer])
+        refusing.expect("the end", done[:3], wanted)
         refusing.expect("whether it ends by itself", told[refusing.HAS_ENDED], 1)
         pages = len(data) // PAGE_BYTES + 1
         return Opened(told[refusing.BYTES_READ] - PAGE_BYTES * pages, told[refusing.MOST_MEMORY])

@@ -22,6 +22,7 @@ before, what it said is said again (read_again.py).
 
 import argparse
 import os
+import signal
 import sys
 from collections import Counter
 from functools import lru_cache, partial
@@ -31,7 +32,7 @@ from typing import NamedTuple
 
 from file_questions import Exchange
 from file_writer import DAMAGED, NOT_CLOSED, OK, written
-from forked import Forked
+from forked import Forked, Job
 from harness import Wrong, summary
 from programs import PROGRAM, library_of, replies_of, scratch_folder
 from random_files import RandomFile
@@ -116,36 +117,42 @@ class Place(NamedTuple):
     folder: str
 
 
-class Program:
-    """The built program, the file that it opens, which is written anew for each case, and what was read of such files."""
+class Program(NamedTuple):
+    """The built program, started once, and what was read of the files that it opens."""
 
-    def __init__(self, place):
-        self.file = os.path.join(place.folder, "opened-%d" % os.getpid())
-        self.opened = os.open(self.file, os.O_RDWR | os.O_CREAT)
-        self.forked = Forked([place.path, "run", "--file", self.file], [place.library], LONGEST_RUN)
-        self.readings = Readings()
-
-    def put(self, data):
-        os.pwrite(self.opened, data, 0)
-        os.truncate(self.opened, len(data))
-
-    def bytes(self):
-        return os.pread(self.opened, os.fstat(self.opened).st_size, 0)
-
-    def compare(self, talk, answer):
-        """Sends lines, whose replies have to be as wanted, in a run that has to end as the answer to the file asks."""
-        done = self.forked.run(talk.sent)
-        if (done.status, done.errors) != (0 if answer == OK else 1, SAID[answer]):
-            said = (done.status, text_of(done.errors[-300:]), text_of(answer))
-            raise Wrong("the program ends with status %d and says %r, the slow reader says %s" % said)
-        if done.out != talk.replies:
-            raise Wrong(first_difference(talk.exchanges, replies_of(done.out)))
+    forked: Forked
+    readings: Readings
 
 
 @lru_cache
 def program_at(place):
     """The program of this process."""
-    return Program(place)
+    return Program(forked_at(place), Readings())
+
+
+def forked_at(place, *libraries, **settings):
+    """The program over a file of this process, which is written anew for each case."""
+    file = os.path.join(place.folder, "opened-%d" % os.getpid())
+    os.close(os.open(file, os.O_RDWR | os.O_CREAT))
+    return Forked([place.path, "run", "--file", file], [place.library, *libraries], LONGEST_RUN, **settings)
+
+
+def jobs_of(case, found):
+    """The runs over a file: it is asked for what it holds, and where it is opened a route is defined."""
+    if found.state is None:
+        return [Job(case.data, UNANSWERED.sent)]
+    return [Job(case.data, found.talk.sent), Job(None, found.route_defined[0].sent)]
+
+
+def compare_run(done, talk, answer):
+    """Compares a run with what is wanted of it: these replies to the lines, and an end as the answer to the file asks."""
+    if done.status == -signal.SIGALRM:
+        raise Wrong("the program does not end within %d seconds" % LONGEST_RUN)
+    if (done.status, done.errors) != (0 if answer == OK else 1, SAID[answer]):
+        said = (done.status, text_of(done.errors[-300:]), text_of(answer))
+        raise Wrong("the program ends with status %d and says %r, the slow reader says %s" % said)
+    if done.out != talk.replies:
+        raise Wrong(first_difference(talk.exchanges, replies_of(done.out)))
 
 
 def first_difference(exchanges, replies):
@@ -175,36 +182,36 @@ class Compared(NamedTuple):
 
 def compare(place, cases):
     """Compares what is said of some files."""
-    program, counts, faults, answers = program_at(place), Counter(), [], []
-    for case in cases:
-        found = program.readings.reading_of(case.data)
+    program, counts, faults = program_at(place), Counter(), []
+    readings = [program.readings.reading_of(case.data) for case in cases]
+    jobs = [jobs_of(*both) for both in zip(cases, readings)]
+    runs = iter(program.forked.runs(list(chain.from_iterable(jobs))))
+    for case, found, asked in zip(cases, readings, jobs):
         counts[found.answer] += 1
-        answers.append(found.answer)
         try:
-            counts["lines"] += compare_one(program, case, found)
+            counts["lines"] += compare_one(program, case, found, *islice(runs, len(asked)))
         except Wrong as wrong:
             faults.append("%s: %s%s" % (case.title, wrong, " (%s)" % found.why if found.why else ""))
-    return Compared(counts, faults, answers)
+    return Compared(counts, faults, [found.answer for found in readings])
 
 
-def compare_one(program, case, found):
-    """Compares what is said of a file: how many lines were answered."""
+def compare_one(program, case, found, first, second=None):
+    """Compares what is said of a file in one run, and what it stands for after another: how many lines were answered."""
     if case.wanted not in (None, found.answer):
         raise Wrong("the slow reader says %s, and %s is wanted" % (text_of(found.answer), text_of(case.wanted)))
-    program.put(case.data)
-    program.compare(found.talk if found.state else UNANSWERED, found.answer)
-    if program.bytes() != case.data:
+    compare_run(first, found.talk if found.state else UNANSWERED, found.answer)
+    if first.left != case.data:
         raise Wrong("its bytes have changed")
     if found.state is None:
         return 0
-    compare_change(program, *found.route_defined)
+    compare_change(program, second, *found.route_defined)
     return len(found.talk.exchanges)
 
 
-def compare_change(program, talk, wanted):
-    """Defines a route, and compares what the file then stands for."""
-    program.compare(talk, OK)
-    found = program.readings.reading_of(program.bytes())
+def compare_change(program, done, talk, wanted):
+    """Compares a run that defines a route, and what the file then stands for."""
+    compare_run(done, talk, OK)
+    found = program.readings.reading_of(done.left)
     if found.state is None:
         raise Wrong("after a change the file is %s: %s" % (text_of(found.answer), found.why))
     if found.state != wanted:

@@ -1,87 +1,67 @@
 """Runs of a program that is started once: forked.c is loaded before it, and each run is a fork of it.
 
 It is the same program that runs, from where it opens its file; but the system does not start it anew for each run, nor load and
-bind its libraries, nor does it look at its words again. Its lines come from a pipe, as ever, and what it writes goes to files in
-memory.
+bind its libraries, nor does it look at its words again. Some runs are asked for at once, and made one after another.
 """
 
 import os
-import signal
 import socket
 import struct
 import subprocess
+from contextlib import suppress
+from itertools import pairwise
+from typing import NamedTuple
 
 from harness import Wrong
-from programs import Ended
 
-PIPE_BYTES = 65_536  # that a pipe holds
-STATUS = struct.Struct("@i")
+RUNS, JOB, TOLD = struct.Struct("@l"), struct.Struct("@2l"), struct.Struct("@4l")
+
+
+class Job(NamedTuple):
+    """What a run is to do: the bytes that the program's file has then, None where it stays as it is, and what is sent."""
+
+    data: bytes | None
+    sent: bytes
+
+
+class Done(NamedTuple):
+    """How a run ended: its status, what it wrote to standard output and to standard error, and what it left in its file."""
+
+    status: int
+    out: bytes
+    errors: bytes
+    left: bytes
 
 
 class Forked:
-    """A program to be started with these words, with libraries before it, of which forked.c is one. A run may take so many
-    seconds. Each further setting is an open file whose number is told to the libraries."""
+    """A program that is started with these words, with libraries before it, of which forked.c is one. A run may take so many
+    seconds, or is ended by SIGALRM. Each further setting is an open file whose number is told to the libraries."""
 
-    def __init__(self, words, libraries, longest, **settings):
-        self.words, self.longest, self.passed = words, longest, list(settings.values())
-        numbers = {name: str(number) for name, number in settings.items()}
-        self.settings = dict(os.environ, LD_PRELOAD=":".join(libraries), LD_BIND_NOW="1", **numbers)
-        self.process = None
+    def __init__(self, words, libraries, longest, **files):
+        self.socket, other = socket.socketpair()
+        self.jobs, *self.texts, self.told = (os.memfd_create(name) for name in ("jobs", "out", "errors", "left", "told"))
+        numbers = [other.fileno(), self.jobs, *self.texts, self.told]
+        settings = dict(os.environ, LD_PRELOAD=":".join(libraries), LD_BIND_NOW="1")
+        settings["FORKED"] = " ".join(map(str, [longest, *numbers]))
+        settings.update((name, str(file)) for name, file in files.items())
+        passed = [*numbers, *files.values()]
+        self.process = subprocess.Popen(words, stdin=subprocess.DEVNULL, env=settings, pass_fds=passed)
+        other.close()
 
-    def begin(self):
-        """Starts the program, up to where it opens its file, if that is not done."""
-        if self.process is None:
-            self.socket, other = socket.socketpair()
-            with other:
-                settings, passed = dict(self.settings, FORKED_AT=str(other.fileno())), [*self.passed, other.fileno()]
-                nothing = subprocess.DEVNULL
-                self.process = subprocess.Popen(self.words, stdin=nothing, env=settings, pass_fds=passed, start_new_session=True)
-            self.socket.setsockopt(socket.SOL_SOCKET, socket.SO_RCVTIMEO, struct.pack("@ll", self.longest, 0))
-            self.out, self.errors = os.memfd_create("out"), os.memfd_create("errors")
-            self.told()
-
-    def end(self):
-        """Ends the program, and a run that goes on."""
-        os.killpg(self.process.pid, signal.SIGKILL)
-        self.process.wait()
-        self.socket.close()
-        os.close(self.out)
-        os.close(self.errors)
-        self.process = None
-
-    def told(self):
-        """The status of a run that ends, or what is told before the first one."""
-        try:
-            return STATUS.unpack(self.socket.recv(STATUS.size))[0]
-        except (BlockingIOError, struct.error) as fault:
-            self.end()
-            wrong = "does not end within %d seconds" % self.longest if isinstance(fault, OSError) else "cannot be forked"
-            raise Wrong("the program " + wrong) from None
-
-    def run(self, sent):
-        """A run over these bytes: how it ended, and all that it wrote."""
-        self.begin()
-        source = source_of(sent)
-        socket.send_fds(self.socket, [b"r"], [source, self.out, self.errors])
-        os.close(source)
-        status = self.told()
-        return Ended(os.waitstatus_to_exitcode(status), taken_from(self.out), taken_from(self.errors))
-
-
-def source_of(sent):
-    """A pipe that has these bytes, and then ends; or a file in memory where a pipe does not hold as many."""
-    if len(sent) > PIPE_BYTES:
-        source = os.memfd_create("lines")
-        os.pwrite(source, sent, 0)
-        return source
-    source, sink = os.pipe()
-    os.write(sink, sent)
-    os.close(sink)
-    return source
-
-
-def taken_from(file):
-    """The bytes of a file up to its place, which is its beginning after that."""
-    data = os.pread(file, os.lseek(file, 0, os.SEEK_CUR), 0)
-    os.lseek(file, 0, os.SEEK_SET)
-    return data
+    def runs(self, jobs):
+        """Makes some runs, and gives how each ended."""
+        parts = []
+        for data, sent in jobs:
+            parts += [JOB.pack(-1 if data is None else len(data), len(sent)), data or b"", sent]
+        os.pwrite(self.jobs, b"".join(parts), 0)
+        answer = None
+        with suppress(OSError):
+            self.socket.send(RUNS.pack(len(jobs)))
+            answer = self.socket.recv(RUNS.size)
+        if not answer:
+            raise Wrong("the program cannot be started and forked")
+        told = list(TOLD.iter_unpack(os.pread(self.told, TOLD.size * len(jobs), 0)))
+        ends = [(0, 0, 0), *(place for _, *place in told)]
+        texts = [os.pread(file, end, 0) for file, end in zip(self.texts, ends[-1])]
+        pieces = ([text[start:end] for text, start, end in zip(texts, *places)] for places in pairwise(ends))
+        return [Done(os.waitstatus_to_exitcode(one[0]), *some) for one, some in zip(told, pieces)]
