@@ -8,7 +8,7 @@ pub mod catalog;
 pub mod entries;
 mod numbers;
 pub mod referents;
-mod uses;
+pub mod uses;
 
 pub use by_name::ByName;
 pub use catalog::Catalog;

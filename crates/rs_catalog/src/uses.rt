@@ -81,7 +81,7 @@ impl Catalog {
 }
 
 /// Whether a query names this table or view.
-fn names_query(query: &Query, name: &Name) -> bool
+pub fn names_query(query: &Query, name: &Name) -> bool
     ensures { result ≡ names_query name.now.bytes (query_tree query.now) }
 {
     match query {
@@ -99,7 +99,7 @@ fn names_query(query: &Query, name: &Name) -> bool
 }
 
 /// Whether a query names this alignment.
-fn names_alignment(query: &Query, name: &Name) -> bool
+pub fn names_alignment(query: &Query, name: &Name) -> bool
     ensures { result ≡ names_alignment name.now.bytes (query_tree query.now) }
 {
     match query {
@@ -208,7 +208,7 @@ fn is_by(position: &Position, name: &Name) -> bool
 }
 
 /// Whether the names have the same bytes.
-pub(crate) fn is_same(name: &Name, other: &Name) -> bool
+pub fn is_same(name: &Name, other: &Name) -> bool
     ensures { result ≡ same_name name.now.bytes other.now.bytes }
 {
     other.as_str() == name.as_str()

@@ -14,7 +14,6 @@ pub mod referents;
 pub mod rows;
 pub mod stop;
 pub mod tell;
-pub mod uses;
 pub mod views;
 
 pub use dumping::{Wanted, dump};

@@ -16,7 +16,7 @@ ghost use Rattle.rs_syntax.specs.QueryView.{query_tree};
 use crate::put::put_view;
 use crate::stop::Stop;
 use crate::tell::tell_view;
-use crate::uses::{is_same, names_alignment, names_query};
+use rs_catalog::uses::{is_same, names_alignment, names_query};
 use rs_catalog::{Catalog, RouteReferents, ViewEntry};
 use rs_checker::check;
 use rs_methods::Name;
