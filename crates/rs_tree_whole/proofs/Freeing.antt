@@ -5,17 +5,13 @@ use Rattle.std.proofs.lemmas.Bool.{cases_lt}
 use Rattle.std.proofs.lemmas.List.{take_all, length-map}
 use Rattle.std.proofs.lemmas.List.Sums.{sum_by_push, sum_by-cons}
 use Rattle.std.specs.List.{sum_by}
-use Rattle.rs_page.specs.Header.{IsHeader}
 use Rattle.rs_page.specs.Number.{number_at}
 use Rattle.rs_page.specs.PageBytes.{is_free, IsFit}
 use Rattle.rs_page.specs.declared.file_header.FileHeader.{FileHeader}
-use Rattle.rs_page.specs.declared.header.PageHeader.{PageHeader}
-use Rattle.rs_page.specs.declared.header.PageKind.TheVariants as kind
-use Rattle.rs_page.proofs.Headers.{header_is_one}
 use Rattle.rs_pages.specs.PageMap.{PageMap, SamePages, in_use}
 use Rattle.rs_pages.specs.Store.{Store}
 use Rattle.rs_pages.specs.Uses.{ReleasesPage}
-use Rattle.rs_pages.proofs.FreeLists.{page_one, free_list_is_shorter_than_the_count}
+use Rattle.rs_pages.proofs.FreeLists.{free_list_is_shorter_than_the_count}
 use Rattle.rs_pages.proofs.Stores.{SamePages-refl, used_there}
 use Rattle.rs_records.specs.Records.{records}
 use Rattle.rs_records.proofs.RecordLists.{length-records}
@@ -23,7 +19,7 @@ use Rattle.rs_page_owners.specs.Counts.{one_at, ◌&◌, no_pages}
 use Rattle.rs_page_owners.specs.Owners.{Shares, Keeps, Moves}
 use Rattle.rs_page_owners.proofs.Moving.{one_at-same, shares_same, keeps_trans, releases-moves, same_pages-moves, moves_same}
 use Rattle.rs_tree.specs.Calls.{IsNotShared}
-use Rattle.rs_tree.specs.Content.{SaysChild, content, tree_header}
+use Rattle.rs_tree.specs.Content.{SaysChild, content}
 use Rattle.rs_tree.specs.Form.{Form, entry_width}
 use Rattle.rs_tree.specs.Shape.{Shape, Lies, page_of, uses, size_of, child_of}
 use Rattle.rs_tree.specs.Tree.{IsTree, Stands}
@@ -33,7 +29,6 @@ use Rattle.rs_tree.proofs.Lists.{take_next, sum_upto, zip_lengths}
 use Rattle.rs_tree.specs.Layouts.{form_with}
 use Rattle.rs_tree.specs.Node.{IsNode}
 use Rattle.rs_tree.specs.declared.layout.Layout.{Layout}
-use Rattle.rs_tree.specs.declared.node.Node.{Node}
 use Rattle.rs_tree.specs.declared.node.Node.TheVariants.{Leaf, Inner}
 use Rattle.rs_tree.specs.Reading.{HasNoNode}
 use Rattle.rs_tree.specs.Walking.{IsPart, IsEntryOf, AreEntriesOf}

@@ -1,19 +1,16 @@
 -- Parts with one page at their top have one height, one list of cells and the same uses.
-use Rattle.std.proofs.Common.{◌≡◌, ◌≤◌, ℕ, zero, suc, Some, List, [], ◌∷◌, length, map, refl, sym, ap, ◌∙◌, subst, arith}
+use Rattle.std.proofs.Common.{◌≡◌, ◌≤◌, ℕ, zero, suc, List, [], ◌∷◌, length, map, refl, sym, ap, ◌∙◌, subst, arith}
 use Rattle.std.proofs.lemmas.List.{length-map}
 use Rattle.std.proofs.lemmas.List.Sums.{sum_by-cons}
 use Rattle.std.specs.List.{AllByRecursion, AllZip, flat_map}
-use Rattle.rs_page.specs.Header.{IsHeader}
 use Rattle.rs_page.specs.declared.header.PageHeader.{PageHeader}
 use Rattle.rs_page.specs.declared.header.PageKind.TheVariants as kind
-use Rattle.rs_page.proofs.Headers.{header_is_one}
 use Rattle.rs_pages.specs.PageMap.{PageMap}
-use Rattle.rs_pages.proofs.FreeLists.{page_one}
 use Rattle.rs_records.specs.Order.{Ascends}
 use Rattle.rs_records.specs.Records.{records}
 use Rattle.rs_tree.specs.Form.{Form, entry_width}
-use Rattle.rs_tree.specs.Content.{SaysChild, Child, content, tree_header}
-use Rattle.rs_tree.specs.Shape.{Shape, Lies, LeafLies, InnerLies, page_of, cells_of, uses, child_of}
+use Rattle.rs_tree.specs.Content.{SaysChild, content, tree_header}
+use Rattle.rs_tree.specs.Shape.{Shape, Lies, page_of, cells_of, uses, child_of}
 use Rattle.rs_tree.specs.Tree.{IsTree}
 use Rattle.rs_tree.proofs.Below.{ascends_first, ascends_last}
 use Rattle.rs_tree.proofs.Ones.{leaf_apart, same_header, same_page, tree_has_its_cells, tree_has_its_pages}

@@ -3,7 +3,7 @@ use Rattle.std.proofs.Common.{arith}
 use Rattle.rs_tree.specs.Calls.{IsNotShared}
 use Rattle.rs_tree.specs.Form.{Form}
 use Rattle.rs_tree.proofs.Loading.{on_ok}
-use Rattle.rs_tree.specs.Forms.{form, form_in}
+use Rattle.rs_tree.specs.Forms.{form_in}
 use Rattle.rs_tree_whole.specs.Clearing.{HasNoOwnPart}
 use Rattle.rs_tree_whole.proofs.Freeing.{clears_empty, clears_tree, no_part-not_shared}
 use Rattle.rs_page_owners.proofs.Working.{Works-refl, CountsNothing-refl}
