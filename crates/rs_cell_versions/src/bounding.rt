@@ -41,11 +41,12 @@ pub(crate) fn bound_above<P: Pages, S: Summary>(
     }
     let mut left = pages.count();
     let mut number = root;
+    let mut page = Page::new();
     'down: loop {
-        let loaded = load(pages, number, layout, &mut left)?;
-        match loaded.node {
-            Node::Leaf(count) => return after_last(alloc, &loaded.page, layout, count),
-            Node::Inner(count) => number = last_child(&loaded.page, layout, count),
+        let node = load(pages, number, layout, &mut left, &mut page)?;
+        match node {
+            Node::Leaf(count) => return after_last(alloc, &page, layout, count),
+            Node::Inner(count) => number = last_child(&page, layout, count),
         }
     }
 }

@@ -6,12 +6,11 @@ use Rattle.rs_pages.specs.PageMap.{PageMap}
 use Rattle.rs_tree.specs.declared.layout.Layout.{Layout}
 use Rattle.rs_tree.specs.declared.node.Node.{Node}
 use Rattle.rs_tree.specs.Node.{IsNode}
-use Rattle.rs_tree.specs.declared.load.Loaded.{Loaded}
 
 -- the page is the working page with this number, and holds what is said
-pub record IsLoaded (tied : Type 0) (map : PageMap) (number : ℕ) (layout : Layout) (loaded : Loaded) : Type 0 where
-  pub bytes : tied → map.page number ≡ Some loaded.page.bytes
-  pub node : IsNode loaded.page.bytes number layout loaded.node
+pub record IsLoaded (tied : Type 0) (map : PageMap) (number : ℕ) (layout : Layout) (page : List ℕ) (held : Node) : Type 0 where
+  pub bytes : tied → map.page number ≡ Some page
+  pub node : IsNode page number layout held
 
 -- no page of a tree has this number
 pub record HasNoNode (map : PageMap) (number : ℕ) (layout : Layout) : Type 0 where

@@ -5,24 +5,25 @@ ghost use Rattle.rs_tree.specs.Reading.{HasNoNode, IsLoaded};
 ghost use Rattle.rs_pages.specs.Calls.{OnlyReads};
 ghost use Rattle.rs_page_owners.specs.Calls.{WorksOn};
 
-use rs_page::PageNumber;
+use rs_page::{Page, PageNumber};
 use rs_pages::Pages;
 use rs_refusal::Refusal;
-use rs_tree::Layout;
-use rs_tree::load::{Loaded, load};
+use rs_tree::load::load;
+use rs_tree::{Layout, Node};
 
-/// A copy of the page with this number, which is one of a tree's. It is refused with 91, and with 94 where it is no page
-/// of a tree.
+/// Copies the page with this number, which is one of a tree's, and tells what it holds. It is refused with 91, and with 94 where it is
+/// no page of a tree.
 pub fn read_part<P: Pages>(
     pages: &mut P,
     number: PageNumber,
     layout: Layout,
-) -> Result<Loaded, Refusal>
+    copy: &mut Page,
+) -> Result<Node, Refusal>
     ensures rests { OnlyReads P.Pages result pages.old pages.new }
     ensures works { WorksOn P.Pages (HasNoNode (P.store pages.old).map number layout) result pages.old pages.new }
     ensures room { result ≢ Err Refusal.FileFull }
-    ensures loaded { IfOk result (IsLoaded (P.is_tied pages.old) (P.store pages.old).map number layout) }
+    ensures loaded { IfOk result (IsLoaded (P.is_tied pages.old) (P.store pages.old).map number layout copy.new.bytes) }
 {
     let mut left = 1;
-    load(pages, number, layout, &mut left)
+    load(pages, number, layout, &mut left, copy)
 }

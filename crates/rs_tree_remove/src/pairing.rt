@@ -60,8 +60,9 @@ pub fn mend<P: Pages, S: Summary>(
     let beside = neighbour(index, inner.count);
     let entry = record_at(content(page), layout.entry_width(), beside.near);
     let other = child(entry, layout);
-    let loaded = read_part(pages, other, layout)?;
-    match loaded.node {
+    let mut near = Page::new();
+    let node = read_part(pages, other, layout, &mut near)?;
+    match node {
         Node::Leaf(_) => Err(Refusal::DamagedFile),
         Node::Inner(size) => {
             let pair = Pair {
@@ -72,7 +73,7 @@ pub fn mend<P: Pages, S: Summary>(
                 other,
                 size,
             };
-            even::<P, S>(pages, layout, inner, page, pair, &loaded.page)
+            even::<P, S>(pages, layout, inner, page, pair, &near)
         }
     }
 }
@@ -178,13 +179,14 @@ fn share<P: Pages, S: Summary>(
         record_at(content(near), layout.entry_width(), place),
         layout,
     );
-    let held = read_part(pages, lonely, layout)?;
+    let mut held = Page::new();
+    let _node = read_part(pages, lonely, layout, &mut held)?;
     let taker = InnerPage {
         number: lonely,
         count: 2,
     };
     let parts = ordered(is_first, only, given);
-    renew_two::<P, S>(pages, layout, taker, &held.page, 0, parts)?;
+    renew_two::<P, S>(pages, layout, taker, &held, 0, parts)?;
     let giver = InnerPage {
         number: other,
         count: size,

@@ -1,9 +1,7 @@
 //! The path of a cell: down to its leaf, and up again.
 
-ghost use Rattle.std.specs.Prelude.{◌≡◌, ◌≢◌, ◌≤◌, ◌<◌, Some, true, IfOk, OnOk, OnErr, IsOkUnless, Err};
-ghost use Rattle.rs_pages.specs.Calls.{OnlyReads};
+ghost use Rattle.std.specs.Prelude.{◌≡◌, ◌≢◌, ◌<◌, Some, true, IfOk, Err};
 ghost use Rattle.rs_tree.specs.Node.{IsNode};
-ghost use Rattle.rs_tree.specs.Reading.{HasNoNode, IsLoaded};
 ghost use Rattle.rs_tree.specs.declared.node.Node.{Node};
 ghost use Rattle.rs_tree.specs.Forms.{form_in};
 ghost use Rattle.rs_tree_remove.specs.Leaving.{RemovesPart, HasNoOwnPart};
@@ -18,8 +16,8 @@ use rs_pages::Pages;
 use rs_records::record_at;
 use rs_refusal::Refusal;
 use rs_tree::entry::child;
-use rs_tree::{Layout, Node, Summary, content, read_node};
-use rs_tree_edit::entry_for;
+use rs_tree::{Layout, Node, Summary, content};
+use rs_tree_edit::{entry_for, read_part};
 
 /// Takes a cell out of the part of a tree with this page at its top.
 #[cycle(removing)]
@@ -40,7 +38,7 @@ pub fn remove_below<P: Pages, S: Summary>(
         pages.old pages.new }
 {
     let mut page = Page::new();
-    let node = read_into(pages, number, layout, &mut page)?;
+    let node = read_part(pages, number, layout, &mut page)?;
     match node {
         Node::Leaf(count) => { remove_from_leaf::<P, S>(pages, layout, number, &page, count, cell) }
         Node::Inner(count) => {
@@ -93,46 +91,5 @@ fn remove_under<P: Pages, S: Summary>(
             };
             mend::<P, S>(pages, layout, inner, page, at, lonely)
         }
-    }
-}
-
-/// Copies the page with this number, which is one of a tree's, and tells what it holds. It is refused with 91, and with 94 where it is
-/// no page of a tree.
-fn read_into<P: Pages>(
-    pages: &mut P,
-    number: PageNumber,
-    layout: Layout,
-    copy: &mut Page,
-) -> Result<Node, Refusal>
-    ensures rests { OnlyReads P.Pages result pages.old pages.new }
-    ensures works { WorksOn P.Pages (HasNoNode (P.store pages.old).map number layout) result pages.old pages.new }
-    ensures room { result ≢ Err Refusal.FileFull }
-    ensures loaded { IfOk result (λ node. IsLoaded (P.is_tied pages.old) (P.store pages.old).map number layout
-        (record { page = copy.new; node = node })) }
-{
-    match pages.page(number) {
-        Ok(page) => copy_into(page, number, layout, copy),
-        Err(refusal) => Err(refusal),
-    }
-}
-
-/// The same of this page.
-fn copy_into(
-    page: &Page,
-    number: PageNumber,
-    layout: Layout,
-    copy: &mut Page,
-) -> Result<Node, Refusal>
-    ensures bytes { OnOk result (copy.new.bytes ≡ page.now.bytes) }
-    ensures node { IfOk result (λ node. IsNode copy.new.bytes number layout node) }
-    ensures none { OnErr result ((node : Node) → IsNode page.now.bytes number layout node → ⊥) }
-    ensures refused { IsOkUnless result Refusal.DamagedFile }
-{
-    match read_node(page, number, layout) {
-        Some(node) => {
-            *copy = *page;
-            Ok(node)
-        }
-        None => Err(Refusal::DamagedFile),
     }
 }

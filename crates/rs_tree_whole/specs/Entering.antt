@@ -5,14 +5,13 @@ use Rattle.rs_page_owners.specs.Counts.{◌&◌, one_at}
 use Rattle.rs_tree.specs.declared.layout.Layout.{Layout}
 use Rattle.rs_tree.specs.declared.node.Node.{Node}
 use Rattle.rs_tree.specs.Node.{IsNode}
-use Rattle.rs_tree.specs.declared.load.Loaded.{Loaded}
 use Rattle.rs_tree.specs.Reading.{IsLoaded}
 
 -- the page is the working page with this number, which is one of the file's, and holds what is said
-pub record Enters (tied : Type 0) (map : PageMap) (number : ℕ) (layout : Layout) (page : Loaded) : Type 0 where
+pub record Enters (tied : Type 0) (map : PageMap) (number : ℕ) (layout : Layout) (page : List ℕ) (node : Node) : Type 0 where
   pub after : 1 < number
   pub below : number < map.fields.pages
-  pub loaded : IsLoaded tied map number layout page
+  pub loaded : IsLoaded tied map number layout page node
 
 -- no page of a tree has this number that wasn't reached before
 pub record HasNoFreshNode (map : PageMap) (number : ℕ) (layout : Layout) (before : ℕ → ℕ) : Type 0 where

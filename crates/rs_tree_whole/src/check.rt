@@ -55,13 +55,14 @@ pub fn check_part<P: Pages, S: Summary>(
         → HasNoSound (form_in S.Summary layout) (P.store pages.old).map number
         (option_copied first.entry) (option_copied bound.entry) levels (taken reached.old) }
 {
-    let loaded = enter(pages, layout, number, reached)?;
-    match loaded.node {
+    let mut page = Page::new();
+    let node = enter(pages, layout, number, reached, &mut page)?;
+    match node {
         Node::Leaf(count) => {
-            if !is_in_order(&loaded.page, count, layout, first, bound) {
+            if !is_in_order(&page, count, layout, first, bound) {
                 return Err(Refusal::DamagedFile);
             }
-            let whole = leaf_summary::<S>(&loaded.page, count, layout);
+            let whole = leaf_summary::<S>(&page, count, layout);
             Ok(Checked {
                 height: 0,
                 total: count as u64,
@@ -69,19 +70,13 @@ pub fn check_part<P: Pages, S: Summary>(
             })
         }
         Node::Inner(count) => {
-            if levels == 0 || !begins_with(&loaded.page, count, layout, first) {
+            if levels == 0 || !begins_with(&page, count, layout, first) {
                 return Err(Refusal::DamagedFile);
             }
             let (height, total) = check_entries::<P, S>(
-                pages,
-                layout,
-                &loaded.page,
-                count,
-                levels,
-                bound,
-                reached,
+                pages, layout, &page, count, levels, bound, reached,
             )?;
-            let whole = inner_summary::<S>(&loaded.page, count, layout);
+            let whole = inner_summary::<S>(&page, count, layout);
             Ok(Checked {
                 height: height + 1,
                 total,

@@ -55,14 +55,15 @@ fn clear_part<P: Pages, S: Summary>(
         (form_in S.Summary layout) (P.store pages.old).map (P.store pages.new).map number
         left.old left.new) }
 {
-    let loaded = load(pages, number, layout, left)?;
-    match loaded.node {
+    let mut page = Page::new();
+    let node = load(pages, number, layout, left, &mut page)?;
+    match node {
         Node::Leaf(_) => pages.release(number),
         Node::Inner(count) => {
             if levels == 0 {
                 return Err(Refusal::DamagedFile);
             }
-            clear_entries::<P, S>(pages, layout, &loaded.page, count, levels, left)?;
+            clear_entries::<P, S>(pages, layout, &page, count, levels, left)?;
             pages.release(number)
         }
     }

@@ -26,50 +26,50 @@ pub remove_below-returns-in_err-node-clause-works : goal.remove_below-returns-in
 remove_below-returns-in_err-node-clause-works g t c =
     let form : Form = form_in g.S.Summary c.args.layout in
     let p = err_from_is_err_and c.from_residual.result c.from_residual.ensures.1 in
-    works_err (g.P.Pages.is_tied c.args.pages.now → HasNoNode (g.P.Pages.store c.args.pages.now).map c.args.number c.args.layout) (g.P.Pages.is_tied c.args.pages.now → HasNoOwnPart form (g.P.Pages.store c.args.pages.now).map c.args.number c.args.levels) c.from_residual.result c.in_err-node.field-0.0 (g.P.Pages.store c.args.pages.now) (g.P.Pages.store c.read_into.new.pages)
+    works_err (g.P.Pages.is_tied c.args.pages.now → HasNoNode (g.P.Pages.store c.args.pages.now).map c.args.number c.args.layout) (g.P.Pages.is_tied c.args.pages.now → HasNoOwnPart form (g.P.Pages.store c.args.pages.now).map c.args.number c.args.levels) c.from_residual.result c.in_err-node.field-0.0 (g.P.Pages.store c.args.pages.now) (g.P.Pages.store c.read_part.new.pages)
     (λ none tied. no_node-none (λ bytes cells. g.S.Summary.says bytes (joined g.S.Summary.unit g.S.Summary.join g.S.Summary.of cells)) c.args.layout (g.P.Pages.store c.args.pages.now).map c.args.number c.args.levels (none tied))
     (p.1 ∙ ap Err p.2) c.in_err-node.ensures.works
 
 pub remove_below-returns-then-levels-eq0-clause-works : goal.remove_below-returns-then-levels-eq0-clause-works
 remove_below-returns-then-levels-eq0-clause-works g t c =
     let form : Form = form_in g.S.Summary c.args.layout in
-    let node : IsNode c.read_into.new.copy.bytes c.args.number c.args.layout (Inner c.in-Inner.count) =
-    subst (IsNode c.read_into.new.copy.bytes c.args.number c.args.layout) c.in-Inner.is c.in_ok-node.ensures.loaded.node in
-    damaged_after (g.P.Pages.is_tied c.args.pages.now → HasNoNode (g.P.Pages.store c.args.pages.now).map c.args.number c.args.layout) (g.P.Pages.is_tied c.args.pages.now → HasNoOwnPart form (g.P.Pages.store c.args.pages.now).map c.args.number c.args.levels) c.in_ok-node.node (g.P.Pages.store c.args.pages.now) (g.P.Pages.store c.read_into.new.pages)
-    (λ tied. no_level-none (λ bytes cells. g.S.Summary.says bytes (joined g.S.Summary.unit g.S.Summary.join g.S.Summary.of cells)) c.args.layout (g.P.Pages.store c.args.pages.now).map c.args.number c.args.levels c.read_into.new.copy.bytes c.in-Inner.count c.if-levels-eq0.true (c.in_ok-node.ensures.loaded.bytes tied) node)
+    let node : IsNode c.read_part.new.copy.bytes c.args.number c.args.layout (Inner c.in-Inner.count) =
+    subst (IsNode c.read_part.new.copy.bytes c.args.number c.args.layout) c.in-Inner.is c.in_ok-node.ensures.loaded.node in
+    damaged_after (g.P.Pages.is_tied c.args.pages.now → HasNoNode (g.P.Pages.store c.args.pages.now).map c.args.number c.args.layout) (g.P.Pages.is_tied c.args.pages.now → HasNoOwnPart form (g.P.Pages.store c.args.pages.now).map c.args.number c.args.levels) c.in_ok-node.node (g.P.Pages.store c.args.pages.now) (g.P.Pages.store c.read_part.new.pages)
+    (λ tied. no_level-none (λ bytes cells. g.S.Summary.says bytes (joined g.S.Summary.unit g.S.Summary.join g.S.Summary.of cells)) c.args.layout (g.P.Pages.store c.args.pages.now).map c.args.number c.args.levels c.read_part.new.copy.bytes c.in-Inner.count c.if-levels-eq0.true (c.in_ok-node.ensures.loaded.bytes tied) node)
     c.in_ok-node.ensures.works
 
 pub remove_below-returns-in-Leaf-clause-works : goal.remove_below-returns-in-Leaf-clause-works
 remove_below-returns-in-Leaf-clause-works g t c =
     let form : Form = form_in g.S.Summary c.args.layout in
-    works_then (g.P.Pages.is_tied c.args.pages.now → HasNoNode (g.P.Pages.store c.args.pages.now).map c.args.number c.args.layout) (g.P.Pages.is_tied c.args.pages.now → HasNoOwnPart form (g.P.Pages.store c.args.pages.now).map c.args.number c.args.levels) (g.P.Pages.is_tied c.read_into.new.pages → (g.P.Pages.store c.read_into.new.pages).map.page c.args.number ≡ Some c.read_into.new.copy.bytes → (levels : ℕ) → HasNoOwnPart form (g.P.Pages.store c.read_into.new.pages).map c.args.number levels)
-    c.in_ok-node.node c.remove_from_leaf.result (g.P.Pages.store c.args.pages.now) (g.P.Pages.store c.read_into.new.pages) (g.P.Pages.store c.remove_from_leaf.new.pages)
-    (λ none tied. let later = g.met.P.Pages.keeps_tied c.args.pages.now c.read_into.new.pages c.in_ok-node.ensures.rests.below tied in
-    none_before form (g.P.Pages.store c.args.pages.now).map (g.P.Pages.store c.read_into.new.pages).map (g.P.Pages.store c.read_into.new.pages).map c.args.number (c.in_ok-node.ensures.rests.rests.keeps.pages tied) c.args.levels (none later ((c.in_ok-node.ensures.rests.rests.keeps.pages tied).pages c.args.number ∙ c.in_ok-node.ensures.loaded.bytes tied) c.args.levels))
+    works_then (g.P.Pages.is_tied c.args.pages.now → HasNoNode (g.P.Pages.store c.args.pages.now).map c.args.number c.args.layout) (g.P.Pages.is_tied c.args.pages.now → HasNoOwnPart form (g.P.Pages.store c.args.pages.now).map c.args.number c.args.levels) (g.P.Pages.is_tied c.read_part.new.pages → (g.P.Pages.store c.read_part.new.pages).map.page c.args.number ≡ Some c.read_part.new.copy.bytes → (levels : ℕ) → HasNoOwnPart form (g.P.Pages.store c.read_part.new.pages).map c.args.number levels)
+    c.in_ok-node.node c.remove_from_leaf.result (g.P.Pages.store c.args.pages.now) (g.P.Pages.store c.read_part.new.pages) (g.P.Pages.store c.remove_from_leaf.new.pages)
+    (λ none tied. let later = g.met.P.Pages.keeps_tied c.args.pages.now c.read_part.new.pages c.in_ok-node.ensures.rests.below tied in
+    none_before form (g.P.Pages.store c.args.pages.now).map (g.P.Pages.store c.read_part.new.pages).map (g.P.Pages.store c.read_part.new.pages).map c.args.number (c.in_ok-node.ensures.rests.rests.keeps.pages tied) c.args.levels (none later ((c.in_ok-node.ensures.rests.rests.keeps.pages tied).pages c.args.number ∙ c.in_ok-node.ensures.loaded.bytes tied) c.args.levels))
     c.in_ok-node.ensures.works c.remove_from_leaf.ensures.works
 
 pub remove_below-returns-in-Leaf-clause-removed : goal.remove_below-returns-in-Leaf-clause-removed
 remove_below-returns-in-Leaf-clause-removed g t c = λ tied.
     let form : Form = form_in g.S.Summary c.args.layout in
-    let later = g.met.P.Pages.keeps_tied c.args.pages.now c.read_into.new.pages c.in_ok-node.ensures.rests.below tied in
-    if_ok {P = RemovesPart form (g.P.Pages.store c.read_into.new.pages).map (g.P.Pages.store c.remove_from_leaf.new.pages).map c.args.number c.args.cell.now} {Q = RemovesPart form (g.P.Pages.store c.args.pages.now).map (g.P.Pages.store c.remove_from_leaf.new.pages).map c.args.number c.args.cell.now} c.remove_from_leaf.result (c.remove_from_leaf.ensures.removed later ((c.in_ok-node.ensures.rests.rests.keeps.pages tied).pages c.args.number ∙ c.in_ok-node.ensures.loaded.bytes tied))
-    (λ answer removes. removes_before form (g.P.Pages.store c.args.pages.now).map (g.P.Pages.store c.read_into.new.pages).map (g.P.Pages.store c.remove_from_leaf.new.pages).map c.args.number (c.in_ok-node.ensures.rests.rests.keeps.pages tied) c.args.cell.now answer removes)
+    let later = g.met.P.Pages.keeps_tied c.args.pages.now c.read_part.new.pages c.in_ok-node.ensures.rests.below tied in
+    if_ok {P = RemovesPart form (g.P.Pages.store c.read_part.new.pages).map (g.P.Pages.store c.remove_from_leaf.new.pages).map c.args.number c.args.cell.now} {Q = RemovesPart form (g.P.Pages.store c.args.pages.now).map (g.P.Pages.store c.remove_from_leaf.new.pages).map c.args.number c.args.cell.now} c.remove_from_leaf.result (c.remove_from_leaf.ensures.removed later ((c.in_ok-node.ensures.rests.rests.keeps.pages tied).pages c.args.number ∙ c.in_ok-node.ensures.loaded.bytes tied))
+    (λ answer removes. removes_before form (g.P.Pages.store c.args.pages.now).map (g.P.Pages.store c.read_part.new.pages).map (g.P.Pages.store c.remove_from_leaf.new.pages).map c.args.number (c.in_ok-node.ensures.rests.rests.keeps.pages tied) c.args.cell.now answer removes)
 
 pub remove_below-returns-else-levels-eq0-clause-works : goal.remove_below-returns-else-levels-eq0-clause-works
 remove_below-returns-else-levels-eq0-clause-works g t c =
     let form : Form = form_in g.S.Summary c.args.layout in
-    works_then (g.P.Pages.is_tied c.args.pages.now → HasNoNode (g.P.Pages.store c.args.pages.now).map c.args.number c.args.layout) (g.P.Pages.is_tied c.args.pages.now → HasNoOwnPart form (g.P.Pages.store c.args.pages.now).map c.args.number c.args.levels) (g.P.Pages.is_tied c.read_into.new.pages → (g.P.Pages.store c.read_into.new.pages).map.page c.args.number ≡ Some c.read_into.new.copy.bytes → HasNoOwnPart form (g.P.Pages.store c.read_into.new.pages).map c.args.number c.args.levels)
-    c.in_ok-node.node c.remove_under.result (g.P.Pages.store c.args.pages.now) (g.P.Pages.store c.read_into.new.pages) (g.P.Pages.store c.remove_under.new.pages)
-    (λ none tied. let later = g.met.P.Pages.keeps_tied c.args.pages.now c.read_into.new.pages c.in_ok-node.ensures.rests.below tied in
-    none_before form (g.P.Pages.store c.args.pages.now).map (g.P.Pages.store c.read_into.new.pages).map (g.P.Pages.store c.read_into.new.pages).map c.args.number (c.in_ok-node.ensures.rests.rests.keeps.pages tied) c.args.levels (none later ((c.in_ok-node.ensures.rests.rests.keeps.pages tied).pages c.args.number ∙ c.in_ok-node.ensures.loaded.bytes tied)))
+    works_then (g.P.Pages.is_tied c.args.pages.now → HasNoNode (g.P.Pages.store c.args.pages.now).map c.args.number c.args.layout) (g.P.Pages.is_tied c.args.pages.now → HasNoOwnPart form (g.P.Pages.store c.args.pages.now).map c.args.number c.args.levels) (g.P.Pages.is_tied c.read_part.new.pages → (g.P.Pages.store c.read_part.new.pages).map.page c.args.number ≡ Some c.read_part.new.copy.bytes → HasNoOwnPart form (g.P.Pages.store c.read_part.new.pages).map c.args.number c.args.levels)
+    c.in_ok-node.node c.remove_under.result (g.P.Pages.store c.args.pages.now) (g.P.Pages.store c.read_part.new.pages) (g.P.Pages.store c.remove_under.new.pages)
+    (λ none tied. let later = g.met.P.Pages.keeps_tied c.args.pages.now c.read_part.new.pages c.in_ok-node.ensures.rests.below tied in
+    none_before form (g.P.Pages.store c.args.pages.now).map (g.P.Pages.store c.read_part.new.pages).map (g.P.Pages.store c.read_part.new.pages).map c.args.number (c.in_ok-node.ensures.rests.rests.keeps.pages tied) c.args.levels (none later ((c.in_ok-node.ensures.rests.rests.keeps.pages tied).pages c.args.number ∙ c.in_ok-node.ensures.loaded.bytes tied)))
     c.in_ok-node.ensures.works c.remove_under.ensures.works
 
 pub remove_below-returns-else-levels-eq0-clause-removed : goal.remove_below-returns-else-levels-eq0-clause-removed
 remove_below-returns-else-levels-eq0-clause-removed g t c = λ tied.
     let form : Form = form_in g.S.Summary c.args.layout in
-    let later = g.met.P.Pages.keeps_tied c.args.pages.now c.read_into.new.pages c.in_ok-node.ensures.rests.below tied in
-    if_ok {P = RemovesPart form (g.P.Pages.store c.read_into.new.pages).map (g.P.Pages.store c.remove_under.new.pages).map c.args.number c.args.cell.now} {Q = RemovesPart form (g.P.Pages.store c.args.pages.now).map (g.P.Pages.store c.remove_under.new.pages).map c.args.number c.args.cell.now} c.remove_under.result (c.remove_under.ensures.removed later ((c.in_ok-node.ensures.rests.rests.keeps.pages tied).pages c.args.number ∙ c.in_ok-node.ensures.loaded.bytes tied))
-    (λ answer removes. removes_before form (g.P.Pages.store c.args.pages.now).map (g.P.Pages.store c.read_into.new.pages).map (g.P.Pages.store c.remove_under.new.pages).map c.args.number (c.in_ok-node.ensures.rests.rests.keeps.pages tied) c.args.cell.now answer removes)
+    let later = g.met.P.Pages.keeps_tied c.args.pages.now c.read_part.new.pages c.in_ok-node.ensures.rests.below tied in
+    if_ok {P = RemovesPart form (g.P.Pages.store c.read_part.new.pages).map (g.P.Pages.store c.remove_under.new.pages).map c.args.number c.args.cell.now} {Q = RemovesPart form (g.P.Pages.store c.args.pages.now).map (g.P.Pages.store c.remove_under.new.pages).map c.args.number c.args.cell.now} c.remove_under.result (c.remove_under.ensures.removed later ((c.in_ok-node.ensures.rests.rests.keeps.pages tied).pages c.args.number ∙ c.in_ok-node.ensures.loaded.bytes tied))
+    (λ answer removes. removes_before form (g.P.Pages.store c.args.pages.now).map (g.P.Pages.store c.read_part.new.pages).map (g.P.Pages.store c.remove_under.new.pages).map c.args.number (c.in_ok-node.ensures.rests.rests.keeps.pages tied) c.args.cell.now answer removes)
 
 pub remove_under-returns-in_err-remove_below-clause-works : goal.remove_under-returns-in_err-remove_below-clause-works
 remove_under-returns-in_err-remove_below-clause-works g t c =

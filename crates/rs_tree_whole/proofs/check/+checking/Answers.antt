@@ -23,101 +23,101 @@ use Rattle.rs_tree_whole.proofs.Reaching.{none_level as none_below}
 use Rattle.rs_tree_whole.proofs.check.+checking.Goals as goal
 use Rattle.rs_tree_whole.proofs.check.+checking.Goals.{check_part-then-levels-eq0-via-then-levels-eq0, check_part-then-levels-eq0-via-else-levels-eq0+then-not-begins_with, check_entries-else-index-gt0-via-then-index-gt0+else-found-height, check_entries-else-index-gt0-via-else-index-gt0}
 
-pub check_part-returns-in_err-loaded-clause-damaged : goal.check_part-returns-in_err-loaded-clause-damaged
-check_part-returns-in_err-loaded-clause-damaged g t c = λ is tied.
+pub check_part-returns-in_err-node-clause-damaged : goal.check_part-returns-in_err-node-clause-damaged
+check_part-returns-in_err-node-clause-damaged g t c = λ is tied.
     let p = err_from_is_err_and c.from_residual.result c.from_residual.ensures.1 in
-    let why : c.in_err-loaded.field-0.0 ≡ refusal.DamagedFile = cc (p.1, p.2, is) in
+    let why : c.in_err-node.field-0.0 ≡ refusal.DamagedFile = cc (p.1, p.2, is) in
     none_fresh (joined g.S.Summary.unit g.S.Summary.join g.S.Summary.of) (λ bytes cells. g.S.Summary.says bytes (joined g.S.Summary.unit g.S.Summary.join g.S.Summary.of cells)) c.args.layout
     (g.P.Pages.store c.args.pages.now).map c.args.number (option_copied c.args.first) (option_copied c.args.bound) c.args.levels (taken c.args.reached.now)
-    (c.in_err-loaded.ensures.damaged (ap Err why) tied)
+    (c.in_err-node.ensures.damaged (ap Err why) tied)
 
 pub check_part-is_in_order-requires-clause-fit : goal.check_part-is_in_order-requires-clause-fit
 check_part-is_in_order-requires-clause-fit g t c =
-    let node : IsNode c.in_ok-loaded.loaded.page.bytes c.args.number c.args.layout (Leaf c.in-Leaf.count) =
-    subst (IsNode c.in_ok-loaded.loaded.page.bytes c.args.number c.args.layout) c.in-Leaf.is c.in_ok-loaded.ensures.enters.loaded.node in
-    records_fit c.in_ok-loaded.loaded.page.bytes kind.Leaf c.args.number c.in-Leaf.count c.args.layout.width node.0
+    let node : IsNode c.enter.new.copy.bytes c.args.number c.args.layout (Leaf c.in-Leaf.count) =
+    subst (IsNode c.enter.new.copy.bytes c.args.number c.args.layout) c.in-Leaf.is c.in_ok-node.ensures.enters.loaded.node in
+    records_fit c.enter.new.copy.bytes kind.Leaf c.args.number c.in-Leaf.count c.args.layout.width node.0
 
 pub check_part-leaf_summary-whole-requires : goal.check_part-leaf_summary-whole-requires
 check_part-leaf_summary-whole-requires g t c =
-    let node : IsNode c.in_ok-loaded.loaded.page.bytes c.args.number c.args.layout (Leaf c.in-Leaf.count) =
-    subst (IsNode c.in_ok-loaded.loaded.page.bytes c.args.number c.args.layout) c.in-Leaf.is c.in_ok-loaded.ensures.enters.loaded.node in
-    records_fit c.in_ok-loaded.loaded.page.bytes kind.Leaf c.args.number c.in-Leaf.count c.args.layout.width node.0
+    let node : IsNode c.enter.new.copy.bytes c.args.number c.args.layout (Leaf c.in-Leaf.count) =
+    subst (IsNode c.enter.new.copy.bytes c.args.number c.args.layout) c.in-Leaf.is c.in_ok-node.ensures.enters.loaded.node in
+    records_fit c.enter.new.copy.bytes kind.Leaf c.args.number c.in-Leaf.count c.args.layout.width node.0
 
 pub check_part-returns-then-not-is_in_order-clause-damaged : goal.check_part-returns-then-not-is_in_order-clause-damaged
 check_part-returns-then-not-is_in_order-clause-damaged g t c = λ is tied.
-    let node : IsNode c.in_ok-loaded.loaded.page.bytes c.args.number c.args.layout (Leaf c.in-Leaf.count) =
-    subst (IsNode c.in_ok-loaded.loaded.page.bytes c.args.number c.args.layout) c.in-Leaf.is c.in_ok-loaded.ensures.enters.loaded.node in
+    let node : IsNode c.enter.new.copy.bytes c.args.number c.args.layout (Leaf c.in-Leaf.count) =
+    subst (IsNode c.enter.new.copy.bytes c.args.number c.args.layout) c.in-Leaf.is c.in_ok-node.ensures.enters.loaded.node in
     none_leaf (joined g.S.Summary.unit g.S.Summary.join g.S.Summary.of) (λ bytes cells. g.S.Summary.says bytes (joined g.S.Summary.unit g.S.Summary.join g.S.Summary.of cells)) c.args.layout
-    (g.P.Pages.store c.args.pages.now).map c.args.number (option_copied c.args.first) (option_copied c.args.bound) c.in_ok-loaded.loaded.page.bytes c.in-Leaf.count
-    (c.in_ok-loaded.ensures.enters.loaded.bytes tied) c.args.levels (taken c.args.reached.now) node (fails c.is_in_order.result c.if-not-is_in_order.true c.is_in_order.ensures.1)
+    (g.P.Pages.store c.args.pages.now).map c.args.number (option_copied c.args.first) (option_copied c.args.bound) c.enter.new.copy.bytes c.in-Leaf.count
+    (c.in_ok-node.ensures.enters.loaded.bytes tied) c.args.levels (taken c.args.reached.now) node (fails c.is_in_order.result c.if-not-is_in_order.true c.is_in_order.ensures.1)
 
 pub check_part-returns-else-not-is_in_order-clause-reaches : goal.check_part-returns-else-not-is_in_order-clause-reaches
 check_part-returns-else-not-is_in_order-clause-reaches g t c = λ tied.
-    let node : IsNode c.in_ok-loaded.loaded.page.bytes c.args.number c.args.layout (Leaf c.in-Leaf.count) =
-    subst (IsNode c.in_ok-loaded.loaded.page.bytes c.args.number c.args.layout) c.in-Leaf.is c.in_ok-loaded.ensures.enters.loaded.node in
+    let node : IsNode c.enter.new.copy.bytes c.args.number c.args.layout (Leaf c.in-Leaf.count) =
+    subst (IsNode c.enter.new.copy.bytes c.args.number c.args.layout) c.in-Leaf.is c.in_ok-node.ensures.enters.loaded.node in
     reaches_leaf (joined g.S.Summary.unit g.S.Summary.join g.S.Summary.of) (λ bytes cells. g.S.Summary.says bytes (joined g.S.Summary.unit g.S.Summary.join g.S.Summary.of cells)) c.args.layout
-    (g.P.Pages.store c.args.pages.now).map c.args.number (option_copied c.args.first) (option_copied c.args.bound) c.in_ok-loaded.loaded.page.bytes c.in-Leaf.count
-    (c.in_ok-loaded.ensures.enters.loaded.bytes tied) (taken c.args.reached.now) (taken c.enter.new.reached) c.leaf_summary-whole.result
-    c.in_ok-loaded.ensures.enters.after c.in_ok-loaded.ensures.enters.below node (c.is_in_order.ensures.0 c.if-not-is_in_order.false)
-    c.in_ok-loaded.ensures.reaches c.leaf_summary-whole.ensures
+    (g.P.Pages.store c.args.pages.now).map c.args.number (option_copied c.args.first) (option_copied c.args.bound) c.enter.new.copy.bytes c.in-Leaf.count
+    (c.in_ok-node.ensures.enters.loaded.bytes tied) (taken c.args.reached.now) (taken c.enter.new.reached) c.leaf_summary-whole.result
+    c.in_ok-node.ensures.enters.after c.in_ok-node.ensures.enters.below node (c.is_in_order.ensures.0 c.if-not-is_in_order.false)
+    c.in_ok-node.ensures.reaches c.leaf_summary-whole.ensures
 
 pub check_part-begins_with-requires-clause-fit : goal.check_part-begins_with-requires-clause-fit
 check_part-begins_with-requires-clause-fit g t c =
-    let node : IsNode c.in_ok-loaded.loaded.page.bytes c.args.number c.args.layout (Inner c.in-Inner.count) =
-    subst (IsNode c.in_ok-loaded.loaded.page.bytes c.args.number c.args.layout) c.in-Inner.is c.in_ok-loaded.ensures.enters.loaded.node in
-    records_fit c.in_ok-loaded.loaded.page.bytes kind.Inner c.args.number c.in-Inner.count (entry_bytes c.args.layout) node.0
+    let node : IsNode c.enter.new.copy.bytes c.args.number c.args.layout (Inner c.in-Inner.count) =
+    subst (IsNode c.enter.new.copy.bytes c.args.number c.args.layout) c.in-Inner.is c.in_ok-node.ensures.enters.loaded.node in
+    records_fit c.enter.new.copy.bytes kind.Inner c.args.number c.in-Inner.count (entry_bytes c.args.layout) node.0
 
 pub check_part-inner_summary-whole-requires-clause-fit : goal.check_part-inner_summary-whole-requires-clause-fit
 check_part-inner_summary-whole-requires-clause-fit g t c =
-    let node : IsNode c.in_ok-loaded.loaded.page.bytes c.args.number c.args.layout (Inner c.in-Inner.count) =
-    subst (IsNode c.in_ok-loaded.loaded.page.bytes c.args.number c.args.layout) c.in-Inner.is c.in_ok-loaded.ensures.enters.loaded.node in
-    records_fit c.in_ok-loaded.loaded.page.bytes kind.Inner c.args.number c.in-Inner.count (entry_bytes c.args.layout) node.0
+    let node : IsNode c.enter.new.copy.bytes c.args.number c.args.layout (Inner c.in-Inner.count) =
+    subst (IsNode c.enter.new.copy.bytes c.args.number c.args.layout) c.in-Inner.is c.in_ok-node.ensures.enters.loaded.node in
+    records_fit c.enter.new.copy.bytes kind.Inner c.args.number c.in-Inner.count (entry_bytes c.args.layout) node.0
 
 pub check_part-returns-then-levels-eq0-clause-damaged : goal.check_part-returns-then-levels-eq0-clause-damaged
 check_part-returns-then-levels-eq0-clause-damaged g t c = λ is tied.
-    let node : IsNode c.in_ok-loaded.loaded.page.bytes c.args.number c.args.layout (Inner c.in-Inner.count) =
-    subst (IsNode c.in_ok-loaded.loaded.page.bytes c.args.number c.args.layout) c.in-Inner.is c.in_ok-loaded.ensures.enters.loaded.node in
+    let node : IsNode c.enter.new.copy.bytes c.args.number c.args.layout (Inner c.in-Inner.count) =
+    subst (IsNode c.enter.new.copy.bytes c.args.number c.args.layout) c.in-Inner.is c.in_ok-node.ensures.enters.loaded.node in
     elim c.then-levels-eq0.branch [
       | check_part-then-levels-eq0-via-then-levels-eq0 w ↦
           subst (λ levels. HasNoSound (form_in g.S.Summary c.args.layout) (g.P.Pages.store c.args.pages.now).map c.args.number (option_copied c.args.first) (option_copied c.args.bound) levels (taken c.args.reached.now)) (sym w.if-levels-eq0.true)
           (none_below (joined g.S.Summary.unit g.S.Summary.join g.S.Summary.of) (λ bytes cells. g.S.Summary.says bytes (joined g.S.Summary.unit g.S.Summary.join g.S.Summary.of cells)) c.args.layout
-          (g.P.Pages.store c.args.pages.now).map c.args.number (option_copied c.args.first) (option_copied c.args.bound) c.in_ok-loaded.loaded.page.bytes c.in-Inner.count (c.in_ok-loaded.ensures.enters.loaded.bytes tied) (taken c.args.reached.now) node)
+          (g.P.Pages.store c.args.pages.now).map c.args.number (option_copied c.args.first) (option_copied c.args.bound) c.enter.new.copy.bytes c.in-Inner.count (c.in_ok-node.ensures.enters.loaded.bytes tied) (taken c.args.reached.now) node)
       | check_part-then-levels-eq0-via-else-levels-eq0+then-not-begins_with w ↦
           none_first (joined g.S.Summary.unit g.S.Summary.join g.S.Summary.of) (λ bytes cells. g.S.Summary.says bytes (joined g.S.Summary.unit g.S.Summary.join g.S.Summary.of cells)) c.args.layout
-          (g.P.Pages.store c.args.pages.now).map c.args.number (option_copied c.args.first) (option_copied c.args.bound) c.in_ok-loaded.loaded.page.bytes c.in-Inner.count (c.in_ok-loaded.ensures.enters.loaded.bytes tied) c.args.levels (taken c.args.reached.now) node
+          (g.P.Pages.store c.args.pages.now).map c.args.number (option_copied c.args.first) (option_copied c.args.bound) c.enter.new.copy.bytes c.in-Inner.count (c.in_ok-node.ensures.enters.loaded.bytes tied) c.args.levels (taken c.args.reached.now) node
           (fails w.begins_with.result w.if-not-begins_with.true w.begins_with.ensures.1)
     ]
 
 pub check_part-check_entries-requires : goal.check_part-check_entries-requires
 check_part-check_entries-requires g t c κs within =
-    let node : IsNode c.in_ok-loaded.loaded.page.bytes c.args.number c.args.layout (Inner c.in-Inner.count) =
-    subst (IsNode c.in_ok-loaded.loaded.page.bytes c.args.number c.args.layout) c.in-Inner.is c.in_ok-loaded.ensures.enters.loaded.node in
-    let fit : c.in-Inner.count * entry_bytes c.args.layout ≤ 4080 = records_fit c.in_ok-loaded.loaded.page.bytes kind.Inner c.args.number c.in-Inner.count (entry_bytes c.args.layout) node.0 in
+    let node : IsNode c.enter.new.copy.bytes c.args.number c.args.layout (Inner c.in-Inner.count) =
+    subst (IsNode c.enter.new.copy.bytes c.args.number c.args.layout) c.in-Inner.is c.in_ok-node.ensures.enters.loaded.node in
+    let fit : c.in-Inner.count * entry_bytes c.args.layout ≤ 4080 = records_fit c.enter.new.copy.bytes kind.Inner c.args.number c.in-Inner.count (entry_bytes c.args.layout) node.0 in
     search rules
 
 pub check_part-returns-in_err-height-in-Inner-clause-damaged : goal.check_part-returns-in_err-height-in-Inner-clause-damaged
 check_part-returns-in_err-height-in-Inner-clause-damaged g t c = λ is tied.
-    let node : IsNode c.in_ok-loaded.loaded.page.bytes c.args.number c.args.layout (Inner c.in-Inner.count) =
-    subst (IsNode c.in_ok-loaded.loaded.page.bytes c.args.number c.args.layout) c.in-Inner.is c.in_ok-loaded.ensures.enters.loaded.node in
+    let node : IsNode c.enter.new.copy.bytes c.args.number c.args.layout (Inner c.in-Inner.count) =
+    subst (IsNode c.enter.new.copy.bytes c.args.number c.args.layout) c.in-Inner.is c.in_ok-node.ensures.enters.loaded.node in
     let p = err_from_is_err_and c.from_residual-in_err-height-in-Inner.result c.from_residual-in_err-height-in-Inner.ensures.1 in
     let why : c.in_err-height-in-Inner.field-0.0 ≡ refusal.DamagedFile = cc (p.1, p.2, is) in
-    let later = g.met.P.Pages.keeps_tied c.args.pages.now c.enter.new.pages c.in_ok-loaded.ensures.rests.below tied in
+    let later = g.met.P.Pages.keeps_tied c.args.pages.now c.enter.new.pages c.in_ok-node.ensures.rests.below tied in
     none_inner (joined g.S.Summary.unit g.S.Summary.join g.S.Summary.of) (λ bytes cells. g.S.Summary.says bytes (joined g.S.Summary.unit g.S.Summary.join g.S.Summary.of cells)) c.args.layout
-    (g.P.Pages.store c.args.pages.now).map c.args.number (option_copied c.args.first) (option_copied c.args.bound) c.in_ok-loaded.loaded.page.bytes c.in-Inner.count (c.in_ok-loaded.ensures.enters.loaded.bytes tied) c.args.levels (taken c.args.reached.now) (taken c.enter.new.reached) (g.P.Pages.store c.enter.new.pages).map
-    node (c.in_ok-loaded.ensures.rests.rests.keeps.pages tied) c.in_ok-loaded.ensures.reaches (c.in_err-height-in-Inner.ensures.damaged (ap Err why) later)
+    (g.P.Pages.store c.args.pages.now).map c.args.number (option_copied c.args.first) (option_copied c.args.bound) c.enter.new.copy.bytes c.in-Inner.count (c.in_ok-node.ensures.enters.loaded.bytes tied) c.args.levels (taken c.args.reached.now) (taken c.enter.new.reached) (g.P.Pages.store c.enter.new.pages).map
+    node (c.in_ok-node.ensures.rests.rests.keeps.pages tied) c.in_ok-node.ensures.reaches (c.in_err-height-in-Inner.ensures.damaged (ap Err why) later)
 
 pub check_part-returns-in_ok-height-in-Inner-clause-reaches : goal.check_part-returns-in_ok-height-in-Inner-clause-reaches
 check_part-returns-in_ok-height-in-Inner-clause-reaches g t c = λ tied.
-    let node : IsNode c.in_ok-loaded.loaded.page.bytes c.args.number c.args.layout (Inner c.in-Inner.count) =
-    subst (IsNode c.in_ok-loaded.loaded.page.bytes c.args.number c.args.layout) c.in-Inner.is c.in_ok-loaded.ensures.enters.loaded.node in
-    let later = g.met.P.Pages.keeps_tied c.args.pages.now c.enter.new.pages c.in_ok-loaded.ensures.rests.below tied in
+    let node : IsNode c.enter.new.copy.bytes c.args.number c.args.layout (Inner c.in-Inner.count) =
+    subst (IsNode c.enter.new.copy.bytes c.args.number c.args.layout) c.in-Inner.is c.in_ok-node.ensures.enters.loaded.node in
+    let later = g.met.P.Pages.keeps_tied c.args.pages.now c.enter.new.pages c.in_ok-node.ensures.rests.below tied in
     let next : suc c.in_ok-height-in-Inner.height ≡ c.in_ok-height-in-Inner.height + 1 = omega arith in
     subst (λ height. Reaches (joined g.S.Summary.unit g.S.Summary.join g.S.Summary.of) (form_in g.S.Summary c.args.layout) (g.P.Pages.store c.args.pages.now).map c.args.number (option_copied c.args.first) (option_copied c.args.bound)
     (taken c.args.reached.now) (taken c.check_entries.new.reached) height c.in_ok-height-in-Inner.total c.inner_summary-whole.result) next
     (reaches_inner (joined g.S.Summary.unit g.S.Summary.join g.S.Summary.of) (λ bytes cells. g.S.Summary.says bytes (joined g.S.Summary.unit g.S.Summary.join g.S.Summary.of cells)) c.args.layout
-    (g.P.Pages.store c.args.pages.now).map c.args.number (option_copied c.args.first) (option_copied c.args.bound) c.in_ok-loaded.loaded.page.bytes c.in-Inner.count (c.in_ok-loaded.ensures.enters.loaded.bytes tied) (taken c.args.reached.now) (taken c.enter.new.reached) (taken c.check_entries.new.reached) (g.P.Pages.store c.enter.new.pages).map
-    c.in_ok-height-in-Inner.height c.in_ok-height-in-Inner.total c.inner_summary-whole.result c.in_ok-loaded.ensures.enters.after c.in_ok-loaded.ensures.enters.below node (c.in_ok-loaded.ensures.rests.rests.keeps.pages tied)
-    (c.begins_with.ensures.0 c.if-not-begins_with.false) c.in_ok-loaded.ensures.reaches (c.in_ok-height-in-Inner.ensures.reaches later) c.inner_summary-whole.ensures)
+    (g.P.Pages.store c.args.pages.now).map c.args.number (option_copied c.args.first) (option_copied c.args.bound) c.enter.new.copy.bytes c.in-Inner.count (c.in_ok-node.ensures.enters.loaded.bytes tied) (taken c.args.reached.now) (taken c.enter.new.reached) (taken c.check_entries.new.reached) (g.P.Pages.store c.enter.new.pages).map
+    c.in_ok-height-in-Inner.height c.in_ok-height-in-Inner.total c.inner_summary-whole.result c.in_ok-node.ensures.enters.after c.in_ok-node.ensures.enters.below node (c.in_ok-node.ensures.rests.rests.keeps.pages tied)
+    (c.begins_with.ensures.0 c.if-not-begins_with.false) c.in_ok-node.ensures.reaches (c.in_ok-height-in-Inner.ensures.reaches later) c.inner_summary-whole.ensures)
 
 pub check_entries-loop-index-init : goal.check_entries-loop-index-init
 check_entries-loop-index-init g t c = record {
