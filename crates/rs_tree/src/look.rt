@@ -16,7 +16,7 @@ ghost use Rattle.rs_tree.specs.declared.node.Node.{Node};
 
 use crate::collect::collect;
 use crate::wanted::Wanted;
-use crate::{Layout, Node, Summary, read_node};
+use crate::{Node, Summary, read_node};
 use rs_page::{Page, PageNumber};
 use rs_pages::Pages;
 use rs_records::Cells;
@@ -27,7 +27,6 @@ use rs_refusal::Refusal;
 /// with 91, and with 94 where it is no page of a tree, or no read is left.
 pub fn look<P: Pages, S: Summary, F: Fn(&S) -> bool>(
     pages: &mut P,
-    layout: Layout,
     number: PageNumber,
     wanted: &Wanted<'_, F>,
     left: &mut u32,
@@ -35,27 +34,27 @@ pub fn look<P: Pages, S: Summary, F: Fn(&S) -> bool>(
     copy: &mut Page,
 ) -> Result<Option<usize>, Refusal>
     requires callable { F.IsAlwaysCallable wanted.now.keep.now }
-    requires width { record_width cells.old ≡ layout.width }
+    requires width { record_width cells.old ≡ wanted.now.layout.width }
     ensures rests { OnlyReads P.Pages result pages.old pages.new }
-    ensures width { record_width cells.new ≡ layout.width }
+    ensures width { record_width cells.new ≡ wanted.now.layout.width }
     ensures leaf { IfOk result (λ looked. IfNone looked ((test : S → Bool) → Computes (FnReturnsAt F.Fn wanted.now.keep.now) test
-        → FindsLeaf (P.is_tied pages.old) (P.store pages.old).map number layout
+        → FindsLeaf (P.is_tied pages.old) (P.store pages.old).map number wanted.now.layout
         wanted.now.low.now wanted.now.high.now (λ cell. test (S.of cell)) (listed cells.old) (listed cells.new))) }
-    ensures inner { IfOk result (λ looked. IfSome looked (FindsInner (P.is_tied pages.old) (P.store pages.old).map number layout
+    ensures inner { IfOk result (λ looked. IfSome looked (FindsInner (P.is_tied pages.old) (P.store pages.old).map number wanted.now.layout
         copy.new.bytes)) }
     ensures none { IfOk result (λ looked. IfSome looked (λ _. listed cells.new ≡ listed cells.old)) }
     ensures counted { OnOk result (left.old ≡ left.new + 1) }
     ensures fewer { left.new ≤ left.old }
     ensures refused { IfErr result IsWalkRefusal }
     ensures damaged { result ≡ Err Refusal.DamagedFile → P.is_tied pages.old → 0 < left.old
-        → HasNoNode (P.store pages.old).map number layout }
+        → HasNoNode (P.store pages.old).map number wanted.now.layout }
 {
     if *left == 0 {
         return Err(Refusal::DamagedFile);
     }
     *left -= 1;
     match pages.page(number) {
-        Ok(page) => look_at(page, number, layout, wanted, cells, copy),
+        Ok(page) => look_at(page, number, wanted, cells, copy),
         Err(refusal) => Err(refusal),
     }
 }
@@ -64,27 +63,26 @@ pub fn look<P: Pages, S: Summary, F: Fn(&S) -> bool>(
 fn look_at<S: Summary, F: Fn(&S) -> bool>(
     page: &Page,
     number: PageNumber,
-    layout: Layout,
     wanted: &Wanted<'_, F>,
     cells: &mut Cells,
     copy: &mut Page,
 ) -> Result<Option<usize>, Refusal>
     requires callable { F.IsAlwaysCallable wanted.now.keep.now }
-    requires width { record_width cells.old ≡ layout.width }
-    ensures width { record_width cells.new ≡ layout.width }
+    requires width { record_width cells.old ≡ wanted.now.layout.width }
+    ensures width { record_width cells.new ≡ wanted.now.layout.width }
     ensures leaf { IfOk result (λ looked. IfNone looked ((test : S → Bool) → Computes (FnReturnsAt F.Fn wanted.now.keep.now) test
-        → HasLeaf page.now.bytes number layout wanted.now.low.now wanted.now.high.now (λ cell. test (S.of cell)) (listed cells.old) (listed cells.new))) }
-    ensures inner { IfOk result (λ looked. IfSome looked (HasInner page.now.bytes number layout copy.new.bytes)) }
+        → HasLeaf page.now.bytes number wanted.now.layout wanted.now.low.now wanted.now.high.now (λ cell. test (S.of cell)) (listed cells.old) (listed cells.new))) }
+    ensures inner { IfOk result (λ looked. IfSome looked (HasInner page.now.bytes number wanted.now.layout copy.new.bytes)) }
     ensures none { IfOk result (λ looked. IfSome looked (λ _. listed cells.new ≡ listed cells.old)) }
     ensures refused { IfErr result (λ why. (why ≡ Refusal.OutOfMemory) ⊎ (why ≡ Refusal.DamagedFile)) }
-    ensures damaged { result ≡ Err Refusal.DamagedFile → (node : Node) → IsNode page.now.bytes number layout node → ⊥ }
+    ensures damaged { result ≡ Err Refusal.DamagedFile → (node : Node) → IsNode page.now.bytes number wanted.now.layout node → ⊥ }
 {
-    match read_node(page, number, layout) {
+    match read_node(page, number, wanted.layout) {
         Some(Node::Leaf(count)) => {
             collect(
                 page,
                 count,
-                layout,
+                wanted.layout,
                 wanted.low,
                 wanted.high,
                 wanted.keep,

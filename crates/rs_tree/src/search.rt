@@ -45,8 +45,13 @@ pub fn descend<P: Pages, S: Summary, F: Fn(&S) -> bool>(
     }
     let count = pages.count();
     let mut left = count;
-    let wanted = Wanted { low, high, keep };
-    walk::<P, S, F>(pages, layout, root, LEVELS, &wanted, &mut left, &mut cells)?;
+    let wanted = Wanted {
+        layout,
+        low,
+        high,
+        keep,
+    };
+    walk::<P, S, F>(pages, root, LEVELS, &wanted, &mut left, &mut cells)?;
     Ok((cells, count - left))
 }
 

@@ -29,7 +29,6 @@ use rs_refusal::Refusal;
 #[cycle(walking)]
 pub fn walk<P: Pages, S: Summary, F: Fn(&S) -> bool>(
     pages: &mut P,
-    layout: Layout,
     number: PageNumber,
     levels: u32,
     wanted: &Wanted<'_, F>,
@@ -37,38 +36,37 @@ pub fn walk<P: Pages, S: Summary, F: Fn(&S) -> bool>(
     cells: &mut Cells,
 ) -> Result<(), Refusal>
     requires callable { F.IsAlwaysCallable wanted.now.keep.now }
-    requires width { record_width cells.old ≡ layout.width }
-    requires summary { layout.summary ≡ S.WIDTH }
+    requires width { record_width cells.old ≡ wanted.now.layout.width }
+    requires summary { wanted.now.layout.summary ≡ S.WIDTH }
     ensures rests { OnlyReads P.Pages result pages.old pages.new }
-    ensures width { record_width cells.new ≡ layout.width }
+    ensures width { record_width cells.new ≡ wanted.now.layout.width }
     ensures fewer { left.new ≤ left.old }
     ensures walks { OnOk result (P.is_tied pages.old → (test : S → Bool) → Computes (FnReturnsAt F.Fn wanted.now.keep.now) test
         → AcceptsParts S.join test
-        → Walks (form_in S.Summary layout) (P.store pages.old).map number
+        → Walks (form_in S.Summary wanted.now.layout) (P.store pages.old).map number
         wanted.now.low.now wanted.now.high.now (λ cell. test (S.of cell)) (listed cells.old) (listed cells.new) left.old left.new) }
     ensures once { OnOk result (P.is_tied pages.old
-        → ReadsOnce (form_in S.Summary layout) (P.store pages.old).map number
+        → ReadsOnce (form_in S.Summary wanted.now.layout) (P.store pages.old).map number
         left.old left.new) }
     ensures refused { IfErr result IsWalkRefusal }
     ensures damaged { result ≡ Err Refusal.DamagedFile → P.is_tied pages.old
-        → HasNoPart (form_in S.Summary layout) (P.store pages.old).map number
+        → HasNoPart (form_in S.Summary wanted.now.layout) (P.store pages.old).map number
         levels left.old }
 {
     let mut inner = Page::new();
-    let Some(count) = look(pages, layout, number, wanted, left, cells, &mut inner)? else {
+    let Some(count) = look(pages, number, wanted, left, cells, &mut inner)? else {
         return Ok(());
     };
     if levels == 0 {
         return Err(Refusal::DamagedFile);
     }
-    walk_entries(pages, layout, &inner, count, levels, wanted, left, cells)
+    walk_entries(pages, &inner, count, levels, wanted, left, cells)
 }
 
 /// Walks through what the entries of an inner page say.
 #[cycle(walking)]
 fn walk_entries<P: Pages, S: Summary, F: Fn(&S) -> bool>(
     pages: &mut P,
-    layout: Layout,
     page: &Page,
     count: usize,
     levels: u32,
@@ -77,31 +75,31 @@ fn walk_entries<P: Pages, S: Summary, F: Fn(&S) -> bool>(
     cells: &mut Cells,
 ) -> Result<(), Refusal>
     requires callable { F.IsAlwaysCallable wanted.now.keep.now }
-    requires width { record_width cells.old ≡ layout.width }
-    requires summary { layout.summary ≡ S.WIDTH }
-    requires fit { count * entry_bytes layout ≤ 4080 }
+    requires width { record_width cells.old ≡ wanted.now.layout.width }
+    requires summary { wanted.now.layout.summary ≡ S.WIDTH }
+    requires fit { count * entry_bytes wanted.now.layout ≤ 4080 }
     requires levels { 0 < levels }
     ensures rests { OnlyReads P.Pages result pages.old pages.new }
-    ensures width { record_width cells.new ≡ layout.width }
+    ensures width { record_width cells.new ≡ wanted.now.layout.width }
     ensures fewer { left.new ≤ left.old }
     ensures walks { OnOk result (P.is_tied pages.old → (test : S → Bool) → Computes (FnReturnsAt F.Fn wanted.now.keep.now) test
         → AcceptsParts S.join test
-        → WalksEntries (form_in S.Summary layout) (P.store pages.old).map
+        → WalksEntries (form_in S.Summary wanted.now.layout) (P.store pages.old).map
         page.now.bytes count wanted.now.low.now wanted.now.high.now (λ cell. test (S.of cell)) (listed cells.old) (listed cells.new)
         left.old left.new) }
     ensures once { OnOk result (P.is_tied pages.old
-        → ReadsEntriesOnce (form_in S.Summary layout) (P.store pages.old).map
+        → ReadsEntriesOnce (form_in S.Summary wanted.now.layout) (P.store pages.old).map
         page.now.bytes count left.old left.new) }
     ensures refused { IfErr result IsWalkRefusal }
     ensures damaged { result ≡ Err Refusal.DamagedFile → P.is_tied pages.old
-        → HasNoPartsOfEntries (form_in S.Summary layout) (P.store pages.old).map
+        → HasNoPartsOfEntries (form_in S.Summary wanted.now.layout) (P.store pages.old).map
         page.now.bytes count levels left.old }
 {
     let bytes = content(page);
-    let (from, to) = entries_within(bytes, layout, count, wanted.low, wanted.high);
+    let (from, to) = entries_within(bytes, wanted.layout, count, wanted.low, wanted.high);
     for index in from..to {
-        let entry = record_at(bytes, layout.entry_width(), index);
-        walk_entry(pages, layout, entry, levels, wanted, left, cells)?;
+        let entry = record_at(bytes, wanted.layout.entry_width(), index);
+        walk_entry(pages, entry, levels, wanted, left, cells)?;
     }
     Ok(())
 }
@@ -110,7 +108,6 @@ fn walk_entries<P: Pages, S: Summary, F: Fn(&S) -> bool>(
 #[cycle(walking)]
 fn walk_entry<P: Pages, S: Summary, F: Fn(&S) -> bool>(
     pages: &mut P,
-    layout: Layout,
     entry: &[u8],
     levels: u32,
     wanted: &Wanted<'_, F>,
@@ -118,30 +115,30 @@ fn walk_entry<P: Pages, S: Summary, F: Fn(&S) -> bool>(
     cells: &mut Cells,
 ) -> Result<(), Refusal>
     requires callable { F.IsAlwaysCallable wanted.now.keep.now }
-    requires width { record_width cells.old ≡ layout.width }
-    requires summary { layout.summary ≡ S.WIDTH }
-    requires entry { length entry.now ≡ entry_bytes layout }
+    requires width { record_width cells.old ≡ wanted.now.layout.width }
+    requires summary { wanted.now.layout.summary ≡ S.WIDTH }
+    requires entry { length entry.now ≡ entry_bytes wanted.now.layout }
     requires levels { 0 < levels }
     ensures rests { OnlyReads P.Pages result pages.old pages.new }
-    ensures width { record_width cells.new ≡ layout.width }
+    ensures width { record_width cells.new ≡ wanted.now.layout.width }
     ensures fewer { left.new ≤ left.old }
     ensures walks { OnOk result (P.is_tied pages.old → (test : S → Bool) → Computes (FnReturnsAt F.Fn wanted.now.keep.now) test
         → AcceptsParts S.join test
-        → WalksEntry (form_in S.Summary layout) (P.store pages.old).map entry.now
+        → WalksEntry (form_in S.Summary wanted.now.layout) (P.store pages.old).map entry.now
         wanted.now.low.now wanted.now.high.now (λ cell. test (S.of cell)) (listed cells.old) (listed cells.new) left.old left.new) }
     ensures once { OnOk result (P.is_tied pages.old
-        → ReadsEntryOnce (form_in S.Summary layout) (P.store pages.old).map
+        → ReadsEntryOnce (form_in S.Summary wanted.now.layout) (P.store pages.old).map
         entry.now left.old left.new) }
     ensures refused { IfErr result IsWalkRefusal }
     ensures damaged { result ≡ Err Refusal.DamagedFile → P.is_tied pages.old
-        → HasNoPartOfEntry (form_in S.Summary layout) (P.store pages.old).map
+        → HasNoPartOfEntry (form_in S.Summary wanted.now.layout) (P.store pages.old).map
         entry.now levels left.old }
 {
-    if !accepts(wanted.keep, &S::read(summary(entry, layout))) {
+    if !accepts(wanted.keep, &S::read(summary(entry, wanted.layout))) {
         return Ok(());
     }
-    let number = child(entry, layout);
-    walk(pages, layout, number, levels - 1, wanted, left, cells)
+    let number = child(entry, wanted.layout);
+    walk(pages, number, levels - 1, wanted, left, cells)
 }
 
 /// The first entry that may say a cell within the bounds, and the one after the last.

@@ -8,5 +8,5 @@ use Rattle.rs_tree.proofs.look.look_at.Goals as goal
 
 pub collect-requires-clause-fit : goal.collect-requires-clause-fit
 collect-requires-clause-fit g c =
-    let node : IsNode c.args.page.now.bytes c.args.number c.args.layout (Leaf c.in-Some-Leaf.count) = search rules in
-    records_fit c.args.page.now.bytes kind.Leaf c.args.number c.in-Some-Leaf.count c.args.layout.width node.0
+    let node : IsNode c.args.page.now.bytes c.args.number c.args.wanted.now.layout (Leaf c.in-Some-Leaf.count) = search rules in
+    records_fit c.args.page.now.bytes kind.Leaf c.args.number c.in-Some-Leaf.count c.args.wanted.now.layout.width node.0

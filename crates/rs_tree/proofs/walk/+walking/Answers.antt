@@ -22,65 +22,65 @@ pub walk-returns-in_err-count-clause-damaged : goal.walk-returns-in_err-count-cl
 walk-returns-in_err-count-clause-damaged g t c = λ is tied.
     let p = err_from_is_err_and c.from_residual.result c.from_residual.ensures.1 in
     let why : c.in_err-count.field-0.0 ≡ refusal.DamagedFile = cc (p.1, p.2, is) in
-    no_node-no_part (λ bytes cells. g.S.Summary.says bytes (joined g.S.Summary.unit g.S.Summary.join g.S.Summary.of cells)) c.args.layout
+    no_node-no_part (λ bytes cells. g.S.Summary.says bytes (joined g.S.Summary.unit g.S.Summary.join g.S.Summary.of cells)) c.args.wanted.now.layout
     (g.P.Pages.store c.args.pages.now).map c.args.number c.args.levels c.args.left.now (λ some. c.in_err-count.ensures.damaged (ap Err why) tied some)
 
 pub walk-returns-in_default-clause-walks : goal.walk-returns-in_default-clause-walks
 walk-returns-in_default-clause-walks g t c = λ tied test computes accepts.
-    let found : FindsLeaf (g.P.Pages.is_tied c.args.pages.now) (g.P.Pages.store c.args.pages.now).map c.args.number c.args.layout
+    let found : FindsLeaf (g.P.Pages.is_tied c.args.pages.now) (g.P.Pages.store c.args.pages.now).map c.args.number c.args.wanted.now.layout
     c.args.wanted.now.low.now c.args.wanted.now.high.now (λ cell. test (g.S.Summary.of cell)) (listed c.args.cells.now) (listed c.look.new.cells) =
     where_none c.in_ok-count.field-0 c.in_default.not-Some c.in_ok-count.ensures.leaf test computes in
-    walks_leaf (λ bytes cells. g.S.Summary.says bytes (joined g.S.Summary.unit g.S.Summary.join g.S.Summary.of cells)) c.args.layout
+    walks_leaf (λ bytes cells. g.S.Summary.says bytes (joined g.S.Summary.unit g.S.Summary.join g.S.Summary.of cells)) c.args.wanted.now.layout
     (g.P.Pages.store c.args.pages.now).map c.args.number found.page c.args.wanted.now.low.now c.args.wanted.now.high.now (λ cell. test (g.S.Summary.of cell))
     (listed c.args.cells.now) (listed c.look.new.cells) c.args.left.now c.look.new.left c.look.new.left
     c.in_ok-count.ensures.counted (found.there tied) found.leaf.count found.leaf.node found.leaf.found
 
 pub walk-returns-then-levels-eq0-clause-damaged : goal.walk-returns-then-levels-eq0-clause-damaged
 walk-returns-then-levels-eq0-clause-damaged g t c = λ is tied.
-    let form : Form = form_in g.S.Summary c.args.layout in
-    let found : FindsInner (g.P.Pages.is_tied c.args.pages.now) (g.P.Pages.store c.args.pages.now).map c.args.number c.args.layout c.look.new.copy.bytes c.in-Some.count = search rules in
-    let none = no_level-no_part (λ bytes cells. g.S.Summary.says bytes (joined g.S.Summary.unit g.S.Summary.join g.S.Summary.of cells)) c.args.layout
+    let form : Form = form_in g.S.Summary c.args.wanted.now.layout in
+    let found : FindsInner (g.P.Pages.is_tied c.args.pages.now) (g.P.Pages.store c.args.pages.now).map c.args.number c.args.wanted.now.layout c.look.new.copy.bytes c.in-Some.count = search rules in
+    let none = no_level-no_part (λ bytes cells. g.S.Summary.says bytes (joined g.S.Summary.unit g.S.Summary.join g.S.Summary.of cells)) c.args.wanted.now.layout
     (g.P.Pages.store c.args.pages.now).map c.args.number c.look.new.copy.bytes [] [] (λ _. true) [] [] c.args.left.now c.look.new.left 0
     c.in_ok-count.ensures.counted (found.there tied) c.in-Some.count found.node in
     subst (λ levels. HasNoPart form (g.P.Pages.store c.args.pages.now).map c.args.number levels c.args.left.now) (sym c.if-levels-eq0.true) none
 
 pub walk-walk_entries-requires : goal.walk-walk_entries-requires
 walk-walk_entries-requires g t c κs within =
-    let found : FindsInner (g.P.Pages.is_tied c.args.pages.now) (g.P.Pages.store c.args.pages.now).map c.args.number c.args.layout c.look.new.copy.bytes c.in-Some.count = search rules in
-    let fit : c.in-Some.count * entry_bytes c.args.layout ≤ 4080 =
-    records_fit c.look.new.copy.bytes kind.Inner c.args.number c.in-Some.count (entry_bytes c.args.layout) found.node.0 in
+    let found : FindsInner (g.P.Pages.is_tied c.args.pages.now) (g.P.Pages.store c.args.pages.now).map c.args.number c.args.wanted.now.layout c.look.new.copy.bytes c.in-Some.count = search rules in
+    let fit : c.in-Some.count * entry_bytes c.args.wanted.now.layout ≤ 4080 =
+    records_fit c.look.new.copy.bytes kind.Inner c.args.number c.in-Some.count (entry_bytes c.args.wanted.now.layout) found.node.0 in
     search rules
 
 pub walk-returns-clause-walks : goal.walk-returns-clause-walks
 walk-returns-clause-walks g t c =
-    let found : FindsInner (g.P.Pages.is_tied c.args.pages.now) (g.P.Pages.store c.args.pages.now).map c.args.number c.args.layout c.look.new.copy.bytes c.in-Some.count = search rules in
+    let found : FindsInner (g.P.Pages.is_tied c.args.pages.now) (g.P.Pages.store c.args.pages.now).map c.args.number c.args.wanted.now.layout c.look.new.copy.bytes c.in-Some.count = search rules in
     let same : listed c.look.new.cells ≡ listed c.args.cells.now = search rules in
     on_ok c.walk_entries.result c.walk_entries.ensures.walks (λ walks tied test computes accepts.
     let later = g.met.P.Pages.keeps_tied c.args.pages.now c.look.new.pages c.in_ok-count.ensures.rests.below tied in
-    walks_inner (λ bytes cells. g.S.Summary.says bytes (joined g.S.Summary.unit g.S.Summary.join g.S.Summary.of cells)) c.args.layout
+    walks_inner (λ bytes cells. g.S.Summary.says bytes (joined g.S.Summary.unit g.S.Summary.join g.S.Summary.of cells)) c.args.wanted.now.layout
     (g.P.Pages.store c.args.pages.now).map c.args.number c.look.new.copy.bytes c.args.wanted.now.low.now c.args.wanted.now.high.now (λ cell. test (g.S.Summary.of cell))
     (listed c.args.cells.now) (listed c.walk_entries.new.cells) c.args.left.now c.look.new.left c.walk_entries.new.left
     c.in_ok-count.ensures.counted (found.there tied) c.in-Some.count (g.P.Pages.store c.look.new.pages).map
     (c.in_ok-count.ensures.rests.rests.keeps.pages tied) found.node
-    (subst (λ before. WalksEntries (form_in g.S.Summary c.args.layout) (g.P.Pages.store c.look.new.pages).map c.look.new.copy.bytes c.in-Some.count
+    (subst (λ before. WalksEntries (form_in g.S.Summary c.args.wanted.now.layout) (g.P.Pages.store c.look.new.pages).map c.look.new.copy.bytes c.in-Some.count
     c.args.wanted.now.low.now c.args.wanted.now.high.now (λ cell. test (g.S.Summary.of cell)) before (listed c.walk_entries.new.cells) c.look.new.left c.walk_entries.new.left) same
     (walks later test computes accepts)))
 
 pub walk-returns-clause-once : goal.walk-returns-clause-once
 walk-returns-clause-once g t c =
-    let found : FindsInner (g.P.Pages.is_tied c.args.pages.now) (g.P.Pages.store c.args.pages.now).map c.args.number c.args.layout c.look.new.copy.bytes c.in-Some.count = search rules in
+    let found : FindsInner (g.P.Pages.is_tied c.args.pages.now) (g.P.Pages.store c.args.pages.now).map c.args.number c.args.wanted.now.layout c.look.new.copy.bytes c.in-Some.count = search rules in
     on_ok c.walk_entries.result c.walk_entries.ensures.once (λ once tied.
     let later = g.met.P.Pages.keeps_tied c.args.pages.now c.look.new.pages c.in_ok-count.ensures.rests.below tied in
-    once_inner (λ bytes cells. g.S.Summary.says bytes (joined g.S.Summary.unit g.S.Summary.join g.S.Summary.of cells)) c.args.layout
+    once_inner (λ bytes cells. g.S.Summary.says bytes (joined g.S.Summary.unit g.S.Summary.join g.S.Summary.of cells)) c.args.wanted.now.layout
     (g.P.Pages.store c.args.pages.now).map c.args.number c.look.new.copy.bytes [] [] (λ _. true) [] [] c.args.left.now c.look.new.left c.walk_entries.new.left
     c.in_ok-count.ensures.counted (found.there tied) c.in-Some.count (g.P.Pages.store c.look.new.pages).map
     (c.in_ok-count.ensures.rests.rests.keeps.pages tied) found.node (once later))
 
 pub walk-returns-clause-damaged : goal.walk-returns-clause-damaged
 walk-returns-clause-damaged g t c = λ is tied.
-    let found : FindsInner (g.P.Pages.is_tied c.args.pages.now) (g.P.Pages.store c.args.pages.now).map c.args.number c.args.layout c.look.new.copy.bytes c.in-Some.count = search rules in
+    let found : FindsInner (g.P.Pages.is_tied c.args.pages.now) (g.P.Pages.store c.args.pages.now).map c.args.number c.args.wanted.now.layout c.look.new.copy.bytes c.in-Some.count = search rules in
     let later = g.met.P.Pages.keeps_tied c.args.pages.now c.look.new.pages c.in_ok-count.ensures.rests.below tied in
-    no_parts-no_part (λ bytes cells. g.S.Summary.says bytes (joined g.S.Summary.unit g.S.Summary.join g.S.Summary.of cells)) c.args.layout
+    no_parts-no_part (λ bytes cells. g.S.Summary.says bytes (joined g.S.Summary.unit g.S.Summary.join g.S.Summary.of cells)) c.args.wanted.now.layout
     (g.P.Pages.store c.args.pages.now).map c.args.number c.look.new.copy.bytes [] [] (λ _. true) [] [] c.args.left.now c.look.new.left 0
     c.in_ok-count.ensures.counted (found.there tied) c.in-Some.count c.args.levels (g.P.Pages.store c.look.new.pages).map
     (c.in_ok-count.ensures.rests.rests.keeps.pages tied) found.node (c.walk_entries.ensures.damaged is later)
@@ -88,19 +88,19 @@ walk-returns-clause-damaged g t c = λ is tied.
 pub walk_entries-record_at-entry-requires : goal.walk_entries-record_at-entry-requires
 walk_entries-record_at-entry-requires g t c =
     let inside : c.entries_within-from.result.1 ≤ c.args.count =
-    omega (arith, c.entries_within-from.ensures.last.within, length-keys (least_from c.args.layout.summary) c.args.count (entry_bytes c.args.layout) c.content-bytes.result.now) in
-    let bound = times_upto (c.loop-index.index + 1) c.args.count (entry_bytes c.args.layout) (omega arith) in
-    let same : (c.loop-index.index + 1) * c.entry_width.result ≡ (c.loop-index.index + 1) * entry_bytes c.args.layout = ap (λ w. (c.loop-index.index + 1) * w) c.entry_width.ensures.width in
+    omega (arith, c.entries_within-from.ensures.last.within, length-keys (least_from c.args.wanted.now.layout.summary) c.args.count (entry_bytes c.args.wanted.now.layout) c.content-bytes.result.now) in
+    let bound = times_upto (c.loop-index.index + 1) c.args.count (entry_bytes c.args.wanted.now.layout) (omega arith) in
+    let same : (c.loop-index.index + 1) * c.entry_width.result ≡ (c.loop-index.index + 1) * entry_bytes c.args.wanted.now.layout = ap (λ w. (c.loop-index.index + 1) * w) c.entry_width.ensures.width in
     omega (arith, bound, same, c.requires.fit, c.content-bytes.ensures.size)
 
 pub walk_entries-returns-in_err-walk_entry-clause-damaged : goal.walk_entries-returns-in_err-walk_entry-clause-damaged
 walk_entries-returns-in_err-walk_entry-clause-damaged g t c = λ is tied.
-    let form : Form = form_in g.S.Summary c.args.layout in
+    let form : Form = form_in g.S.Summary c.args.wanted.now.layout in
     let p = err_from_is_err_and c.from_residual.result c.from_residual.ensures.1 in
     let why : c.in_err-walk_entry.field-0.0 ≡ refusal.DamagedFile = cc (p.1, p.2, is) in
     let inside : c.entries_within-from.result.1 ≤ c.args.count =
-    omega (arith, c.entries_within-from.ensures.last.within, length-keys (least_from c.args.layout.summary) c.args.count (entry_bytes c.args.layout) c.content-bytes.result.now) in
-    let there = entry_there c.args.count c.entry_width.result (entry_bytes c.args.layout) c.content-bytes.result.now (content c.args.page.now.bytes) c.loop-index.index c.record_at-entry.result.now
+    omega (arith, c.entries_within-from.ensures.last.within, length-keys (least_from c.args.wanted.now.layout.summary) c.args.count (entry_bytes c.args.wanted.now.layout) c.content-bytes.result.now) in
+    let there = entry_there c.args.count c.entry_width.result (entry_bytes c.args.wanted.now.layout) c.content-bytes.result.now (content c.args.page.now.bytes) c.loop-index.index c.record_at-entry.result.now
     c.entry_width.ensures.width c.content-bytes.ensures.bytes (c.record_at-entry.ensures.one c.args.count (omega arith)) in
     let later = g.met.P.Pages.keeps_tied c.args.pages.now c.loop-index.pages c.loop-index.invariant.rests.below tied in
     no_entry-no_parts form (g.P.Pages.store c.args.pages.now).map c.args.page.now.bytes c.args.count c.args.levels c.entries_within-from.result.0 c.loop-index.index c.record_at-entry.result.now
@@ -109,10 +109,10 @@ walk_entries-returns-in_err-walk_entry-clause-damaged g t c = λ is tied.
 
 pub walk_entries-loop-index-preserved : goal.walk_entries-loop-index-preserved
 walk_entries-loop-index-preserved g t c =
-    let form : Form = form_in g.S.Summary c.args.layout in
+    let form : Form = form_in g.S.Summary c.args.wanted.now.layout in
     let inside : c.entries_within-from.result.1 ≤ c.args.count =
-    omega (arith, c.entries_within-from.ensures.last.within, length-keys (least_from c.args.layout.summary) c.args.count (entry_bytes c.args.layout) c.content-bytes.result.now) in
-    let there = entry_there c.args.count c.entry_width.result (entry_bytes c.args.layout) c.content-bytes.result.now (content c.args.page.now.bytes) c.loop-index.index c.record_at-entry.result.now
+    omega (arith, c.entries_within-from.ensures.last.within, length-keys (least_from c.args.wanted.now.layout.summary) c.args.count (entry_bytes c.args.wanted.now.layout) c.content-bytes.result.now) in
+    let there = entry_there c.args.count c.entry_width.result (entry_bytes c.args.wanted.now.layout) c.content-bytes.result.now (content c.args.page.now.bytes) c.loop-index.index c.record_at-entry.result.now
     c.entry_width.ensures.width c.content-bytes.ensures.bytes (c.record_at-entry.ensures.one c.args.count (omega arith)) in
     record {
       rests = rests_then g.P.Pages.is_tied g.P.Pages.store g.P.Pages.keeps tt (Ok tt) c.args.pages.now c.loop-index.pages c.walk_entry.new.pages
@@ -136,7 +136,7 @@ walk_entries-loop-index-preserved g t c =
 
 pub walk_entries-returns-clause-walks : goal.walk_entries-returns-clause-walks
 walk_entries-returns-clause-walks g t c = λ tied test computes accepts.
-    let form : Form = form_in g.S.Summary c.args.layout in
+    let form : Form = form_in g.S.Summary c.args.wanted.now.layout in
     walks_all form (g.P.Pages.store c.args.pages.now).map c.args.page.now.bytes c.args.count c.args.wanted.now.low.now c.args.wanted.now.high.now (λ cell. test (g.S.Summary.of cell))
     c.entries_within-from.result.0 c.entries_within-from.result.1 c.loop-index.index (listed c.args.cells.now) (listed c.loop-index.cells) c.args.left.now c.loop-index.left
     c.content-bytes.result.now c.content-bytes.ensures.bytes c.entries_within-from.ensures c.loop-index.invariant.ends c.loop-index.auto.index (omega arith)
@@ -144,25 +144,25 @@ walk_entries-returns-clause-walks g t c = λ tied test computes accepts.
 
 pub walk_entries-returns-clause-once : goal.walk_entries-returns-clause-once
 walk_entries-returns-clause-once g t c = λ tied.
-    let form : Form = form_in g.S.Summary c.args.layout in
+    let form : Form = form_in g.S.Summary c.args.wanted.now.layout in
     reads_all form (g.P.Pages.store c.args.pages.now).map c.args.page.now.bytes c.args.count c.entries_within-from.result.0 (c.loop-index.index - c.entries_within-from.result.0)
     c.args.left.now c.loop-index.left (c.loop-index.invariant.once tied)
 
 pub walk_entry-returns-then-not-accepts-clause-walks : goal.walk_entry-returns-then-not-accepts-clause-walks
 walk_entry-returns-then-not-accepts-clause-walks g t c = λ tied test computes accepts.
-    let form : Form = form_in g.S.Summary c.args.layout in
-    let reads = λ (s : g.row.S.Denot) (says : g.S.Summary.says (take c.args.layout.summary (drop child_bytes c.args.entry.now)) s).
+    let form : Form = form_in g.S.Summary c.args.wanted.now.layout in
+    let reads = λ (s : g.row.S.Denot) (says : g.S.Summary.says (take c.args.wanted.now.layout.summary (drop child_bytes c.args.entry.now)) s).
     c.read.ensures s (subst (λ bytes. g.S.Summary.says bytes s) (sym c.summary.ensures.bytes) says) in
     let answered : c.accepts.result ≡ false = search rules in
     walks_rejected form (g.P.Pages.store c.args.pages.now).map c.args.entry.now c.args.wanted.now.low.now c.args.wanted.now.high.now (λ cell. test (g.S.Summary.of cell)) (listed c.args.cells.now) c.args.left.now
     (λ height part told.
-    answer_told g.S.Summary.unit g.S.Summary.join g.S.Summary.of g.S.Summary.says c.args.layout.summary c.args.layout.width (FnReturnsAt g.F.Fn c.args.wanted.now.keep.now) test c.read.result c.accepts.result c.args.entry.now
+    answer_told g.S.Summary.unit g.S.Summary.join g.S.Summary.of g.S.Summary.says c.args.wanted.now.layout.summary c.args.wanted.now.layout.width (FnReturnsAt g.F.Fn c.args.wanted.now.keep.now) test c.read.result c.accepts.result c.args.entry.now
     g.met.S.Summary.unit_last accepts computes c.accepts.ensures reads height part told ∙ answered)
 
 pub walk_entry-returns-clause-walks : goal.walk_entry-returns-clause-walks
 walk_entry-returns-clause-walks g t c =
-    let form : Form = form_in g.S.Summary c.args.layout in
-    let reads = λ (s : g.row.S.Denot) (says : g.S.Summary.says (take c.args.layout.summary (drop child_bytes c.args.entry.now)) s).
+    let form : Form = form_in g.S.Summary c.args.wanted.now.layout in
+    let reads = λ (s : g.row.S.Denot) (says : g.S.Summary.says (take c.args.wanted.now.layout.summary (drop child_bytes c.args.entry.now)) s).
     c.read.ensures s (subst (λ bytes. g.S.Summary.says bytes s) (sym c.summary.ensures.bytes) says) in
     let answered : c.accepts.result ≡ true = search rules in
     on_ok c.walk.result c.walk.ensures.walks (λ walks tied test computes accepts.
@@ -170,5 +170,5 @@ walk_entry-returns-clause-walks g t c =
     c.child-number.ensures (walks tied test computes accepts) in
     walks_accepted form (g.P.Pages.store c.args.pages.now).map c.args.entry.now c.args.wanted.now.low.now c.args.wanted.now.high.now (λ cell. test (g.S.Summary.of cell)) (listed c.args.cells.now) (listed c.walk.new.cells) c.args.left.now c.walk.new.left
     (λ height part told.
-    answer_told g.S.Summary.unit g.S.Summary.join g.S.Summary.of g.S.Summary.says c.args.layout.summary c.args.layout.width (FnReturnsAt g.F.Fn c.args.wanted.now.keep.now) test c.read.result c.accepts.result c.args.entry.now
+    answer_told g.S.Summary.unit g.S.Summary.join g.S.Summary.of g.S.Summary.says c.args.wanted.now.layout.summary c.args.wanted.now.layout.width (FnReturnsAt g.F.Fn c.args.wanted.now.keep.now) test c.read.result c.accepts.result c.args.entry.now
     g.met.S.Summary.unit_last accepts computes c.accepts.ensures reads height part told ∙ answered) here)

@@ -21,13 +21,13 @@ decreases-walk_entry g l = 3 * l.levels
 abbrev pub invariant-walk_entries-loop-index : goal.invariant-walk_entries-loop-index
 invariant-walk_entries-loop-index g l = record {
   rests : RestsAfter {T = Unit {0}} g.P.Pages.is_tied g.P.Pages.store g.P.Pages.keeps (Ok tt) l.fn.pages l.pages;
-  width : record_width l.cells ≡ l.layout.width;
+  width : record_width l.cells ≡ l.wanted.layout.width;
   ends : l.index - l.from ≤ l.to - l.from;
   fewer : l.left ≤ l.fn.left;
   walks : g.P.Pages.is_tied l.fn.pages → (test : g.row.S.Denot → Bool) → Computes (FnReturnsAt g.F.Fn l.wanted.keep.now) test → AcceptsParts g.S.Summary.join test
-      → WalksSome (form_in g.S.Summary l.layout) (g.P.Pages.store l.fn.pages).map l.page.bytes l.count
+      → WalksSome (form_in g.S.Summary l.wanted.layout) (g.P.Pages.store l.fn.pages).map l.page.bytes l.count
       l.wanted.low.now l.wanted.high.now (λ cell. test (g.S.Summary.of cell)) l.from (l.index - l.from) (listed l.fn.cells) (listed l.cells) l.fn.left l.left;
   once : g.P.Pages.is_tied l.fn.pages
-      → ReadsSome (form_in g.S.Summary l.layout) (g.P.Pages.store l.fn.pages).map l.page.bytes l.count
+      → ReadsSome (form_in g.S.Summary l.wanted.layout) (g.P.Pages.store l.fn.pages).map l.page.bytes l.count
       l.from (l.index - l.from) l.fn.left l.left;
 }
