@@ -10,7 +10,8 @@ ghost use Rattle.rs_attr.specs.Inner.{Appends, AppendsNone, Enters, EntersNone};
 ghost use Rattle.rs_page_owners.specs.Calls as owners;
 ghost use Rattle.rs_records.specs.Listed.{listed, record_width};
 ghost use Rattle.rs_records.specs.Order.{is_below};
-ghost use Rattle.rs_versioned.specs.EventCalls.{Leaves};
+ghost use Rattle.rs_versioned.specs.Calls.{Leaves};
+ghost use Rattle.rs_versioned.specs.Events.{kept_events};
 
 use crate::attr_index::AttrIndex;
 use rs_btree::Tree;
@@ -38,7 +39,7 @@ pub fn define<P: Pages>(
     requires begun { (P.store pages.old).is_begun ≡ true }
     requires column { column < length table.now.types }
     requires fits { FitsPages table.now.types column }
-    ensures leaves { Leaves P.Pages table.now result pages.old pages.new }
+    ensures leaves { Leaves P.Pages kept_events table.now result pages.old pages.new }
     ensures defines { Defines P.Pages table.now result pages.old pages.new }
     ensures index { IfOk result (IsFresh table.now.types column) }
 {

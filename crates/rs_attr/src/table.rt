@@ -11,8 +11,7 @@ ghost use Rattle.rs_attr.specs.Tables.{AreOn, kept_parts};
 ghost use Rattle.rs_value.specs.Values.{IsRowOf};
 ghost use Rattle.rs_value.specs.View.{row_of};
 ghost use Rattle.rs_versioned.specs.Calls.{TakesFirst};
-ghost use Rattle.rs_versioned.specs.EventCalls.{event_of};
-ghost use Rattle.rs_versioned.specs.Events.{event_width};
+ghost use Rattle.rs_versioned.specs.Events.{event_of, event_width};
 ghost use Rattle.rs_cell_versions.specs.Version.{HaveDiedBy, ended, is_living};
 ghost use Rattle.rs_cell_versions.specs.declared.cell.TheConstants.{LIVING};
 

@@ -11,8 +11,8 @@ use Rattle.rs_records.specs.Order.{Ascends, is_below}
 use Rattle.rs_records.proofs.Orders.{is_below-self}
 use Rattle.rs_value.specs.declared.column.ColumnType.{ColumnType}
 use Rattle.rs_versioned.specs.Events.{Event, SaysEvent, ended_event, kept_events}
-use Rattle.rs_versioned.specs.Records.{HasEnded, HasOneMore, Kept}
-use Rattle.rs_versioned.proofs.KeptRecords.{IsKept, events_are_kept}
+use Rattle.rs_versioned.specs.Records.{HasEnded, HasOneMore, IsKept, Kept}
+use Rattle.rs_versioned.proofs.KeptRecords.{events_are_kept}
 use Rattle.rs_versioned.proofs.MeantLists.{all_weaker}
 use Rattle.rs_versioned.proofs.Present.{IsDatedRecord}
 use Rattle.rs_event_changes.specs.Chains.{ComeAll, EndAll, GivesWay, living_event}

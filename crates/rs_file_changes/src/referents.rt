@@ -8,8 +8,7 @@ ghost use Rattle.rs_file_changes.specs.Calls.{Ends, Leaves, Puts};
 ghost use Rattle.rs_file_changes.specs.Inner.{IsCellNamed, NoCellNamed};
 ghost use Rattle.rs_file_changes.specs.Parts.{HaveAllDiedBy, KeepsCommitted};
 ghost use Rattle.rs_records.specs.Listed.{listed, record_width};
-ghost use Rattle.rs_versioned.specs.ReferentCalls.{record_of};
-ghost use Rattle.rs_versioned.specs.Referents.{referent_width};
+ghost use Rattle.rs_versioned.specs.Referents.{record_of, referent_width};
 
 use rs_cell_versions::is_living;
 use rs_contents::OpenedFile;

@@ -21,8 +21,7 @@ use Rattle.rs_cell_versions.proofs.Dated.{all_cleared, all_with, dated_ended}
 use Rattle.rs_cell_versions.proofs.Seen.{cleared_count, ended_early, ended_late, without-ascends}
 use Rattle.rs_cell_versions.specs.Calls as cells
 use Rattle.rs_versioned.specs.Calls.{IsAdded, IsCleared, IsEnded, IsVacuumed}
-use Rattle.rs_versioned.specs.Records.{ChangesRecords, HasEnded, WasEnded, HasNone, HasOneMore, HasCleared, HoldsRecords, Kept}
-use Rattle.rs_versioned.proofs.KeptRecords.{IsKept}
+use Rattle.rs_versioned.specs.Records.{ChangesRecords, HasEnded, IsKept, WasEnded, HasNone, HasOneMore, HasCleared, HoldsRecords, Kept}
 use Rattle.rs_versioned.proofs.Lifting.{cell_there, joins, leave_all, leaves, record_there, zip_all, zip_count}
 
 -- a cell that is dated is dated at any later version

@@ -6,8 +6,7 @@ use Rattle.std.specs.List.{Contains}
 use Rattle.rs_pages.specs.PageMap.{PageMap}
 use Rattle.rs_cell_versions.specs.declared.cell.TheConstants.{LIVING}
 use Rattle.rs_cell_versions.specs.Versioned.{Standing}
-use Rattle.rs_versioned.specs.Records.{HasEnded, HasOneMore, HoldsRecords, Kept}
-use Rattle.rs_versioned.proofs.KeptRecords.{IsKept}
+use Rattle.rs_versioned.specs.Records.{HasEnded, HasOneMore, HoldsRecords, IsKept, Kept}
 use Rattle.rs_versioned.proofs.Present.{IsDatedRecord, held_dated}
 
 module _ {R : Type 0} where

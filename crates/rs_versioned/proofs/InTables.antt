@@ -1,22 +1,26 @@
 -- What holds of the cells of a table holds by what is known of the table.
-use Rattle.std.proofs.Common.{◌≡◌, ℕ, List, [], sym, ◌∙◌, subst}
+use Rattle.std.proofs.Common.{◌≡◌, ℕ, [], ◌∙◌, subst}
 use Rattle.rs_tree.specs.declared.summary.NoSummary.{NoSummary}
+use Rattle.rs_tree.specs.declared.summary.Summary.{Ghosts as Summaries}
 use Rattle.rs_tree.specs.Form.{Form, form_of}
-use Rattle.rs_value.specs.declared.column.ColumnType.{ColumnType}
-use Rattle.rs_cell_versions.specs.Versioned.{Standing}
-use Rattle.rs_versioned.specs.Events.{Event, SaysEvent, event_width}
+use Rattle.rs_cell_versions.specs.Versioned.{Standing, Versioned}
+use Rattle.rs_versioned.specs.declared.kind.RecordKind.{Ghosts as Kinds}
+use Rattle.rs_versioned.specs.Kinds.{kept_as}
+use Rattle.rs_versioned.specs.Records.{IsKept}
 use Rattle.rs_versioned.specs.Referents.{referent_form, referent_width}
-use Rattle.rs_versioned.specs.Tables.{EventTableState, ReferentTableState}
+use Rattle.rs_versioned.specs.Tables.{TableState}
 
-pub in_table : (P : ℕ → Standing → Type 0) (width : ℕ) (types : List ColumnType) (working committed : Standing) (table : EventTableState) → width ≡ event_width types
-    → (let seen : EventTableState = record { types = types; working = working; committed = committed } in seen) ≡ table → P width working → P (event_width table.types) table.working
-in_table P width types working committed table wide is here =
-    subst (λ (t : EventTableState). P (event_width t.types) t.working) is (subst (λ (w : ℕ). P w working) wide here)
+-- a table over cells with versions
+abbrev pub table_of : {T : Type 0} → T → Versioned → TableState T
+table_of types versions = record { types = types; working = versions.working; committed = versions.committed }
 
-pub said_in_table : (types : List ColumnType) (working committed : Standing) (table : EventTableState) (cell made : List ℕ) (event : Event)
-    → (let seen : EventTableState = record { types = types; working = working; committed = committed } in seen) ≡ table → made ≡ cell → SaysEvent types cell event → SaysEvent table.types made event
-said_in_table types working committed table cell made event is same says =
-    subst (λ (t : EventTableState). SaysEvent t.types made event) is (subst (λ (c : List ℕ). SaysEvent types c event) (sym same) says)
+module _ {S T : Type 0} (summaries : Summaries S) (kinds : Kinds T S) (types : T) (versions : Versioned) (table : TableState T)
+    (sound : (versions.width ≡ kinds.width types) × IsKept (kept_as summaries kinds types)) (is : table_of types versions ≡ table) where
+  pub in_table : (P : ℕ → Standing → Type 0) → P versions.width versions.working → P (kinds.width table.types) table.working
+  in_table P here = subst (λ (t : TableState T). P (kinds.width t.types) t.working) is (subst (λ (w : ℕ). P w versions.working) sound.0 here)
+
+  pub kept_in_table : IsKept (kept_as summaries kinds table.types)
+  kept_in_table = subst (λ (t : TableState T). IsKept (kept_as summaries kinds t.types)) is sound.1
 
 -- the form of a tree of cells that keeps no summaries
 abbrev pub form_without : ℕ → ℕ → Form
@@ -24,11 +28,6 @@ form_without summary width = form_of (λ bytes (_ : NoSummary). bytes ≡ []) (r
 
 abbrev pub plain_form : ℕ → Form
 plain_form width = form_without 0 width
-
-pub in_referents : (P : ℕ → Standing → Type 0) (width : ℕ) (working committed : Standing) (table : ReferentTableState) → width ≡ referent_width
-    → (let seen : ReferentTableState = record { working = working; committed = committed } in seen) ≡ table → P width working → P referent_width table.working
-in_referents P width working committed table wide is here =
-    subst (λ (t : ReferentTableState). P referent_width t.working) is (subst (λ (w : ℕ). P w working) wide here)
 
 -- of a layout that is that of the table
 pub in_layout : (P : Form → ℕ → Type 0) (summary width other root top : ℕ) → summary ≡ 0 → width ≡ other → other ≡ referent_width → root ≡ top → P (form_without summary width) root → P referent_form top

@@ -1,21 +1,12 @@
--- What is asked of records, so that what becomes of their cells becomes of them; and that events are so.
-use Rattle.std.proofs.Common.{◌≡◌, ◌<◌, ◌≤◌, ◌^◌, ℕ, List, ◌++◌, length, arith}
+-- Events are kept so that what becomes of their cells becomes of them.
+use Rattle.std.proofs.Common.{◌<◌, ◌^◌, ℕ, List, ◌++◌, arith}
 use Rattle.std.specs.Int.{w32, to_be_bytes}
 use Rattle.rs_value.specs.declared.column.ColumnType.{ColumnType}
-use Rattle.rs_cell_versions.specs.Version.{born_of, died_of, ended}
+use Rattle.rs_cell_versions.specs.Version.{ended}
 use Rattle.rs_versioned.specs.Events.{Event, SaysEvent, ended_event, kept_events}
-use Rattle.rs_versioned.specs.Records.{Kept}
+use Rattle.rs_versioned.specs.Records.{IsKept}
 use Rattle.rs_versioned.proofs.EventCells.{event_has_one_cell, event_said_once}
 use Rattle.rs_versioned.proofs.CellVersions.{IsVersioned, born_read, died_read, ended_read, length_versioned}
-
--- a cell says one record, which has one cell, and the record's versions are the cell's
-pub record IsKept {R : Type 0} (kept : Kept R) : Type 0 where
-  pub one : (cell : List ℕ) (a b : R) → kept.says cell a → kept.says cell b → a ≡ b
-  pub has_one : (cell other : List ℕ) (a : R) → kept.says cell a → kept.says other a → cell ≡ other
-  pub long : (cell : List ℕ) (a : R) → kept.says cell a → 20 ≤ length cell
-  pub born : (cell : List ℕ) (a : R) → kept.says cell a → born_of cell ≡ kept.born a
-  pub died : (cell : List ℕ) (a : R) → kept.says cell a → died_of cell ≡ kept.died a
-  pub ends : (version : ℕ) (cell : List ℕ) (a : R) → version < 2 ^ 64 → kept.says cell a → kept.says (ended version cell) (kept.ended version a)
 
 -- what is before an event's birth in its cell
 abbrev event_front : Event → List ℕ → List ℕ

@@ -2,9 +2,9 @@
 use Rattle.std.proofs.Common.{◌≡◌, ◌<◌, ◌-◌, ◌^◌, ℕ, List, ◌++◌, length, replicate, arith}
 use Rattle.std.specs.Int.{w32, to_be_bytes}
 use Rattle.rs_cell_versions.specs.Version.{ended}
+use Rattle.rs_versioned.specs.Records.{IsKept}
 use Rattle.rs_versioned.specs.Referents.{ReferentRecord, SaysReferent, ended_referent, kept_referents}
 use Rattle.rs_versioned.proofs.CellVersions.{IsVersioned, born_read, died_read, ended_read}
-use Rattle.rs_versioned.proofs.KeptRecords.{IsKept}
 use Rattle.rs_versioned.proofs.ReferentCells.{referent_has_one_cell, referent_said_once, referent_wide}
 
 -- what is before a referent's birth in its cell

@@ -11,8 +11,7 @@ use Rattle.rs_cell_versions.specs.Version.{is_dead}
 use Rattle.rs_cell_versions.proofs.Among.{filter-with_yes, filtered, with_present, without_absent}
 use Rattle.rs_cell_versions.proofs.Permutations.{IsPermutation-rest}
 use Rattle.rs_cell_versions.proofs.Seen.{without-ascends}
-use Rattle.rs_versioned.specs.Records.{Kept}
-use Rattle.rs_versioned.proofs.KeptRecords.{IsKept}
+use Rattle.rs_versioned.specs.Records.{IsKept, Kept}
 
 -- where the first cells end, so do the first records
 record Parted {R : Type 0} (says : List ℕ → R → Type 0) (xs ys : List (List ℕ)) (records : List R) : Type 0 where

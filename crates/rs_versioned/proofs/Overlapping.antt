@@ -9,8 +9,8 @@ use Rattle.rs_value.specs.declared.column.ColumnType.{ColumnType}
 use Rattle.rs_cell_versions.specs.Version.{died_of, sees}
 use Rattle.rs_cell_versions.specs.Versioned.{Standing}
 use Rattle.rs_versioned.specs.Events.{Event, SaysEvent, event_width, is_visible, kept_events, sees_event}
-use Rattle.rs_versioned.specs.Records.{HoldsRecords, Kept, is_seen}
-use Rattle.rs_versioned.proofs.KeptRecords.{IsKept, events_are_kept}
+use Rattle.rs_versioned.specs.Records.{HoldsRecords, IsKept, Kept, is_seen}
+use Rattle.rs_versioned.proofs.KeptRecords.{events_are_kept}
 
 -- a version sees a cell where it sees its record
 pub sees_record : {R : Type 0} (kept : Kept R) (laws : IsKept kept) (version : ℕ) (cell : List ℕ) (one : R) → kept.says cell one → sees version cell ≡ is_seen kept version one

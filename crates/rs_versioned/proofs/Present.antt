@@ -7,8 +7,7 @@ use Rattle.rs_cell_versions.specs.declared.cell.TheConstants.{LIVING}
 use Rattle.rs_cell_versions.specs.Version.{IsDated, died_of, is_clearable, is_living}
 use Rattle.rs_cell_versions.specs.Versioned.{Standing}
 use Rattle.rs_cell_versions.proofs.Dated.{dated_listed}
-use Rattle.rs_versioned.specs.Records.{HoldsRecords, Kept, is_seen}
-use Rattle.rs_versioned.proofs.KeptRecords.{IsKept}
+use Rattle.rs_versioned.specs.Records.{HoldsRecords, IsKept, Kept, is_seen}
 use Rattle.rs_versioned.proofs.Lifting.{zip_all, zip_count}
 
 -- born by the version, and living or dead after the birth by that version

@@ -10,8 +10,7 @@ use Rattle.rs_tree.proofs.Framed.{kept_tree_stays}
 use Rattle.rs_tree.proofs.Ones.{tree_has_its_cells}
 use Rattle.rs_cell_versions.specs.Version.{IsDated, is_dead, is_living}
 use Rattle.rs_cell_versions.specs.Versioned.{Standing, nothing_stands}
-use Rattle.rs_versioned.specs.Records.{HoldsRecords, Kept}
-use Rattle.rs_versioned.proofs.KeptRecords.{IsKept}
+use Rattle.rs_versioned.specs.Records.{HoldsRecords, IsKept, Kept}
 
 dated_later : (from to : ℕ) (cells : List (List ℕ)) → from ≤ to → AllByRecursion (IsDated from) cells → AllByRecursion (IsDated to) cells
 dated_later from to [] later all = tt

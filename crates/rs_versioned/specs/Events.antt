@@ -5,11 +5,14 @@ use Rattle.std.specs.declared.cmp.Ordering.TheVariants.{Less}
 use Rattle.rs_facts.specs.Fact.{Places}
 use Rattle.rs_facts.specs.Runs.{Stretch, stretch, stretch_cmp}
 use Rattle.rs_facts.specs.Spans.{places_of}
+use Rattle.rs_facts.specs.declared.fact.Span.{Span}
 use Rattle.rs_interval.specs.EventRecords.{SaysRecord}
 use Rattle.rs_interval.specs.Finding.{event_form}
 use Rattle.rs_value.specs.declared.column.ColumnType.{ColumnType}
 use Rattle.rs_value.specs.Encoding.{SaysRow, row_width}
 use Rattle.rs_value.specs.Row.{Row}
+use Rattle.rs_value.specs.View.{row_of}
+use Rattle.rs_cell_versions.specs.declared.cell.TheConstants.{LIVING}
 use Rattle.rs_versioned.specs.Records.{Kept}
 
 -- a row that holds on a route from one thousandth up to another, as versions from one up to another see it
@@ -20,6 +23,10 @@ pub record Event : Type 0 where
   pub row : Row
   pub born : ℕ
   pub died : ℕ
+
+-- the span's row on the route, as versions from this one on see it
+abbrev pub event_of : ℕ → Span → ℕ → Event
+event_of route span version = record { route = route; lo = span.lo; hi = span.hi; row = row_of span.tuple.items; born = version; died = LIVING }
 
 -- the cell says the event, with a row of these columns
 pub record SaysEvent (types : List ColumnType) (cell : List ℕ) (event : Event) : Type 0 where

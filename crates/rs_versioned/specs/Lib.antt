@@ -1,6 +1,6 @@
 pub mod Calls
-pub mod EventCalls
 pub mod Events
+pub mod Kinds
 pub mod Meant
 pub mod MeantParts
 pub mod Opening

@@ -1,11 +1,11 @@
 -- Records by version: what the cells of a tree say.
-use Rattle.std.specs.Prelude.{◌≡◌, ◌≤◌, ◌<◌, ℕ, Bool, ◌&&◌, nat_le, nat_lt, List, [], ◌∷◌, ◌++◌, ◌⊎◌, Contains, IsPermutation}
+use Rattle.std.specs.Prelude.{◌≡◌, ◌≤◌, ◌<◌, ◌^◌, ℕ, Bool, ◌&&◌, nat_le, nat_lt, List, [], ◌∷◌, ◌++◌, ◌⊎◌, Contains, IsPermutation, length}
 use Rattle.std.specs.List.{AllByRecursion, AllZip}
 use Rattle.rs_page_owners.specs.Counts.{◌&◌}
 use Rattle.rs_page_owners.specs.Owners.{Moves, Shares}
 use Rattle.rs_pages.specs.PageMap.{PageMap}
 use Rattle.rs_tree.specs.Form.{Form}
-use Rattle.rs_cell_versions.specs.Version.{IsDated}
+use Rattle.rs_cell_versions.specs.Version.{IsDated, born_of, died_of, ended}
 use Rattle.rs_cell_versions.specs.Versioned.{HoldsCells, Standing}
 
 -- how records are kept: the form of their tree, which cells say which record, and from which version up to which one is seen
@@ -15,6 +15,15 @@ pub record Kept (R : Type 0) : Type 1 where
   pub born : R → ℕ
   pub died : R → ℕ
   pub ended : ℕ → R → R
+
+-- a cell says one record, which has one cell, and the record's versions are the cell's
+pub record IsKept {R : Type 0} (kept : Kept R) : Type 0 where
+  pub one : (cell : List ℕ) (a b : R) → kept.says cell a → kept.says cell b → a ≡ b
+  pub has_one : (cell other : List ℕ) (a : R) → kept.says cell a → kept.says other a → cell ≡ other
+  pub long : (cell : List ℕ) (a : R) → kept.says cell a → 20 ≤ length cell
+  pub born : (cell : List ℕ) (a : R) → kept.says cell a → born_of cell ≡ kept.born a
+  pub died : (cell : List ℕ) (a : R) → kept.says cell a → died_of cell ≡ kept.died a
+  pub ends : (version : ℕ) (cell : List ℕ) (a : R) → version < 2 ^ 64 → kept.says cell a → kept.says (ended version cell) (kept.ended version a)
 
 -- the version sees the record
 abbrev pub is_seen : {R : Type 0} → Kept R → ℕ → R → Bool

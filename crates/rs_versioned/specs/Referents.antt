@@ -4,8 +4,10 @@ use Rattle.std.specs.Int.{w32, w64, to_be_bytes}
 use Rattle.std.specs.List.{AllByRecursion}
 use Rattle.std.specs.declared.cmp.Ordering.TheVariants.{Less}
 use Rattle.rs_facts.specs.Fact.{name_cmp}
+use Rattle.rs_methods.specs.declared.referents.Referent.{Referent}
 use Rattle.rs_tree.specs.declared.summary.NoSummary.{NoSummary}
 use Rattle.rs_tree.specs.Form.{Form, form_of}
+use Rattle.rs_cell_versions.specs.declared.cell.TheConstants.{LIVING}
 use Rattle.rs_versioned.specs.Records.{Kept}
 
 -- a name at a measure of a route, as versions from one up to another see it
@@ -15,6 +17,10 @@ pub record ReferentRecord : Type 0 where
   pub measure : ℕ
   pub born : ℕ
   pub died : ℕ
+
+-- the referent, as versions from this one on see it
+abbrev pub record_of : Referent → ℕ → ReferentRecord
+record_of referent version = record { route = referent.route; name = referent.name.bytes; measure = referent.measure; born = version; died = LIVING }
 
 -- how many bytes a name takes, with the zeros after it
 abbrev pub name_width : ℕ

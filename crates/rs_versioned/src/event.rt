@@ -10,8 +10,7 @@ ghost use Rattle.rs_value.specs.declared.column.ColumnType.{ColumnType};
 ghost use Rattle.rs_value.specs.Encoding.{SaysRow, row_width};
 ghost use Rattle.rs_value.specs.Values.{IsRowOf};
 ghost use Rattle.rs_value.specs.View.{row_of};
-ghost use Rattle.rs_versioned.specs.EventCalls.{event_of};
-ghost use Rattle.rs_versioned.specs.Events.{Event, SaysEvent, event_width, span_of};
+ghost use Rattle.rs_versioned.specs.Events.{Event, SaysEvent, event_of, event_width, span_of};
 
 use byteorder::{BigEndian, ByteOrder};
 use rs_cell_versions::LIVING;

@@ -5,16 +5,20 @@
 
 pub mod event;
 pub mod event_table;
+pub mod kind;
 pub mod laws;
 mod meant;
 pub mod opening;
+pub mod record_table;
 pub mod referent;
 pub mod referent_table;
 pub mod route_span;
 pub mod run_laws;
 mod seeing;
 
-pub use event_table::EventTable;
-pub use referent_table::ReferentTable;
+pub use event_table::{EventTable, Events};
+pub use kind::RecordKind;
+pub use record_table::RecordTable;
+pub use referent_table::{ReferentTable, Referents};
 pub use route_span::RouteSpan;
 pub use rs_cell_versions::ToldRecords;

@@ -11,8 +11,9 @@ ghost use Rattle.rs_versioned.specs.Meant.{AreRising};
 ghost use Rattle.rs_versioned.specs.ReferentCalls.{IsOpened, Opens, RefusesToOpen};
 
 use crate::meant::are_part_meant;
+use crate::record_table::RecordTable;
 use crate::referent::{REFERENT_BYTES, beginning};
-use crate::referent_table::ReferentTable;
+use crate::referent_table::{ReferentTable, Referents};
 use crate::route_span::RouteSpan;
 use rs_cell_versions::{Opening, ToldRecords};
 use rs_page_marks::Reached;
@@ -21,7 +22,7 @@ use rs_refusal::Refusal;
 use rs_tree::NoSummary;
 use std::alloc::Global;
 
-impl ReferentTable {
+impl RecordTable<Referents> {
     /// The referents that lie in a file already, whose pages it marks. The routes of the last version rise by their numbers. Ok
     /// exactly where the referents lie there as they were told, in pages none of which was reached before, and those that the
     /// last version sees are meant beside these routes; 94 where not; 90 and 91. No page changes. Which pages are marked after a

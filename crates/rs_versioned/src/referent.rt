@@ -6,8 +6,7 @@
 ghost use Rattle.std.specs.Prelude.{◌≡◌, ◌<◌, ◌==◌, ◌↔◌, IfOk, IsTrue, length, replicate};
 ghost use Rattle.std.specs.Int.{w32, to_be_bytes};
 ghost use Rattle.std.specs.List.{AllByRecursion, position_or_len};
-ghost use Rattle.rs_versioned.specs.ReferentCalls.{record_of};
-ghost use Rattle.rs_versioned.specs.Referents.{ReferentRecord, SaysReferent, referent_width};
+ghost use Rattle.rs_versioned.specs.Referents.{ReferentRecord, SaysReferent, record_of, referent_width};
 
 use byteorder::{BigEndian, ByteOrder};
 use rs_cell_versions::LIVING;

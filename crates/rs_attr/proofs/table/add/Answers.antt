@@ -10,8 +10,7 @@ use Rattle.rs_interval.specs.Finding.{event_form}
 use Rattle.rs_tree.specs.Cells.{with_cell}
 use Rattle.rs_page_owners.proofs.Working.{CountsNothing-refl, Works-refl}
 use Rattle.rs_page_owners.proofs.Following.{works_err}
-use Rattle.rs_versioned.specs.EventCalls.{event_of}
-use Rattle.rs_versioned.specs.Events.{Event, SaysEvent, event_width}
+use Rattle.rs_versioned.specs.Events.{Event, SaysEvent, event_of, event_width}
 use Rattle.rs_versioned.specs.Records.{HasOneMore}
 use Rattle.rs_versioned.specs.Tables.{EventTableState}
 use Rattle.rs_versioned.proofs.EventCells.{event_wide}

@@ -10,8 +10,7 @@ use Rattle.rs_file_changes.proofs.Ready.{same_kept}
 use Rattle.rs_page_owners.proofs.Following.{works_err}
 use Rattle.rs_page_owners.proofs.Working.{CountsNothing-refl, Works-refl}
 use Rattle.rs_versioned.specs.Records.{HasOneMore}
-use Rattle.rs_versioned.specs.ReferentCalls.{record_of}
-use Rattle.rs_versioned.specs.Referents.{referent_form}
+use Rattle.rs_versioned.specs.Referents.{record_of, referent_form}
 use Rattle.rs_file_changes.proofs.referents.put_referent.Goals as goal
 
 pub returns-in_err-add-clause-leaves : goal.returns-in_err-add-clause-leaves
