@@ -3,13 +3,13 @@
 //! Changes are made together or not at all: `commit` keeps them, `abandon` takes them back, and neither takes memory. The
 //! pages are to be committed or abandoned with them.
 
-ghost use Rattle.std.specs.Prelude.{◌≡◌, ◌≢◌, ◌<◌, ◌+◌, ◌^◌, ℕ, [], IsTrue, IfOk, OnOk, length, true, Err};
+ghost use Rattle.std.specs.Prelude.{◌≡◌, ◌≢◌, ◌<◌, ◌≤◌, ◌+◌, ◌^◌, ℕ, [], IsTrue, IfOk, OnOk, length, true, Err};
 ghost use Rattle.std.specs.List.{AllByRecursion};
 ghost use Rattle.rs_page_owners.specs.Counts.{no_pages};
 ghost use Rattle.rs_pages.specs.Calls.{OnlyReads};
 ghost use Rattle.rs_pages.specs.PageMap.{PageMap};
 ghost use Rattle.rs_records.specs.Listed.{record_width};
-ghost use Rattle.rs_cell_versions.specs.Version.{HaveDiedBy, is_living};
+ghost use Rattle.rs_cell_versions.specs.Version.{HaveDiedBy, born_of, is_living};
 ghost use Rattle.rs_cell_versions.specs.Versioned.{nothing_stands};
 ghost use Rattle.rs_cell_versions.specs.declared.cell.TheConstants.{LIVING};
 ghost use Rattle.rs_versioned.specs.Calls.{TakesFirst};
@@ -115,7 +115,7 @@ impl ReferentTable {
     }
 
     /// Ends a living referent at a version, and answers whether it was there: versions before this one see it as they did, and
-    /// no other does. A referent that no version saw before this one is taken out. It is refused with 90, with 91, with 92
+    /// no other does. A referent that no version saw before this one is taken out; at version 0 any is. It is refused with 90, with 91, with 92
     /// where the file is full, and with 94 only where no such records lie there with pages of their own; after a refusal the table
     /// is as it was, and the working pages are to be abandoned.
     pub fn kill<P: Pages>(
@@ -128,11 +128,12 @@ impl ReferentTable {
         requires width { length cell.now ≡ referent_width }
         requires living { IsTrue (is_living cell.now) }
         requires version { version < LIVING }
-        requires order { HaveDiedBy version self.old.working.dead }
+        requires order { born_of cell.now < version → HaveDiedBy version self.old.working.dead }
         ensures leaves { Leaves P.Pages self.old result pages.old pages.new }
         ensures kills { Kills P.Pages self.old self.new version cell.now result pages.old pages.new }
         ensures table { KeepsTable result self.old self.new }
-        ensures order { HaveDiedBy version self.new.working.dead }
+        ensures order { (last : ℕ) → version ≤ last → HaveDiedBy last self.old.working.dead → HaveDiedBy last self.new.working.dead }
+        ensures more { length self.old.working.dead ≤ length self.new.working.dead }
     {
         self.versions.kill(pages, version, cell)
     }

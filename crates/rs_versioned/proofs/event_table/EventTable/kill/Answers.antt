@@ -1,9 +1,12 @@
 -- The event of the cell ends as the cell does.
+use Rattle.std.proofs.Common.{sym, subst}
 use Rattle.std.proofs.lemmas.Result.{IfOk-weaker}
 use Rattle.rs_interval.specs.Finding.{event_form}
 use Rattle.rs_cell_versions.specs.Calls as cells
 use Rattle.rs_cell_versions.specs.Changes.{Ends}
+use Rattle.rs_cell_versions.specs.Version.{HaveDiedBy}
 use Rattle.rs_versioned.specs.Calls.{IsEnded}
+use Rattle.rs_versioned.specs.Tables.{EventTableState}
 use Rattle.rs_versioned.specs.Events.{kept_events}
 use Rattle.rs_versioned.proofs.Changing.{is_ended}
 use Rattle.rs_versioned.proofs.InTables.{in_table}
@@ -25,3 +28,7 @@ returns-clause-kills g c = λ tied.
     (in_table (λ width working. Ends (event_form width) old new working is version cell) d.versions.width d.schema.items d.versions.working d.versions.committed table c.self.invariant c.self.view_is ended.ends)
     (in_table (λ width working. cells.TellsOf (event_form width) old working cell found) d.versions.width d.schema.items d.versions.working d.versions.committed table c.self.invariant c.self.view_is ended.tells))
     (c.kill.ensures.kills tied)
+
+pub returns-clause-order : goal.returns-clause-order
+returns-clause-order g c = λ last later before.
+    c.kill.ensures.order last later (subst (λ (table : EventTableState). HaveDiedBy last table.working.dead) (sym c.self.view_is) before)

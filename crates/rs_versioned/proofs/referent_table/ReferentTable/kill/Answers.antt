@@ -1,10 +1,13 @@
 -- The referent of the cell ends as the cell does.
+use Rattle.std.proofs.Common.{sym, subst}
 use Rattle.std.proofs.lemmas.Result.{IfOk-weaker}
 use Rattle.rs_page_owners.specs.Changes.{WorksAfter}
 use Rattle.rs_cell_versions.specs.Calls as cells
 use Rattle.rs_cell_versions.specs.Changes.{Ends}
 use Rattle.rs_cell_versions.specs.Versioned.{HoldsNone}
+use Rattle.rs_cell_versions.specs.Version.{HaveDiedBy}
 use Rattle.rs_versioned.specs.Calls.{IsEnded}
+use Rattle.rs_versioned.specs.Tables.{ReferentTableState}
 use Rattle.rs_versioned.specs.Referents.{kept_referents}
 use Rattle.rs_versioned.proofs.Changing.{is_ended}
 use Rattle.rs_versioned.proofs.InTables.{in_referents, plain_form}
@@ -36,3 +39,7 @@ returns-clause-kills g c = λ tied.
     (in_referents (λ width working. Ends (plain_form width) old new working is version cell) d.versions.width d.versions.working d.versions.committed table c.self.invariant c.self.view_is ended.ends)
     (in_referents (λ width working. cells.TellsOf (plain_form width) old working cell found) d.versions.width d.versions.working d.versions.committed table c.self.invariant c.self.view_is ended.tells))
     (c.kill.ensures.kills tied)
+
+pub returns-clause-order : goal.returns-clause-order
+returns-clause-order g c = λ last later before.
+    c.kill.ensures.order last later (subst (λ (table : ReferentTableState). HaveDiedBy last table.working.dead) (sym c.self.view_is) before)
