@@ -138,10 +138,10 @@ module _ (types : List ColumnType) (version : ℕ) (below : version < LIVING) wh
   -- Where those that pass a test end or are taken out, they have ended, and are cleared where they were taken out.
   module _ (route accepted : ℕ) (before : accepted < version) (events now : List Event) (dated : AllByRecursion (IsDatedRecord (kept_events types) accepted) events) (apart : AreApart events)
       (q : Event → Bool) (lives : AllByRecursion (λ (one : Event). one.died ≡ LIVING) (filter q events)) (cells : List (List ℕ)) (say : AllZip (SaysEvent types) cells (filter q events)) (spans : List Stretch) where
-    gone : List Event
+    abbrev gone : List Event
     gone = filter q events
 
-    rest : List Event
+    abbrev rest : List Event
     rest = filter (λ one. not (q one)) events
 
     none_yet : (some : List Event) → AllByRecursion (NoneIs []) some
