@@ -38,10 +38,11 @@ pub record IsAdded (old new : PageMap) (was is : EventTableState) (were are : Li
   pub tells : TellsNew (kept_events was.types) old was.working event is_new
   pub rests : is_new ≡ false → SamePages new old × (is ≡ was) × (are ≡ were)
 
--- the event of the cell has ended at the version, and it is told whether it was there
+-- the event of the cell has ended at the version, whichever versions from there on are accepted first and last, and it is told whether it
+-- was there
 pub record IsEnded (old new : PageMap) (was is : EventTableState) (were are : List IndexState) (version : ℕ) (cell : List ℕ) (found : Bool) : Type 0 where
-  pub changes : (accepted : ℕ) (event : Event) → accepted ≤ version → SaysEvent was.types cell event
-      → ChangesTable was.types old new was.working is.working were are accepted version (HasEnded (kept_events was.types) version event)
+  pub changes : (accepted last : ℕ) (event : Event) → accepted ≤ last → version ≤ last → SaysEvent was.types cell event
+      → ChangesTable was.types old new was.working is.working were are accepted last (HasEnded (kept_events was.types) version event)
   pub tells : (event : Event) → SaysEvent was.types cell event → TellsOf (kept_events was.types) old was.working event found
 
 -- the events of the cells that were taken are gone, and no version from the oldest on saw one of them. They are all such

@@ -12,7 +12,7 @@ ghost use Rattle.rs_value.specs.Values.{IsRowOf};
 ghost use Rattle.rs_value.specs.View.{row_of};
 ghost use Rattle.rs_versioned.specs.Calls.{TakesFirst};
 ghost use Rattle.rs_versioned.specs.Events.{event_of, event_width};
-ghost use Rattle.rs_cell_versions.specs.Version.{HaveDiedBy, ended, is_living};
+ghost use Rattle.rs_cell_versions.specs.Version.{HaveDiedBy, born_of, ended, is_living};
 ghost use Rattle.rs_cell_versions.specs.declared.cell.TheConstants.{LIVING};
 
 use crate::attr_index::{AttrIndex, Change};
@@ -57,8 +57,8 @@ pub fn add<P: Pages>(
 }
 
 /// Ends a living event at a version, in the table and its indexes, and answers whether it was there: versions before this one
-/// see it as they did, and no other does. An event that no version saw before this one is taken out. It is refused as `add`
-/// is; the table, its indexes and the working pages are to be abandoned then.
+/// see it as they did, and no other does. An event that no version saw before this one is taken out; at version 0 any is. It is
+/// refused as `add` is; the table, its indexes and the working pages are to be abandoned then.
 pub fn kill<P: Pages>(
     alloc: Global,
     pages: &mut P,
@@ -71,12 +71,13 @@ pub fn kill<P: Pages>(
     requires width { length cell.now ≡ event_width table.old.types }
     requires living { IsTrue (is_living cell.now) }
     requires version { version < LIVING }
-    requires order { HaveDiedBy version table.old.working.dead }
+    requires order { born_of cell.now < version → HaveDiedBy version table.old.working.dead }
     requires indexes { AreOn table.old.types indexes.old }
     ensures leaves { Leaves P.Pages table.old indexes.old result pages.old pages.new }
     ensures kills { Kills P.Pages table.old indexes.old table.new indexes.new version cell.now result pages.old pages.new }
     ensures table { KeepsTable table.old table.new indexes.old indexes.new }
-    ensures order { HaveDiedBy version table.new.working.dead }
+    ensures order { (last : ℕ) → version ≤ last → HaveDiedBy last table.old.working.dead → HaveDiedBy last table.new.working.dead }
+    ensures more { length table.old.working.dead ≤ length table.new.working.dead }
 {
     let found = table.kill(pages, version, cell)?;
     if found && !indexes.is_empty() {

@@ -70,14 +70,14 @@ module _ (P : List ℕ → Type 0) where
   all_cleared [] cells all = all
   all_cleared (g ∷ gs) cells all = all_cleared gs (without_cell g cells) (all_without g cells all)
 
-pub dated_ended : (version : ℕ) (cell : List ℕ) (cells : List (List ℕ)) → version < 2 ^ 64 - 1 → 20 ≤ length cell → AllByRecursion (IsDated version) cells
-    → AllByRecursion (IsDated version) (with_end version cell cells)
-dated_ended version cell cells before long all = elim (cases_lt (born_of cell) version) [
+pub dated_ended : (last version : ℕ) (cell : List ℕ) (cells : List (List ℕ)) → version ≤ last → version < 2 ^ 64 - 1 → 20 ≤ length cell → AllByRecursion (IsDated last) cells
+    → AllByRecursion (IsDated last) (with_end version cell cells)
+dated_ended last version cell cells upto before long all = elim (cases_lt (born_of cell) version) [
   | inl early ↦
       let born = born-ended version cell long in
       let died = died-ended version cell (omega (arith, before)) in
-      let last : IsDated version (ended version cell) = (omega (arith, born, early), inr (omega (arith, born, died, early), omega (arith, died))) in
-      subst (AllByRecursion (IsDated version)) (sym (ended_late version cell cells early))
-      (all_with (IsDated version) (ended version cell) (without_cell cell cells) last (all_without (IsDated version) cell cells all))
-  | inr late ↦ subst (AllByRecursion (IsDated version)) (sym (ended_early version cell cells late)) (all_without (IsDated version) cell cells all)
+      let dated : IsDated last (ended version cell) = (omega (arith, born, early, upto), inr (omega (arith, born, died, early), omega (arith, died, upto))) in
+      subst (AllByRecursion (IsDated last)) (sym (ended_late version cell cells early))
+      (all_with (IsDated last) (ended version cell) (without_cell cell cells) dated (all_without (IsDated last) cell cells all))
+  | inr late ↦ subst (AllByRecursion (IsDated last)) (sym (ended_early version cell cells late)) (all_without (IsDated last) cell cells all)
 ]

@@ -12,7 +12,7 @@ ghost use Rattle.rs_tree.specs.Calls.{IsNotShared};
 ghost use Rattle.rs_tree.specs.Tree.{IsTree};
 ghost use Rattle.rs_tree.specs.Forms.{form};
 ghost use Rattle.rs_cell_versions.specs.Inner.{Adds, EndsOne, FitsPages, HoldsNoneFirst, TakesOut};
-ghost use Rattle.rs_cell_versions.specs.Version.{ended, is_living};
+ghost use Rattle.rs_cell_versions.specs.Version.{born_of, ended, is_living};
 
 use crate::cell::{LIVING, born_of};
 use rs_btree::Tree;
@@ -100,6 +100,7 @@ pub(crate) fn end<P: Pages, S: Summary>(
     ensures found { P.is_tied pages.old → IfOk result (λ answer. (cells : List (List ℕ)) (used others : ℕ → ℕ)
         → IsTree (form S.Summary tree.old.width) (P.store pages.old).map tree.old.root cells used
         → Shares (P.store pages.old).map (used & others) → (IsTrue answer.found ↔ Contains cells cell.now)) }
+    ensures late { IfOk result (λ answer. answer.listed ≡ true → born_of cell.now < version) }
     ensures width { tree.new.width ≡ tree.old.width }
 {
     let found = tree.remove(pages, cell)?;

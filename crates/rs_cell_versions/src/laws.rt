@@ -81,12 +81,12 @@ pub fn dead_cells_are_clearable_at_present<S: Summary>()
         → AllByRecursion (IsDated version) cells → count_by (is_clearable version) cells ≡ length standing.dead }
 {}
 
-/// Cells stay dated with one more that is dated, after an end at the version that was accepted last, and with fewer.
+/// Cells stay dated with one more that is dated, after an end at the version that was accepted last or before it, and with fewer.
 pub fn changed_cells_are_dated()
     ensures added { (version : ℕ) (cell : List ℕ) (cells : List (List ℕ)) → IsDated version cell
         → AllByRecursion (IsDated version) cells → AllByRecursion (IsDated version) (with_cell cell cells) }
-    ensures ended { (version : ℕ) (cell : List ℕ) (cells : List (List ℕ)) → version < LIVING → 20 ≤ length cell
-        → AllByRecursion (IsDated version) cells → AllByRecursion (IsDated version) (with_end version cell cells) }
+    ensures ended { (last version : ℕ) (cell : List ℕ) (cells : List (List ℕ)) → version ≤ last → version < LIVING → 20 ≤ length cell
+        → AllByRecursion (IsDated last) cells → AllByRecursion (IsDated last) (with_end version cell cells) }
     ensures cleared { (version : ℕ) (gone cells : List (List ℕ)) → AllByRecursion (IsDated version) cells
         → AllByRecursion (IsDated version) (without_cells gone cells) }
 {}

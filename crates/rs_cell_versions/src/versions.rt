@@ -3,13 +3,13 @@
 //! Changes are made together or not at all: `commit` keeps them, `abandon` takes them back, and neither takes memory. The
 //! pages are to be committed or abandoned with them.
 
-ghost use Rattle.std.specs.Prelude.{◌≡◌, ◌≢◌, ◌<◌, ◌≤◌, ◌*◌, ◌+◌, [], IsTrue, IfOk, OnOk, true, length, Err};
+ghost use Rattle.std.specs.Prelude.{◌≡◌, ◌≢◌, ◌<◌, ◌≤◌, ◌*◌, ◌+◌, ℕ, [], IsTrue, IfOk, OnOk, true, length, Err};
 ghost use Rattle.rs_page_owners.specs.Counts.{no_pages};
 ghost use Rattle.rs_pages.specs.PageMap.{PageMap};
 ghost use Rattle.rs_tree.specs.Forms.{form};
 ghost use Rattle.rs_cell_versions.specs.Calls.{Adds, Clears, KeepsCells, Kills, Leaves, TakesFirst, Vacuums};
 ghost use Rattle.rs_cell_versions.specs.Inner.{FitsPages, standing};
-ghost use Rattle.rs_cell_versions.specs.Version.{HaveDiedBy, is_living};
+ghost use Rattle.rs_cell_versions.specs.Version.{HaveDiedBy, born_of, is_living};
 ghost use Rattle.rs_cell_versions.specs.declared.cell.TheConstants.{LIVING};
 ghost use Rattle.rs_cell_versions.specs.Versioned.{HoldsCells, Versioned, nothing_stands};
 
@@ -141,8 +141,8 @@ impl<S: Summary> Versions<S> {
 
     /// Ends a living cell at a version, and answers whether it was there: versions before this one see it as they did, and
     /// no other does. A cell that no version saw before this one is taken out: where `version <= born_of(cell)`, the caller
-    /// knows that it was taken out, and otherwise that it was ended. It is refused as `add` is; after a refusal the cells are as
-    /// they were, and the working pages are to be abandoned.
+    /// knows that it was taken out, and otherwise that it was ended. At version 0 any cell is taken out. It is refused as `add` is;
+    /// after a refusal the cells are as they were, and the working pages are to be abandoned.
     pub fn kill<P: Pages>(
         &mut self,
         pages: &mut P,
@@ -153,11 +153,12 @@ impl<S: Summary> Versions<S> {
         requires width { length cell.now ≡ self.old.width }
         requires living { IsTrue (is_living cell.now) }
         requires version { version < LIVING }
-        requires order { HaveDiedBy version self.old.working.dead }
+        requires order { born_of cell.now < version → HaveDiedBy version self.old.working.dead }
         ensures leaves { Leaves P.Pages S.Summary self.old result pages.old pages.new }
         ensures kills { Kills P.Pages S.Summary self.old self.new version cell.now result pages.old pages.new }
         ensures cells { KeepsCells result self.old self.new }
-        ensures order { HaveDiedBy version self.new.working.dead }
+        ensures order { (last : ℕ) → version ≤ last → HaveDiedBy last self.old.working.dead → HaveDiedBy last self.new.working.dead }
+        ensures more { length self.old.working.dead ≤ length self.new.working.dead }
     {
         self.dead
             .write(cell, version)

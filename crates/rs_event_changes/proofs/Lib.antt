@@ -5,6 +5,7 @@ mod GiveWay
 mod Inserted
 mod Inserting
 mod LeftSpans
+mod Moments
 mod Outside
 mod PickLaws
 mod Removed
@@ -13,6 +14,7 @@ mod Seeing
 mod Shown
 mod StillSeen
 mod Tables
+mod Taken
 mod WideSpans
 pub mod Cancelling
 pub mod Turning

@@ -1,5 +1,5 @@
 -- Removal from a table in pages.
-use Rattle.std.proofs.Common.{◌≡◌, ◌<◌, ◌≤◌, ◌∙◌, ℕ, List, map, filter, ap, subst, arith}
+use Rattle.std.proofs.Common.{◌≡◌, ◌<◌, ◌≤◌, ◌∙◌, ℕ, List, map, filter, min, ap, subst, arith}
 use Rattle.std.specs.List.{AllByRecursion, AllZip}
 use Rattle.std.specs.Prelude.{Option}
 use Rattle.std.proofs.lemmas.List.Sorted.{IsPermutation-refl}
@@ -21,14 +21,15 @@ use Rattle.rs_versioned.specs.Records.{HoldsRecords}
 use Rattle.rs_versioned.proofs.KeptRecords.{events_are_kept}
 use Rattle.rs_versioned.proofs.Present.{IsDatedRecord, held_dated}
 use Rattle.rs_versioned.proofs.RunsByVersion.{spans_level}
-use Rattle.rs_event_changes.specs.Chains.{GivesWay}
-use Rattle.rs_event_changes.specs.Changes.{Removes}
+use Rattle.rs_event_changes.specs.Chains.{GivesWay, GivesWayAt}
+use Rattle.rs_event_changes.specs.Changes.{Removes, ThenCleared}
 use Rattle.rs_event_changes.specs.Inner.{HasThese}
 use Rattle.rs_event_changes.specs.Picked.{Takes, outside_all, shared_by}
 use Rattle.rs_event_changes.specs.Seen.{GivenWayIsSeen}
 use Rattle.rs_event_changes.proofs.Finding.{Finds, has_passing, live_gone}
 use Rattle.rs_event_changes.proofs.Removing.{gone_are, is_one_gone, nothing_removed, one_gone_on, removed}
 use Rattle.rs_event_changes.proofs.Tables.{same_shares, same_table}
+use Rattle.rs_event_changes.proofs.Taken.{EndsSo, cleared_as, gave_way, none_cleared}
 use Rattle.rs_event_changes.proofs.Turning.{events_apart, none_turned, turned}
 
 module _ (types : List ColumnType) (version route : ℕ) (below : version < LIVING) (lo hi : ℕ) (goes : Option Condition) (old : PageMap) (was : Standing) where
@@ -40,8 +41,8 @@ module _ (types : List ColumnType) (version route : ℕ) (below : version < LIVI
 
   -- ---- where there is nothing between the ends, nothing changes
 
-  pub none_removed : (were : List IndexState) → hi ≤ lo → (accepted : ℕ) → accepted < version → ChangesTable types old old was was were were accepted version (Removes accepted version route lo hi goes 0)
-  none_removed were empty accepted before = record {
+  pub none_removed : (oldest : ℕ) (were : List IndexState) → hi ≤ lo → (accepted : ℕ) → accepted < version → ChangesTable types old old was was were were accepted version (ThenCleared (min oldest version) types (Removes accepted version route lo hi goes 0))
+  none_removed oldest were empty accepted before = record {
     each = λ events used uses others holds shares.
         let here = nothing_removed types version route below accepted before events events (dated accepted events used holds.records) (level accepted events used before holds.records) lo hi (goes_by goes) empty in
         record {
@@ -50,13 +51,13 @@ module _ (types : List ColumnType) (version route : ℕ) (below : version < LIVI
           afters = uses;
           holds = later_table types old was were accepted version events used uses (omega (arith, before)) holds;
           moves = same_pages-moves old old (used & all_of uses) (SamePages-refl old);
-          changed = record {
+          changed = none_cleared (min oldest version) types (Removes accepted version route lo hi goes 0) events events (record {
             changes = λ kind. record { live = λ oldest first runs. record { each = λ at low high. IsPermutation-refl _ }; elsewhere = here.elsewhere; turns = none_turned version events };
             facts = here.facts;
             runs = here.runs;
             within = here.within;
             counted = here.counted;
-          };
+          });
         };
   }
 
@@ -76,9 +77,13 @@ module _ (types : List ColumnType) (version route : ℕ) (below : version < LIVI
         (say_going accepted events used holds)
 
     module _ (some : lo < hi) (mid new : PageMap) (same : SamePages mid old) (is : Standing) (were are : List IndexState) (law : GivenWayIsSeen)
-        (made : (gs : List Event) → AllZip (SaysEvent types) gone gs → ChangesTable types mid new was is were are version version (GivesWay types version route gs come)) where
+        (oldest at : ℕ) (ends_so : EndsSo at version oldest) (made : (gs : List Event) → AllZip (SaysEvent types) gone gs → ChangesTable types mid new was is were are version version (GivesWayAt types at version route gs come)) where
+      -- so they have changed, and what was taken out was cleared
+      abbrev Becomes : ℕ → List Event → List Event → Type 0
+      Becomes accepted = ThenCleared (min oldest version) types (Removes accepted version route lo hi goes count)
+
       becomes : (accepted : ℕ) → accepted < version → (events : List Event) (used : ℕ → ℕ) (uses : List (ℕ → ℕ)) (others : ℕ → ℕ) → HoldsTable types old was were accepted events used uses
-          → Shares old (used & all_of uses & others) → BecomesTable types old new (used & all_of uses) is are version (Removes accepted version route lo hi goes count events)
+          → Shares old (used & all_of uses & others) → BecomesTable types old new (used & all_of uses) is are version (Becomes accepted events)
       becomes accepted before events used uses others holds shares =
           let these = filter (is_one_gone version route lo hi (goes_by goes)) events in
           let visible = filter (is_visible version route lo hi) events in
@@ -88,25 +93,31 @@ module _ (types : List ColumnType) (version route : ℕ) (below : version < LIVI
           (same_shares types old mid same was were (used & all_of uses) others shares) in
           let left : come ≡ outside_all lo hi (map span_of these) = takes.is visible seen_now ∙ ap (λ l. outside_all lo hi (map span_of l)) (gone_are version route lo hi (goes_by goes) events) in
           let counted : count ≡ shared_by lo hi (map span_of these) = takes.counted visible seen_now ∙ ap (λ l. shared_by lo hi (map span_of l)) (gone_are version route lo hi (goes_by goes) events) in
-          let way = subst (λ l. GivesWay types version route these l events step.events) left step.changed in
-          let here = removed types version route below accepted before events step.events (dated accepted events used holds.records) (level accepted events used before holds.records) lo hi (goes_by goes) some way count counted in
           let live = live_gone types version route accepted (omega (arith, before)) events (dated accepted events used holds.records) (is_one_gone version route lo hi (goes_by goes)) (one_gone_on version route lo hi (goes_by goes)) in
           let apart = events_apart types holds.records.cells events holds.records.holds.tree.ascends holds.records.say in
-          let turns = turned types version below route accepted before events step.events (dated accepted events used holds.records) apart (is_one_gone version route lo hi (goes_by goes)) live come step.changed in
+          let went = gave_way types version below route accepted before events step.events (dated accepted events used holds.records) apart (is_one_gone version route lo hi (goes_by goes)) live
+          gone (say_going accepted events used holds.records) come oldest at ends_so step.changed in
           record {
             events = step.events;
             after = step.after;
             afters = step.afters;
             holds = step.holds;
             moves = moves_trans old mid new (used & all_of uses) (used & all_of uses) (step.after & all_of step.afters) (same_pages-moves old mid (used & all_of uses) same) step.moves;
-            changed = record {
-              changes = λ kind. record { live = λ oldest first runs. law types version route these come events step.events below live step.changed kind oldest accepted before runs; elsewhere = here.elsewhere; turns = turns };
-              facts = here.facts;
-              runs = here.runs;
-              within = here.within;
-              counted = here.counted;
-            };
+            changed = cleared_as (min oldest version) types (GivesWay types version route these come) (Removes accepted version route lo hi goes count) events step.events (λ between way.
+                let here = removed types version route below accepted before events between (dated accepted events used holds.records) (level accepted events used before holds.records) lo hi (goes_by goes) some
+                (subst (λ l. GivesWay types version route these l events between) left way) count counted in
+                record {
+                  changes = λ kind. record {
+                    live = λ first upto runs. law types version route these come events between below live way kind first accepted before runs;
+                    elsewhere = here.elsewhere;
+                    turns = turned types version below route accepted before events between (dated accepted events used holds.records) apart (is_one_gone version route lo hi (goes_by goes)) live come way;
+                  };
+                  facts = here.facts;
+                  runs = here.runs;
+                  within = here.within;
+                  counted = here.counted;
+                }) went;
           }
 
-      pub removed_in_pages : (accepted : ℕ) → accepted < version → ChangesTable types old new was is were are accepted version (Removes accepted version route lo hi goes count)
+      pub removed_in_pages : (accepted : ℕ) → accepted < version → ChangesTable types old new was is were are accepted version (Becomes accepted)
       removed_in_pages accepted before = record { each = λ events used uses others holds shares. becomes accepted before events used uses others holds shares }

@@ -118,19 +118,19 @@ module _ (types : List ColumnType) (old new : PageMap) (same : SamePages new old
 
 -- ---- events that end, cell by cell
 
-module _ (types : List ColumnType) (version : ℕ) (old mid new : PageMap) (was next is : Standing) (were nexts are : List IndexState) (cells : List (List ℕ)) (place : ℕ) (cell : List ℕ)
+module _ (types : List ColumnType) (version at : ℕ) (old mid new : PageMap) (was next is : Standing) (were nexts are : List IndexState) (cells : List (List ℕ)) (place : ℕ) (cell : List ℕ)
     (there : slice_get cells place ≡ Some cell)
-    (so : (gone : List Event) → AllZip (SaysEvent types) (take place cells) gone → ChangesTable types old mid was next were nexts version version (EndAll types version gone)) where
+    (so : (gone : List Event) → AllZip (SaysEvent types) (take place cells) gone → ChangesTable types old mid was next were nexts version version (EndAll types at gone)) where
   next_taken : take (place + 1) cells ≡ take place cells ++ cell ∷ []
   next_taken = let e : place + 1 ≡ suc place = omega arith in ap (λ n. take n cells) e ∙ take_next cells place cell there
 
-  pub ended_next : ((one : Event) → SaysEvent types cell one → ChangesTable types mid new next is nexts are version version (HasEnded (kept_events types) version one))
-      → (gone : List Event) → AllZip (SaysEvent types) (take (place + 1) cells) gone → ChangesTable types old new was is were are version version (EndAll types version gone)
+  pub ended_next : ((one : Event) → SaysEvent types cell one → ChangesTable types mid new next is nexts are version version (HasEnded (kept_events types) at one))
+      → (gone : List Event) → AllZip (SaysEvent types) (take (place + 1) cells) gone → ChangesTable types old new was is were are version version (EndAll types at gone)
   ended_next step gone say =
       let parts = ends_of (SaysEvent types) (take place cells) cell gone (subst (λ l. AllZip (SaysEvent types) l gone) next_taken say) in
-      subst (λ l. ChangesTable types old new was is were are version version (EndAll types version l)) (sym parts.is)
-      (changes_then types old mid new was next is were nexts are version version version (EndAll types version parts.front) (HasEnded (kept_events types) version parts.last)
-      (EndAll types version (parts.front ++ parts.last ∷ [])) (λ a b c first last. end_next types version parts.front parts.last a b c first last) (so parts.front parts.say) (step parts.last parts.says))
+      subst (λ l. ChangesTable types old new was is were are version version (EndAll types at l)) (sym parts.is)
+      (changes_then types old mid new was next is were nexts are version version version (EndAll types at parts.front) (HasEnded (kept_events types) at parts.last)
+      (EndAll types at (parts.front ++ parts.last ∷ [])) (λ a b c first last. end_next types at parts.front parts.last a b c first last) (so parts.front parts.say) (step parts.last parts.says))
 
   -- where the next one can't end, no such table was there
   pub none_with : HoldsNoTableWith version (cell ∷ []) types mid next nexts → HoldsNoTableWith version cells types old was were
@@ -138,7 +138,7 @@ module _ (types : List ColumnType) (version : ℕ) (old mid new : PageMap) (was 
     none = λ accepted events used uses others upto holds shares these.
         let parts = parts_of (SaysEvent types) cells place cell these.these there these.say in
         let a = (so parts.front parts.say).each events used uses others (later_table types old was were accepted version events used uses upto holds) shares in
-        let left = all_ended types version parts.front (parts.one ∷ (parts.back ++ these.others)) events a.events a.changed
+        let left = all_ended types at parts.front (parts.one ∷ (parts.back ++ these.others)) events a.events a.changed
         (subst (IsPermutation events) (ap (λ l. l ++ these.others) parts.is ∙ append_assoc parts.front (parts.one ∷ parts.back) these.others) these.are) in
         none.none version a.events a.after a.afters others (omega arith) a.holds (a.moves.beside others shares).shares (record {
           these = parts.one ∷ [];
@@ -150,10 +150,10 @@ module _ (types : List ColumnType) (version : ℕ) (old mid new : PageMap) (was 
   }
 
 -- none of the cells yet, and all of them
-pub ended_none : (types : List ColumnType) (version : ℕ) (old : PageMap) (was : Standing) (were : List IndexState) (gone : List Event) → AllZip (SaysEvent types) [] gone
-    → (same : SamePages old old) → ChangesTable types old old was was were were version version (EndAll types version gone)
-ended_none types version old was were [] say same = changes_none types old old same was were version
-ended_none types version old was were (e ∷ gone) say same = absurd say
+pub ended_none : (types : List ColumnType) (version at : ℕ) (old : PageMap) (was : Standing) (were : List IndexState) (gone : List Event) → AllZip (SaysEvent types) [] gone
+    → (same : SamePages old old) → ChangesTable types old old was was were were version version (EndAll types at gone)
+ended_none types version at old was were [] say same = changes_none types old old same was were version
+ended_none types version at old was were (e ∷ gone) say same = absurd say
 
 pub no_table_with : (version : ℕ) (cells : List (List ℕ)) (types : List ColumnType) (pages : PageMap) (standing : Standing) (indexes : List IndexState)
     → HoldsNoTable types pages standing indexes → HoldsNoTableWith version cells types pages standing indexes
@@ -175,10 +175,10 @@ module _ (types : List ColumnType) (version : ℕ) (old mid : PageMap) (was next
   }
 
 -- where nothing can come after the events of the cells have ended, no such table was there
-pub none_made : (types : List ColumnType) (version : ℕ) (cells : List (List ℕ)) (old mid : PageMap) (was next : Standing) (were nexts : List IndexState)
-    → ((gone : List Event) → AllZip (SaysEvent types) cells gone → ChangesTable types old mid was next were nexts version version (EndAll types version gone))
+pub none_made : (types : List ColumnType) (version at : ℕ) (cells : List (List ℕ)) (old mid : PageMap) (was next : Standing) (were nexts : List IndexState)
+    → ((gone : List Event) → AllZip (SaysEvent types) cells gone → ChangesTable types old mid was next were nexts version version (EndAll types at gone))
     → HoldsNoTableBy version types mid next nexts → HoldsNoTableWith version cells types old was were
-none_made types version cells old mid was next were nexts so none = record {
+none_made types version at cells old mid was next were nexts so none = record {
   none = λ accepted events used uses others upto holds shares these.
       let a = (so these.these these.say).each events used uses others (later_table types old was were accepted version events used uses upto holds) shares in
       none.none version a.events a.after a.afters others (omega arith) a.holds (a.moves.beside others shares).shares;

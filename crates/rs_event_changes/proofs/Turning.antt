@@ -55,7 +55,7 @@ module _ {R : Type 0} (kept : Kept R) (laws : IsKept kept) where
 pub events_apart : (types : List ColumnType) (cells : List (List ℕ)) (events : List Event) → Ascends cells → AllZip (SaysEvent types) cells events → AreApart events
 events_apart types = records_apart (kept_events types) (events_are_kept types)
 
-apart_kept : (q : Event → Bool) (events : List Event) → AreApart events → AreApart (filter q events)
+pub apart_kept : (q : Event → Bool) (events : List Event) → AreApart events → AreApart (filter q events)
 apart_kept q [] apart = tt
 apart_kept q (x ∷ xs) apart = by (q x) (all_kept (λ other. x ≢ other) (λ other. x ≢ other) q (λ one is passes. is) xs apart.0) (apart_kept q xs apart.1) where
   by : (b : Bool) → AllByRecursion (λ other. x ≢ other) (filter q xs) → AreApart (filter q xs) → AreApart (cond b (x ∷ filter q xs) (filter q xs))
@@ -66,14 +66,14 @@ first_or_later : (one other : Event) (events : List Event) → Contains (one ∷
 first_or_later one other events (zero, inside, is) = inl is
 first_or_later one other events (suc k, inside, is) = inr (k, omega arith, is)
 
-none_of : (one : Event) (events : List Event) → AllByRecursion (λ other. other ≢ one) events → Contains events one → ⊥
+pub none_of : (one : Event) (events : List Event) → AllByRecursion (λ other. other ≢ one) events → Contains events one → ⊥
 none_of one [] all has = omega (arith, has.1)
 none_of one (x ∷ xs) all has = elim (first_or_later x one xs has) [
   | inl same ↦ all.0 same
   | inr later ↦ none_of one xs all.1 later
 ]
 
-all_of_both : (P : Event → Type 0) (xs ys : List Event) → AllByRecursion P xs → AllByRecursion P ys → AllByRecursion P (xs ++ ys)
+pub all_of_both : (P : Event → Type 0) (xs ys : List Event) → AllByRecursion P xs → AllByRecursion P ys → AllByRecursion P (xs ++ ys)
 all_of_both P [] ys some more = more
 all_of_both P (x ∷ xs) ys some more = (some.0, all_of_both P xs ys some.1 more)
 
@@ -83,7 +83,7 @@ all_of_both P (x ∷ xs) ys some more = (some.0, all_of_both P xs ys some.1 more
 lived_before : (one : Event) → one.died ≡ LIVING → ended_event LIVING one ≡ one
 lived_before one lives = subst (λ n. ended_event n one ≡ one) lives refl
 
-same_before : (version : ℕ) (one other : Event) → one.died ≡ LIVING → other.died ≡ LIVING → ended_event version one ≡ ended_event version other → one ≡ other
+pub same_before : (version : ℕ) (one other : Event) → one.died ≡ LIVING → other.died ≡ LIVING → ended_event version one ≡ ended_event version other → one ≡ other
 same_before version one other lives living same = sym (lived_before one lives) ∙ ap (ended_event LIVING) same ∙ lived_before other living
 
 module _ (types : List ColumnType) (version : ℕ) (below : version < LIVING) where

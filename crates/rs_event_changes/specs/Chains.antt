@@ -21,7 +21,11 @@ ComeAll route version [] old now = now ≡ old
 ComeAll route version (span ∷ come) old now = (next : List Event) × HasOneMore (living_event route version span) old next × ComeAll route version come next now
 
 -- the events have ended, and then the spans have come
-pub record GivesWay (types : List ColumnType) (version route : ℕ) (gone : List Event) (come : List Stretch) (old now : List Event) : Type 0 where
+pub record GivesWayAt (types : List ColumnType) (at version route : ℕ) (gone : List Event) (come : List Stretch) (old now : List Event) : Type 0 where
   pub between : List Event
-  pub ended : EndAll types version gone old between
+  pub ended : EndAll types at gone old between
   pub came : ComeAll route version come between now
+
+-- at the version from which on the spans are seen
+abbrev pub GivesWay : List ColumnType → ℕ → ℕ → List Event → List Stretch → List Event → List Event → Type 0
+GivesWay types version = GivesWayAt types version version

@@ -1,5 +1,5 @@
 -- What an insertion and a removal at a version make of the events of a table.
-use Rattle.std.specs.Prelude.{◌≡◌, ◌≢◌, ◌≤◌, ◌<◌, ℕ, IsPermutation, List, Option}
+use Rattle.std.specs.Prelude.{◌≡◌, ◌≢◌, ◌≤◌, ◌<◌, ℕ, IsPermutation, List, Option, min}
 use Rattle.rs_attr.specs.Tables.{ChangesTable}
 use Rattle.rs_contents.specs.declared.opened.OpenedTable.{OpenedTable}
 use Rattle.rs_spans.specs.Removal.{goes_by}
@@ -10,10 +10,13 @@ use Rattle.rs_facts.specs.declared.condition.Condition.{Condition}
 use Rattle.rs_pages.specs.PageMap.{PageMap}
 use Rattle.rs_spans.specs.Within.{AllLieWithin}
 use Rattle.rs_standing.specs.Live.{KeepsEvents}
+use Rattle.rs_value.specs.declared.column.ColumnType.{ColumnType}
 use Rattle.rs_value.specs.declared.column.Kind.{Kind}
-use Rattle.rs_versioned.specs.Events.{Event, facts_at, spans_at}
+use Rattle.rs_versioned.specs.Events.{Event, facts_at, kept_events, spans_at}
+use Rattle.rs_versioned.specs.Records.{HasCleared}
 use Rattle.rs_versioned.specs.Runs.{AreRunsAt, AreRunsFrom}
 use Rattle.rs_event_changes.specs.Turns.{EventsTurn}
+use Rattle.rs_event_changes.specs.declared.moment.Moment.{Moment}
 
 -- A change of one route at a version: live versions are shown what they were, and this version what the accepted one was on each other
 -- route. Of all events, seen or not, some end at it, some are born at it, and the rest stay.
@@ -42,15 +45,22 @@ pub record Removes (accepted version route lo hi : ℕ) (goes : Option Condition
   pub within : (start finish : ℕ) → AllLieWithin start finish (spans_at accepted route old) → AllLieWithin start finish (spans_at version route now)
   pub counted : (kind : Kind) → AreRunsAt kind accepted route old → count ≡ going lo hi (goes_by goes) (facts_at accepted route old)
 
+-- Events have changed so, and then some are gone that no version from this one on sees.
+pub record ThenCleared (level : ℕ) (types : List ColumnType) (change : List Event → List Event → Type 0) (old now : List Event) : Type 0 where
+  pub between : List Event
+  pub changed : change old between
+  pub cells : List (List ℕ)
+  pub cleared : HasCleared (kept_events types) level cells between now
+
 module _ (old new : PageMap) (was is : OpenedTable) where
   -- so the table in the pages has changed, whichever version before this one was accepted last
   abbrev ChangesAt : ℕ → ℕ → (List Event → List Event → Type 0) → Type 0
   ChangesAt accepted version = ChangesTable was.records.types old new was.records.working is.records.working was.indexes.items is.indexes.items accepted version
 
-  abbrev pub Inserted : Kind → ℕ → ℕ → Stretch → ℕ → Type 0
-  Inserted kind version route span count = (accepted : ℕ) → accepted < version
-      → ChangesAt accepted version (Inserts kind accepted version route span count)
+  abbrev pub Inserted : Moment → Kind → ℕ → Stretch → ℕ → Type 0
+  Inserted moment kind route span count = (accepted : ℕ) → accepted < moment.version
+      → ChangesAt accepted moment.version (ThenCleared (min moment.oldest moment.version) was.records.types (Inserts kind accepted moment.version route span count))
 
-  abbrev pub Removed : ℕ → ℕ → ℕ → ℕ → Option Condition → ℕ → Type 0
-  Removed version route lo hi goes count = (accepted : ℕ) → accepted < version
-      → ChangesAt accepted version (Removes accepted version route lo hi goes count)
+  abbrev pub Removed : Moment → ℕ → ℕ → ℕ → Option Condition → ℕ → Type 0
+  Removed moment route lo hi goes count = (accepted : ℕ) → accepted < moment.version
+      → ChangesAt accepted moment.version (ThenCleared (min moment.oldest moment.version) was.records.types (Removes accepted moment.version route lo hi goes count))

@@ -15,7 +15,7 @@ use Rattle.rs_refusal.specs.declared.refusal.Refusal.{Refusal}
 use Rattle.rs_value.specs.declared.column.ColumnType.{ColumnType}
 use Rattle.rs_versioned.specs.Events.{Event, SaysEvent, kept_events}
 use Rattle.rs_versioned.specs.Records.{HasEnded}
-use Rattle.rs_event_changes.specs.Chains.{EndAll, GivesWay}
+use Rattle.rs_event_changes.specs.Chains.{EndAll, GivesWayAt}
 
 -- living events of these cells are among those of the table
 pub record HasThese (types : List ColumnType) (cells : List (List ℕ)) (events : List Event) : Type 0 where
@@ -40,15 +40,15 @@ module _ (old new : PageMap) (was is : OpenedTable) (version : ℕ) where
   abbrev pub ChangesNow : (List Event → List Event → Type 0) → Type 0
   ChangesNow = ChangesTable was.records.types old new was.records.working is.records.working was.indexes.items is.indexes.items version version
 
-  -- the event of the cell has ended
-  abbrev pub EndedOne : List ℕ → Type 0
-  EndedOne cell = (one : Event) → SaysEvent was.records.types cell one → ChangesNow (HasEnded (kept_events was.records.types) version one)
+  -- the event of the cell has ended at a version up to that one
+  abbrev pub EndedOne : ℕ → List ℕ → Type 0
+  EndedOne at cell = (one : Event) → SaysEvent was.records.types cell one → ChangesNow (HasEnded (kept_events was.records.types) at one)
 
-  -- the events of the cells have ended
-  abbrev pub Ended : List (List ℕ) → Type 0
-  Ended cells = (gone : List Event) → AllZip (SaysEvent was.records.types) cells gone → ChangesNow (EndAll was.records.types version gone)
+  -- the events of the cells have
+  abbrev pub Ended : ℕ → List (List ℕ) → Type 0
+  Ended at cells = (gone : List Event) → AllZip (SaysEvent was.records.types) cells gone → ChangesNow (EndAll was.records.types at gone)
 
   -- the events of the cells have ended, and the spans have come
-  abbrev pub Made : ℕ → List (List ℕ) → List Stretch → Type 0
-  Made route cells come = (gone : List Event) → AllZip (SaysEvent was.records.types) cells gone
-      → ChangesNow (GivesWay was.records.types version route gone come)
+  abbrev pub Made : ℕ → ℕ → List (List ℕ) → List Stretch → Type 0
+  Made at route cells come = (gone : List Event) → AllZip (SaysEvent was.records.types) cells gone
+      → ChangesNow (GivesWayAt was.records.types at version route gone come)

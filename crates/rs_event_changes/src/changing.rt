@@ -4,7 +4,7 @@ ghost use Rattle.std.specs.Prelude.{◌≡◌, ◌∷◌, [], OnOk, length, map,
 ghost use Rattle.std.specs.List.{AllByRecursion};
 ghost use Rattle.rs_attr.specs.Calls.{KeepsTable};
 ghost use Rattle.rs_attr.specs.Tables.{AreOn};
-ghost use Rattle.rs_event_changes.specs.Calls.{KeepsAt, Leaves, MayEdit};
+ghost use Rattle.rs_event_changes.specs.Calls.{KeepsAt, Leaves, MayEdit, end_at};
 ghost use Rattle.rs_event_changes.specs.Chains.{ComeAll};
 ghost use Rattle.rs_event_changes.specs.Inner.{ChangesNow, Ended, EndedOne, LeavesWith, Made};
 ghost use Rattle.rs_facts.specs.Spans.{seen};
@@ -13,6 +13,7 @@ ghost use Rattle.rs_value.specs.Values.{IsRowOf};
 ghost use Rattle.rs_versioned.specs.Events.{event_width};
 
 use crate::edit::Edit;
+use crate::moment::Moment;
 use rs_attr::{add, kill};
 use rs_cell_versions::is_living;
 use rs_contents::OpenedTable;
@@ -22,64 +23,64 @@ use rs_records::Cells;
 use rs_refusal::Refusal;
 use std::alloc::Global;
 
-/// Ends the events of an edit at the version, and puts its spans on the route from this version on. It is refused with 90, with 91,
+/// Ends the events of an edit, and puts its spans on the route from the version of the change on. It is refused with 90, with 91,
 /// with 92 where the file is full, and with 94 only where no such table lies there, or not with these events.
 pub(crate) fn make<P: Pages>(
     alloc: Global,
     pages: &mut P,
     table: &mut OpenedTable,
-    version: u64,
+    moment: Moment,
     route: u32,
     edit: &Edit,
 ) -> Result<(), Refusal>
-    requires may { MayEdit P.Pages table.old version pages.old }
+    requires may { MayEdit P.Pages table.old moment.version pages.old }
     requires width { record_width edit.now.gone ≡ event_width table.old.records.types }
     requires rows { AllByRecursion (λ span. IsRowOf table.old.records.types span.row) (map seen edit.now.come.items) }
-    ensures leaves { LeavesWith P.Pages table.old version (listed edit.now.gone) result pages.old pages.new }
-    ensures made { P.is_tied pages.old → OnOk result (Made (P.store pages.old).map (P.store pages.new).map table.old table.new version
-        route (listed edit.now.gone) (map seen edit.now.come.items)) }
-    ensures keeps { KeepsAt version table.old table.new }
+    ensures leaves { LeavesWith P.Pages table.old moment.version (listed edit.now.gone) result pages.old pages.new }
+    ensures made { P.is_tied pages.old → OnOk result (Made (P.store pages.old).map (P.store pages.new).map table.old table.new moment.version
+        (end_at moment) route (listed edit.now.gone) (map seen edit.now.come.items)) }
+    ensures keeps { KeepsAt moment.version table.old table.new }
 {
-    end_each(alloc, pages, table, version, &edit.gone)?;
-    add_each(alloc, pages, table, version, route, &edit.come)?;
+    end_each(alloc, pages, table, moment, &edit.gone)?;
+    add_each(alloc, pages, table, moment.version, route, &edit.come)?;
     Ok(())
 }
 
-/// Ends the events of the cells at the version. It is refused as `make` is.
+/// Ends the events of the cells. It is refused as `make` is.
 fn end_each<P: Pages>(
     alloc: Global,
     pages: &mut P,
     table: &mut OpenedTable,
-    version: u64,
+    moment: Moment,
     cells: &Cells,
 ) -> Result<(), Refusal>
-    requires may { MayEdit P.Pages table.old version pages.old }
+    requires may { MayEdit P.Pages table.old moment.version pages.old }
     requires width { record_width cells.now ≡ event_width table.old.records.types }
-    ensures leaves { LeavesWith P.Pages table.old version (listed cells.now) result pages.old pages.new }
-    ensures ended { P.is_tied pages.old → OnOk result (Ended (P.store pages.old).map (P.store pages.new).map table.old table.new version
-        (listed cells.now)) }
-    ensures keeps { KeepsAt version table.old table.new }
+    ensures leaves { LeavesWith P.Pages table.old moment.version (listed cells.now) result pages.old pages.new }
+    ensures ended { P.is_tied pages.old → OnOk result (Ended (P.store pages.old).map (P.store pages.new).map table.old table.new moment.version
+        (end_at moment) (listed cells.now)) }
+    ensures keeps { KeepsAt moment.version table.old table.new }
 {
     for place in 0..cells.len() {
-        end_one(alloc, pages, table, version, cells.get(place))?;
+        end_one(alloc, pages, table, moment, cells.get(place))?;
     }
     Ok(())
 }
 
-/// Ends the event of a cell at the version. It is refused as `make` is.
+/// Ends the event of a cell. It is refused as `make` is.
 fn end_one<P: Pages>(
     alloc: Global,
     pages: &mut P,
     table: &mut OpenedTable,
-    version: u64,
+    moment: Moment,
     cell: &[u8],
 ) -> Result<(), Refusal>
-    requires may { MayEdit P.Pages table.old version pages.old }
+    requires may { MayEdit P.Pages table.old moment.version pages.old }
     requires width { length cell.now ≡ event_width table.old.records.types }
-    ensures leaves { LeavesWith P.Pages table.old version (cell.now ∷ []) result pages.old pages.new }
-    ensures ended { P.is_tied pages.old → OnOk result (EndedOne (P.store pages.old).map (P.store pages.new).map table.old table.new version
-        cell.now) }
-    ensures keeps { KeepsAt version table.old table.new }
+    ensures leaves { LeavesWith P.Pages table.old moment.version (cell.now ∷ []) result pages.old pages.new }
+    ensures ended { P.is_tied pages.old → OnOk result (EndedOne (P.store pages.old).map (P.store pages.new).map table.old table.new moment.version
+        (end_at moment) cell.now) }
+    ensures keeps { KeepsAt moment.version table.old table.new }
 {
     if !is_living(cell) {
         return Err(Refusal::DamagedFile);
@@ -89,7 +90,7 @@ fn end_one<P: Pages>(
         pages,
         &mut table.records,
         &mut table.indexes,
-        version,
+        moment.end(),
         cell,
     )?;
     if !found {

@@ -13,6 +13,7 @@ ghost use Rattle.rs_value.specs.View.{row_of};
 use crate::changing::make;
 use crate::joining::join;
 use crate::laws::what_gave_way_is_still_seen;
+use crate::moment::Moment;
 use rs_contents::OpenedTable;
 use rs_facts::Span;
 use rs_pages::Pages;
@@ -20,35 +21,35 @@ use rs_refusal::Refusal;
 use rs_value::Kind;
 use std::alloc::Global;
 
-/// Puts the row along the span, in thousandths, on the route, as versions from this one on see it, and answers how many facts are
+/// Puts the row along the span, in thousandths, on the route, as versions from that of the change on see it, and answers how many facts are
 /// new: at how many thousandths of the span the row did not hold. Where it held at all of them, nothing changes.
 ///
 /// It is refused with 90, with 91, with 92 where the file is full, and with 94 only where no such table with its indexes, dated up to
-/// this version, lies there with pages of its own; the table, its indexes and the working pages are to be abandoned then.
+/// that version, lies there with pages of its own; the table, its indexes and the working pages are to be abandoned then.
 pub fn insert<P: Pages>(
     alloc: Global,
     pages: &mut P,
     table: &mut OpenedTable,
     kind: Kind,
-    version: u64,
+    moment: Moment,
     route: u32,
     span: &Span,
 ) -> Result<u64, Refusal>
-    requires may { MayEdit P.Pages table.old version pages.old }
+    requires may { MayEdit P.Pages table.old moment.version pages.old }
     requires row { IsRowOf table.old.records.types (row_of span.now.tuple.items) }
     requires placed { IsPlaced kind (seen span.now) }
-    ensures leaves { Leaves P.Pages table.old version result pages.old pages.new }
+    ensures leaves { Leaves P.Pages table.old moment.version result pages.old pages.new }
     ensures inserts { P.is_tied pages.old → IfOk result (λ count. Inserted (P.store pages.old).map (P.store pages.new).map table.old table.new
-        kind version route (seen span.now) count) }
-    ensures keeps { KeepsAt version table.old table.new }
+        moment kind route (seen span.now) count) }
+    ensures keeps { KeepsAt moment.version table.old table.new }
 {
     what_gave_way_is_still_seen();
     let (from, upto) = reach(kind, span.lo, span.hi);
     let found = table
         .records
-        .visible(alloc, pages, version, route, from, upto)?;
+        .visible(alloc, pages, moment.version, route, from, upto)?;
     let joined = join(alloc, table.records.schema(), &found, span)?;
-    make(alloc, pages, table, version, route, &joined.edit)?;
+    make(alloc, pages, table, moment, route, &joined.edit)?;
     Ok(joined.count)
 }
 

@@ -10,8 +10,10 @@ mod insertion;
 mod joining;
 mod laws;
 mod leaving;
+pub mod moment;
 mod picking;
 mod removal;
 
 pub use insertion::insert;
+pub use moment::Moment;
 pub use removal::{RouteStretch, remove};

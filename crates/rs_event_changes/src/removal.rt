@@ -10,6 +10,7 @@ ghost use Rattle.rs_event_changes.specs.Changes.{Removed};
 use crate::changing::make;
 use crate::laws::what_gave_way_is_still_seen;
 use crate::leaving::take_out;
+use crate::moment::Moment;
 use rs_contents::OpenedTable;
 use rs_facts::Condition;
 use rs_pages::Pages;
@@ -27,32 +28,35 @@ pub struct RouteStretch {
     pub hi: u32,
 }
 
-/// Takes the rows that meet the condition, or all rows where there is none, away from the stretch, as versions from this one on see it,
+/// Takes the rows that meet the condition, or all rows where there is none, away from the stretch, as versions from that of the change on see
+/// it,
 /// and answers how many facts went. Where the stretch has no thousandth, nothing does.
 ///
 /// It is refused with 90, with 91, with 92 where the file is full, and with 94 only where no such table with its indexes, dated up to
-/// this version, lies there with pages of its own; the table, its indexes and the working pages are to be abandoned then.
+/// that version, lies there with pages of its own; the table, its indexes and the working pages are to be abandoned then.
 pub fn remove<P: Pages>(
     alloc: Global,
     pages: &mut P,
     table: &mut OpenedTable,
-    version: u64,
+    moment: Moment,
     stretch: RouteStretch,
     goes: Option<&Condition>,
 ) -> Result<u128, Refusal>
-    requires may { MayEdit P.Pages table.old version pages.old }
-    ensures leaves { Leaves P.Pages table.old version result pages.old pages.new }
+    requires may { MayEdit P.Pages table.old moment.version pages.old }
+    ensures leaves { Leaves P.Pages table.old moment.version result pages.old pages.new }
     ensures removes { P.is_tied pages.old → IfOk result (λ count. Removed (P.store pages.old).map (P.store pages.new).map table.old table.new
-        version stretch.route stretch.lo stretch.hi (option_copied goes.entry) count) }
-    ensures keeps { KeepsAt version table.old table.new }
+        moment stretch.route stretch.lo stretch.hi (option_copied goes.entry) count) }
+    ensures keeps { KeepsAt moment.version table.old table.new }
 {
     what_gave_way_is_still_seen();
     let RouteStretch { route, lo, hi } = stretch;
     if hi <= lo {
         return Ok(0);
     }
-    let found = table.records.visible(alloc, pages, version, route, lo, hi)?;
+    let found = table
+        .records
+        .visible(alloc, pages, moment.version, route, lo, hi)?;
     let left = take_out(alloc, table.records.schema(), &found, lo, hi, goes)?;
-    make(alloc, pages, table, version, route, &left.edit)?;
+    make(alloc, pages, table, moment, route, &left.edit)?;
     Ok(left.count)
 }

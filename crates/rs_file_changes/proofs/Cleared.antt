@@ -35,7 +35,7 @@ use Rattle.rs_value.specs.declared.column.ColumnType.{ColumnType}
 
 module _ {R : Type 0} (kept : Kept R) (oldest : ℕ) where
   -- no record goes
-  none_cleared : (records : List R) → HasCleared kept oldest [] records records
+  pub none_cleared : (records : List R) → HasCleared kept oldest [] records records
   none_cleared records = record { gone = []; say = tt; unseen = tt; rest = IsPermutation-refl records }
 
   all_both : (one other : List R) → AllByRecursion (λ (r : R). kept.died r ≤ oldest) one → AllByRecursion (λ (r : R). kept.died r ≤ oldest) other
@@ -83,7 +83,7 @@ module _ {R : Type 0} (kept : Kept R) (oldest : ℕ) where
 
 -- ---- contents
 
-same_table : (oldest : ℕ) (table : TableContents) → ClearsTable oldest table table
+pub same_table : (oldest : ℕ) (table : TableContents) → ClearsTable oldest table table
 same_table oldest table = record { types = refl; cells = []; cleared = none_cleared (kept_events table.types) oldest table.events }
 
 table_then : (oldest : ℕ) (was between is : TableContents) → ClearsTable oldest was between → ClearsTable oldest between is → ClearsTable oldest was is
@@ -102,7 +102,7 @@ parts_none oldest contents = record {
   referents = record { cells = []; cleared = none_cleared kept_referents oldest contents.referents.referents };
 }
 
-parts_then : (oldest : ℕ) (old next now : Contents) → ClearsParts oldest old next → ClearsParts oldest next now → ClearsParts oldest old now
+pub parts_then : (oldest : ℕ) (old next now : Contents) → ClearsParts oldest old next → ClearsParts oldest next now → ClearsParts oldest old now
 parts_then oldest old next now one other = record {
   definitions = other.definitions ∙ one.definitions;
   directory = other.directory ∙ one.directory;
@@ -306,7 +306,7 @@ at_middle [] x after = refl
 at_middle (b ∷ bs) x after = at_middle bs x after
 
 -- the sum of one table and the others
-split_sum : (weigh : TableContents → ℕ) (before : List TableContents) (table : TableContents) (after : List TableContents)
+pub split_sum : (weigh : TableContents → ℕ) (before : List TableContents) (table : TableContents) (after : List TableContents)
     → sum_by weigh (before ++ table ∷ after) ≡ sum_by weigh before + (weigh table + sum_by weigh after)
 split_sum weigh before table after =
     omega (arith, sum_by-append weigh before (table ∷ after), sum_by-cons weigh table after)

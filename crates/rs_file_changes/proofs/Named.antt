@@ -136,7 +136,7 @@ module _ (map : PageMap) (standing : Standing) (version route : ℕ) (name : Lis
     named_ends accepted later = record {
       each = λ records used others holds shares.
           let it = one_named place cell at named accepted records used holds in
-          let become = (ended.changes accepted it.one later it.says).each records used others holds shares in
+          let become = (ended.changes accepted version it.one later (omega arith) it.says).each records used others holds shares in
           record {
             records = become.records;
             after = become.after;

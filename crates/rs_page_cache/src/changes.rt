@@ -1,9 +1,10 @@
 //! The changed pages: by number, the committed page that the disk lacks and the working copy.
 //!
 //! The numbers of the working copies are listed apart, so that a commit or an abandonment visits these alone. Room in
-//! that list is made before each copy, so neither of the two takes memory.
+//! that list is made before each copy, so neither of the two takes memory. The memory of some pages that a commit put others in
+//! place of is kept for the next copies.
 
-ghost use Rattle.std.specs.Prelude.{◌≡◌, ◌≢◌, ◌≤◌, ◌<◌, ◌^◌, ℕ, List, Some, None, true, [], length, is_some, IsSome, IfSome, IfNone, OnOk, OnErr, IsOkUnless, slice_index};
+ghost use Rattle.std.specs.Prelude.{◌≡◌, ◌≢◌, ◌≤◌, ◌<◌, ◌^◌, ℕ, List, Some, None, true, [], length, is_some, IsSome, IfOk, IfSome, IfNone, OnOk, OnErr, IsOkUnless, slice_index};
 ghost use Rattle.std.specs.BTreeMap.{is_at};
 ghost use Rattle.std.specs.Map.{lookup};
 ghost use Rattle.std.specs.Option.{option_map};
@@ -13,11 +14,15 @@ ghost use Rattle.rs_pages.specs.Held.{HeldPage, nothing_held, held_change, with_
 ghost use Rattle.rs_page_cache.specs.Changes.{held_at, committed_held, abandoned_held, HasCopied, HoldsEach, IsUsedCopy, ListsHeld, PutsBlank};
 
 use crate::slot::Slot;
+use arrayvec::ArrayVec;
 use rs_page::{Page, PageKind, PageNumber};
 use rs_refusal::Refusal;
 use std::alloc::{AllocError, Global};
 use std::collections::BTreeMap;
 use std::marker::Model;
+
+/// How many pages are kept for their memory alone.
+const MOST_SPARES: usize = 4;
 
 /// The changed pages.
 #[derive(Drop)]
@@ -25,6 +30,8 @@ pub struct Changes {
     slots: BTreeMap<u32, Slot>,
     /// The numbers of the pages with a working copy are among these.
     copied: Vec<u32>,
+    /// Memory of pages that nobody needs any more.
+    spares: ArrayVec<Option<Box<Page>>, MOST_SPARES>,
 }
 
 impl Model for Changes {
@@ -48,6 +55,7 @@ impl Changes {
         Changes {
             slots: BTreeMap::new(alloc),
             copied: Vec::new(alloc),
+            spares: ArrayVec::new(),
         }
     }
 
@@ -160,6 +168,13 @@ impl Changes {
         }
     }
 
+    /// Memory for a page, where some is left over.
+    pub fn take_spare(&mut self) -> Option<Box<Page>>
+        ensures { self.new ≡ self.old }
+    {
+        self.spares.pop().flatten()
+    }
+
     /// Puts a working copy in place that has a header of this kind and zeros after it. After a refusal (90) nothing has
     /// changed.
     pub fn put_blank(
@@ -188,7 +203,7 @@ impl Changes {
     pub fn commit(&mut self)
         ensures { (number : ℕ) → held_at self.new number ≡ committed_held (held_at self.old number) }
     {
-        commit_all(&mut self.slots, &self.copied);
+        commit_all(&mut self.slots, &self.copied, &mut self.spares);
         self.copied.clear();
     }
 
@@ -230,8 +245,29 @@ fn put_slot(slots: &mut BTreeMap<u32, Slot>, number: u32, page: Box<Page>) -> Re
     }
 }
 
-/// Commits the pages with these numbers.
-fn commit_all(slots: &mut BTreeMap<u32, Slot>, copied: &[u32])
+/// A page with these bytes, in the memory of a spare one where there is one.
+pub fn copy_into_spare(
+    alloc: Global,
+    spare: Option<Box<Page>>,
+    page: &Page,
+) -> Result<Box<Page>, AllocError>
+    ensures { IfOk result (λ copy. copy.value.bytes ≡ page.now.bytes) }
+{
+    match spare {
+        Some(mut copy) => {
+            *copy = *page;
+            Ok(copy)
+        }
+        None => Box::new(alloc, *page).map_err(|_| AllocError),
+    }
+}
+
+/// Commits the pages with these numbers, and keeps the memory of some whose place they took.
+fn commit_all(
+    slots: &mut BTreeMap<u32, Slot>,
+    copied: &[u32],
+    spares: &mut ArrayVec<Option<Box<Page>>, MOST_SPARES>,
+)
     ensures commits { (number : ℕ) → committed_held (held_at slots.new.entries number)
         ≡ committed_held (held_at slots.old.entries number) }
     ensures done { (k : ℕ) → k < length copied.now
@@ -241,19 +277,27 @@ fn commit_all(slots: &mut BTreeMap<u32, Slot>, copied: &[u32])
     ensures some { HoldsEach slots.old.entries → HoldsEach slots.new.entries }
 {
     for number in copied {
-        commit_one(slots, *number);
+        keep(spares, commit_one(slots, *number));
     }
 }
 
-/// Commits the page with this number, if it is changed.
-fn commit_one(slots: &mut BTreeMap<u32, Slot>, number: u32)
+/// Keeps the memory of a page, while there is room for it.
+fn keep(spares: &mut ArrayVec<Option<Box<Page>>, MOST_SPARES>, page: Option<Box<Page>>) {
+    if page.is_some() {
+        let _ = spares.try_push(page);
+    }
+}
+
+/// Commits the page with this number, if it is changed. The page whose place it took is answered.
+fn commit_one(slots: &mut BTreeMap<u32, Slot>, number: u32) -> Option<Box<Page>>
     ensures there { held_at slots.new.entries number ≡ committed_held (held_at slots.old.entries number) }
     ensures others { (other : ℕ) → other ≢ number
         → held_at slots.new.entries other ≡ held_at slots.old.entries other }
     ensures some { HoldsEach slots.old.entries → HoldsEach slots.new.entries }
 {
-    if let Some(slot) = slots.get_mut(&number) {
-        slot.commit();
+    match slots.get_mut(&number) {
+        Some(slot) => slot.commit(),
+        None => None,
     }
 }
 

@@ -9,6 +9,6 @@ pub mod clean;
 pub mod limits;
 pub mod slot;
 
-pub use changes::Changes;
+pub use changes::{Changes, copy_into_spare};
 pub use clean::{CleanPages, MOST_CLEAN, MOST_WHILE_OPENING};
 pub use slot::Slot;

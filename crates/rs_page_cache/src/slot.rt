@@ -10,6 +10,7 @@ ghost use Rattle.rs_page_cache.specs.Changes.{committed_held, abandoned_held, Is
 
 use rs_page::Page;
 use std::marker::Model;
+use std::mem;
 
 /// What is held of one changed page.
 #[derive(Drop)]
@@ -110,12 +111,13 @@ impl Slot {
         }
     }
 
-    /// The copy becomes the committed page.
-    pub fn commit(&mut self)
+    /// The copy becomes the committed page. The page whose place it took is answered.
+    pub fn commit(&mut self) -> Option<Box<Page>>
         ensures { self.new ≡ committed_held self.old }
     {
-        if let Some(page) = self.copy.take() {
-            self.committed = Some(page);
+        match self.copy.take() {
+            Some(page) => mem::replace(&mut self.committed, Some(page)),
+            None => None,
         }
     }
 

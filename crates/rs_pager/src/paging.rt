@@ -14,6 +14,7 @@ ghost use Rattle.rs_pager.specs.Paged.{held};
 use crate::pager::Pager;
 use rs_disk::Disk;
 use rs_page::{ContentKind, Page, PageKind, PageNumber};
+use rs_page_cache::copy_into_spare;
 use rs_pages::Pages;
 use rs_refusal::Refusal;
 
@@ -150,15 +151,17 @@ impl<D: Disk> Pager<D> {
         ensures same { OnErr result (self.new ≡ self.old) }
         ensures refused { IfErr result (RefusesCopy D.Disk number self.old) }
     {
-        let copy = self.copy_of(number)?;
+        let spare = self.changes.take_spare();
+        let copy = self.copy_of(number, spare)?;
         self.changes
             .add_copy(number, copy)
             .map_err(|_| Refusal::OutOfMemory)?;
         Ok(())
     }
 
-    /// The working page with this number, which is at hand and has no working copy in use, in memory of its own.
-    fn copy_of(&self, number: PageNumber) -> Result<Box<Page>, Refusal>
+    /// The working page with this number, which is at hand and has no working copy in use, in memory of its own, a spare page's where there
+    /// is one.
+    fn copy_of(&self, number: PageNumber, spare: Option<Box<Page>>) -> Result<Box<Page>, Refusal>
         requires at_hand { IsAtHand number self.now }
         requires not_copied { (page : List ℕ) → (held self.now number).copy ≡ Some page → is_free page ≡ true }
         ensures copy { IfOk result (λ page. LacksCopy D.Disk number page.value.bytes self.now) }
@@ -167,7 +170,9 @@ impl<D: Disk> Pager<D> {
         let Some(page) = self.used(number) else {
             return Err(Refusal::DamagedFile);
         };
-        let copy = Box::new(self.changes.allocator(), *page).map_err(|_| Refusal::OutOfMemory)?;
+        let copy = copy_into_spare(self.changes.allocator(), spare, page).map_err(
+            |_| Refusal::OutOfMemory,
+        )?;
         Ok(copy)
     }
 

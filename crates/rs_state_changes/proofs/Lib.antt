@@ -12,4 +12,5 @@ mod ClearedOnly
 mod Completion
 mod EndedReferents
 mod Redefined
+mod TakenRows
 mod TablesPlaced

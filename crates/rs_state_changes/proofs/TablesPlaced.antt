@@ -2,7 +2,8 @@
 use Rattle.std.proofs.Common.{◌≡◌, ◌<◌, ◌≤◌, ◌+◌, ◌∙◌, ℕ, Some, List, [], ◌∷◌, ◌++◌, Result, length, get_or, set, sym, ap, subst, arith}
 use Rattle.std.specs.Prelude.{slice_get}
 use Rattle.std.proofs.lemmas.Option.{slice_get-get_or}
-use Rattle.std.specs.List.{AllByRecursion, AllZip}
+use Rattle.std.specs.List.{AllByRecursion, AllZip, sum_by}
+use Rattle.std.proofs.lemmas.List.Sums.{sum_by-append, sum_by-cons}
 use Rattle.rs_attr.specs.Calls.{KeepsTable}
 use Rattle.rs_attr.specs.Tables.{ChangesTable, HoldsTable, IndexState}
 use Rattle.rs_cell_versions.specs.Version.{HaveDiedBy}
@@ -14,6 +15,7 @@ use Rattle.rs_contents.specs.declared.opened.OpenedTable.{OpenedTable}
 use Rattle.rs_contents.proofs.Parts.{shares_table}
 use Rattle.rs_event_changes.specs.Calls.{HoldsNoTableBy}
 use Rattle.rs_event_changes.specs.Calls as events
+use Rattle.rs_event_changes.specs.Changes.{ThenCleared}
 use Rattle.rs_file_changes.specs.Parts.{HaveAllDiedBy}
 use Rattle.rs_file_changes.proofs.Lists.{Stands, all_one, beside, stands_at}
 use Rattle.rs_file_changes.proofs.Made.{ChangesAt, makes_weaker}
@@ -23,10 +25,10 @@ use Rattle.rs_pages.specs.PageMap.{PageMap}
 use Rattle.rs_pages.specs.declared.pages.Pages.{Ghosts}
 use Rattle.rs_refusal.specs.declared.refusal.Refusal.{Refusal}
 use Rattle.rs_state_changes.specs.Calls.{LeavesFile}
-use Rattle.rs_state_changes.specs.InPlace.{MakesAt}
-use Rattle.rs_state_changes.proofs.Wholes.{MakesNext, makes_next, storing_by_works}
+use Rattle.rs_state_changes.specs.Garbage.{dead_of, garbage_of}
+use Rattle.rs_state_changes.specs.InPlace.{ChangesThenCleared, MakesAt}
+use Rattle.rs_state_changes.proofs.Wholes.{storing_by_works}
 use Rattle.rs_state_laws.specs.Changing.{HoldsNoFile}
-use Rattle.rs_state_laws.specs.Parts.{ChangesTableAt}
 use Rattle.rs_value.specs.declared.column.ColumnType.{ColumnType}
 use Rattle.rs_versioned.specs.Events.{Event}
 
@@ -92,6 +94,21 @@ module _ (was : OpenedFile) (place : ℕ) (one : OpenedTable) (below : place < l
       (all_one (λ (table : OpenedTable). HaveDiedBy was.accepted table.records.working.dead) stands.before one stands.after
       (subst (AllByRecursion (λ (table : OpenedTable). HaveDiedBy was.accepted table.records.working.dead)) stands.are order.tables))
 
+  -- where no fewer of its records are dead, no fewer are of the file
+  pub garbage_placed : (now : OpenedTable) → length one.records.working.dead ≤ length now.records.working.dead
+      → garbage_of was ≤ length was.referents.working.dead + sum_by dead_of (set was.tables.items place now)
+  garbage_placed now more =
+      omega (
+        arith,
+        more,
+        ap (sum_by dead_of) stands.are,
+        sum_by-append dead_of stands.before (one ∷ stands.after),
+        sum_by-cons dead_of one stands.after,
+        ap (sum_by dead_of) (stands.changed now),
+        sum_by-append dead_of stands.before (now ∷ stands.after),
+        sum_by-cons dead_of now stands.after,
+      )
+
   module _ (now : OpenedTable) (keeps : KeepsTable one.records now.records one.indexes.items now.indexes.items) where
     pub tables_died : HaveAllDiedBy was.accepted was → HaveDiedBy (was.accepted + 1) now.records.working.dead
         → AllByRecursion (λ (table : OpenedTable). HaveDiedBy (was.accepted + 1) table.records.working.dead) (set was.tables.items place now)
@@ -100,12 +117,12 @@ module _ (was : OpenedFile) (place : ℕ) (one : OpenedTable) (below : place < l
         (tables_later was.accepted (was.accepted + 1) (omega arith) was.tables.items order.tables)
 
     -- a change of the table is one of the file's parts
-    pub made_placed : (old new : PageMap) (is : OpenedFile) (change : List Event → List Event → Type 0) → is.tables.items ≡ set was.tables.items place now → is.definitions ≡ was.definitions
+    pub made_placed : (old new : PageMap) (is : OpenedFile) (level : ℕ) (change : List Event → List Event → Type 0) → is.tables.items ≡ set was.tables.items place now → is.definitions ≡ was.definitions
         → is.pages ≡ was.pages → is.referents.working ≡ was.referents.working
-        → ChangesTable one.records.types old new one.records.working now.records.working one.indexes.items now.indexes.items was.accepted (was.accepted + 1) change
-        → MakesAt old new was is place change
-    made_placed old new is change tables definitions pages referents changes =
-        makes_weaker (ChangesAt one.records.types place change) (ChangesTableAt place change)
+        → ChangesTable one.records.types old new one.records.working now.records.working one.indexes.items now.indexes.items was.accepted (was.accepted + 1) (ThenCleared level one.records.types change)
+        → MakesAt old new was is place level change
+    made_placed old new is level change tables definitions pages referents changes =
+        makes_weaker (ChangesAt one.records.types place (ThenCleared level one.records.types change)) (ChangesThenCleared place level change)
         (λ contents next at. record {
           before = at.before;
           table = at.table;
@@ -115,21 +132,7 @@ module _ (was : OpenedFile) (place : ℕ) (one : OpenedTable) (below : place < l
           were = at.were;
           are = at.are;
           types = at.types;
-          changed = at.changed;
+          changed = subst (λ (ts : List ColumnType). ThenCleared level ts change at.table.events at.next.events) (sym at.columns_are) at.changed;
         })
         old new was is was.accepted (was.accepted + 1)
-        (place_made was place one below is_there now keeps old new is was.accepted (was.accepted + 1) change tables definitions pages referents (omega arith) changes)
-
--- ---- the version of the contents
-
-module _ (place : ℕ) (by : ℕ → List Event → List Event → Type 0) where
-  -- the change is made after the version that was accepted last
-  abbrev pub ChangesBy : Contents → Contents → Type 0
-  ChangesBy old now = ChangesTableAt place (by old.directory.accepted) old now
-
-  pub made_next : (old new : PageMap) (was is : OpenedFile) → MakesAt old new was is place (by was.accepted) → MakesNext old new was is ChangesBy
-  made_next old new was is = makes_next (ChangesTableAt place (by was.accepted)) ChangesBy old new was is
-      (λ contents now same at. subst (λ (n : ℕ). ChangesTableAt place (by n) contents now) (sym same) at)
-
-  pub same_directory : (contents now : Contents) → ChangesBy contents now → now.directory ≡ contents.directory
-  same_directory contents now at = ap (λ (c : Contents). c.directory) at.are
+        (place_made was place one below is_there now keeps old new is was.accepted (was.accepted + 1) (ThenCleared level one.records.types change) tables definitions pages referents (omega arith) changes)

@@ -1,12 +1,24 @@
 -- What a change of one table makes of a file's parts, before it is completed.
-use Rattle.std.specs.Prelude.{◌+◌, ℕ, List}
+use Rattle.std.specs.Prelude.{◌≡◌, ◌+◌, ◌++◌, ◌∷◌, ℕ, List, length}
+use Rattle.rs_contents.specs.Contents.{Contents, TableContents}
 use Rattle.rs_contents.specs.declared.opened.OpenedFile.{OpenedFile}
+use Rattle.rs_event_changes.specs.Changes.{ThenCleared}
 use Rattle.rs_file_changes.specs.Parts.{Makes}
 use Rattle.rs_pages.specs.PageMap.{PageMap}
-use Rattle.rs_state_laws.specs.Parts.{ChangesTableAt}
 use Rattle.rs_versioned.specs.Events.{Event}
 
--- of whatever contents lie there up to the version that was accepted last, the events of the table at this place have changed so, up to
--- the next one
-abbrev pub MakesAt : PageMap → PageMap → OpenedFile → OpenedFile → ℕ → (List Event → List Event → Type 0) → Type 0
-MakesAt old new was is place change = Makes old new was is was.accepted (was.accepted + 1) (ChangesTableAt place change)
+-- the events of the table at this place have changed so, then some are gone that no version from this one on sees, and all else stays
+pub record ChangesThenCleared (place level : ℕ) (change : List Event → List Event → Type 0) (old now : Contents) : Type 0 where
+  pub before : List TableContents
+  pub table : TableContents
+  pub next : TableContents
+  pub after : List TableContents
+  pub long : length before ≡ place
+  pub were : old.tables ≡ before ++ table ∷ after
+  pub are : now ≡ record old { tables = before ++ next ∷ after }
+  pub types : next.types ≡ table.types
+  pub changed : ThenCleared level table.types change table.events next.events
+
+-- of whatever contents lie there up to the version that was accepted last, they have changed so, up to the next one
+abbrev pub MakesAt : PageMap → PageMap → OpenedFile → OpenedFile → ℕ → ℕ → (List Event → List Event → Type 0) → Type 0
+MakesAt old new was is place level change = Makes old new was is was.accepted (was.accepted + 1) (ChangesThenCleared place level change)

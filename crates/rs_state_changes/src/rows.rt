@@ -1,10 +1,11 @@
 //! A row put along a span of a route, and rows taken away between two thousandths of it.
 
-ghost use Rattle.std.specs.Prelude.{◌<◌, ◌+◌, length, IfOk};
+ghost use Rattle.std.specs.Prelude.{◌<◌, ◌≤◌, ◌+◌, length, min, IfOk};
 ghost use Rattle.rs_event_changes.specs.Changes.{Inserts, Removes};
 ghost use Rattle.rs_facts.specs.Spans.{seen};
 ghost use Rattle.rs_file_changes.specs.Parts.{HaveAllDiedBy, KeepsCommitted};
 ghost use Rattle.rs_state_changes.specs.Calls.{ComesNext, IsRowAt, LeavesFile, MayAccept};
+ghost use Rattle.rs_state_changes.specs.Garbage.{garbage_of};
 ghost use Rattle.rs_state_changes.specs.InPlace.{MakesAt};
 ghost use Rattle.rs_state_laws.specs.Changing.{ChangesFile};
 ghost use Rattle.rs_state_laws.specs.Parts.{InsertsRow, RemovesRows};
@@ -12,7 +13,7 @@ ghost use Rattle.rs_state_laws.specs.Parts.{InsertsRow, RemovesRows};
 use crate::completing::complete;
 use crate::counting::garbage;
 use rs_contents::OpenedFile;
-use rs_event_changes::RouteStretch;
+use rs_event_changes::{Moment, RouteStretch};
 use rs_facts::{Condition, Span};
 use rs_pages::Pages;
 use rs_refusal::Refusal;
@@ -65,33 +66,39 @@ pub fn insert<P: Pages>(
     ensures opened { ComesNext file.old.definitions result file.old file.new }
 {
     let before = garbage(file);
-    let count = insert_in_place(alloc, pages, file, insertion)?;
+    let count = insert_in_place(alloc, pages, file, oldest, insertion)?;
     complete(alloc, pages, file, oldest, before)?;
     Ok(count)
 }
 
-/// Puts the row into its table, as versions after the one that was accepted last see it.
+/// Puts the row into its table, as versions after the one that was accepted last see it. What ends in that and no version from `oldest`
+/// on is to see is gone.
 fn insert_in_place<P: Pages>(
     alloc: Global,
     pages: &mut P,
     file: &mut OpenedFile,
+    oldest: u64,
     insertion: &Insertion,
 ) -> Result<u64, Refusal>
     requires may { MayAccept P.Pages file.old pages.old }
     requires row { IsRowAt file.old insertion.now.table insertion.now.kind insertion.now.span }
     ensures leaves { LeavesFile P.Pages file.old result pages.old pages.new }
     ensures inserts { P.is_tied pages.old → IfOk result (λ count. MakesAt (P.store pages.old).map (P.store pages.new).map file.old file.new insertion.now.table
-        (Inserts insertion.now.kind file.old.accepted (file.old.accepted + 1) insertion.now.route (seen insertion.now.span) count)) }
+        (min oldest (file.old.accepted + 1)) (Inserts insertion.now.kind file.old.accepted (file.old.accepted + 1) insertion.now.route (seen insertion.now.span) count)) }
     ensures keeps { KeepsCommitted file.old file.new }
     ensures order { HaveAllDiedBy (file.old.accepted + 1) file.new }
+    ensures more { garbage_of file.old ≤ garbage_of file.new }
 {
-    let version = file.accepted + 1;
+    let moment = Moment {
+        version: file.accepted + 1,
+        oldest,
+    };
     rs_event_changes::insert(
         alloc,
         pages,
         &mut file.tables[insertion.table],
         insertion.kind,
-        version,
+        moment,
         insertion.route,
         &insertion.span,
     )
@@ -114,27 +121,33 @@ pub fn remove<P: Pages>(
     ensures opened { ComesNext file.old.definitions result file.old file.new }
 {
     let before = garbage(file);
-    let count = remove_in_place(alloc, pages, file, removal)?;
+    let count = remove_in_place(alloc, pages, file, oldest, removal)?;
     complete(alloc, pages, file, oldest, before)?;
     Ok(count)
 }
 
-/// Takes the rows out of their table, as versions after the one that was accepted last see it.
+/// Takes the rows out of their table, as versions after the one that was accepted last see it. What ends in that and no version from
+/// `oldest` on is to see is gone.
 fn remove_in_place<P: Pages>(
     alloc: Global,
     pages: &mut P,
     file: &mut OpenedFile,
+    oldest: u64,
     removal: &Removal,
 ) -> Result<u128, Refusal>
     requires may { MayAccept P.Pages file.old pages.old }
     requires place { removal.now.table < length file.old.tables.items }
     ensures leaves { LeavesFile P.Pages file.old result pages.old pages.new }
     ensures removes { P.is_tied pages.old → IfOk result (λ count. MakesAt (P.store pages.old).map (P.store pages.new).map file.old file.new removal.now.table
-        (Removes file.old.accepted (file.old.accepted + 1) removal.now.route removal.now.lo removal.now.hi removal.now.goes count)) }
+        (min oldest (file.old.accepted + 1)) (Removes file.old.accepted (file.old.accepted + 1) removal.now.route removal.now.lo removal.now.hi removal.now.goes count)) }
     ensures keeps { KeepsCommitted file.old file.new }
     ensures order { HaveAllDiedBy (file.old.accepted + 1) file.new }
+    ensures more { garbage_of file.old ≤ garbage_of file.new }
 {
-    let version = file.accepted + 1;
+    let moment = Moment {
+        version: file.accepted + 1,
+        oldest,
+    };
     let goes = removal.goes.as_ref();
     let stretch = RouteStretch {
         route: removal.route,
@@ -145,7 +158,7 @@ fn remove_in_place<P: Pages>(
         alloc,
         pages,
         &mut file.tables[removal.table],
-        version,
+        moment,
         stretch,
         goes,
     )

@@ -157,11 +157,11 @@ module _ {R : Type 0} (kept : Kept R) (laws : IsKept kept) (old new : PageMap) (
   }
 
   -- a living record has ended
-  pub ends_record : (accepted version : ℕ) (cell : List ℕ) (one : R) → accepted ≤ version → version < 2 ^ 64 - 1 → kept.says cell one
-      → Ends kept.form old new was is version cell → ChangesRecords kept old new was is accepted version (HasEnded kept version one)
-  ends_record accepted version cell one later below says ends = record {
+  pub ends_record : (accepted last version : ℕ) (cell : List ℕ) (one : R) → accepted ≤ last → version ≤ last → version < 2 ^ 64 - 1 → kept.says cell one
+      → Ends kept.form old new was is version cell → ChangesRecords kept old new was is accepted last (HasEnded kept version one)
+  ends_record accepted last version cell one later before below says ends = record {
     each = λ records used others holds shares.
-        let dated = dated_later accepted version holds.cells later holds.dated in
+        let dated = dated_later accepted last holds.cells later holds.dated in
         elim (among cell holds.cells) [
           | inl has ↦
               let becomes = ends.there holds.cells used others holds.holds shares has in
@@ -173,7 +173,7 @@ module _ {R : Type 0} (kept : Kept R) (laws : IsKept kept) (old new : PageMap) (
                   cells = with_end version cell holds.cells;
                   holds = becomes.holds;
                   say = after.say;
-                  dated = dated_ended version cell holds.cells below (laws.long cell one says) dated;
+                  dated = dated_ended last version cell holds.cells before below (laws.long cell one says) dated;
                 };
                 moves = becomes.moves;
                 changed = inr after.changed;
@@ -252,7 +252,7 @@ module _ {R : Type 0} (kept : Kept R) (laws : IsKept kept) (old new : PageMap) (
   pub is_ended : (version : ℕ) (cell : List ℕ) (found : Bool) → version < 2 ^ 64 - 1 → Ends kept.form old new was is version cell → cells.TellsOf kept.form old was cell found
       → IsEnded kept old new was is version cell found
   is_ended version cell found below ends tells = record {
-    changes = λ accepted one later says. ends_record accepted version cell one later below says ends;
+    changes = λ accepted last one later before says. ends_record accepted last version cell one later before below says ends;
     ends = ends;
     tells = λ one says. found_record kept laws old was cell one found says tells;
   }

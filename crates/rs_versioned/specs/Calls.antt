@@ -35,9 +35,11 @@ pub record IsAdded {R T : Type 0} (kept : Kept R) (old new : PageMap) (was is : 
   pub tells : TellsNew kept old was one is_new
   pub rests : is_new ≡ false → SamePages new old × (now ≡ table)
 
--- the record of the cell has ended at the version, as the cell has, and it is told whether it was there
+-- the record of the cell has ended at the version, as the cell has, whichever versions from there on are accepted first and last, and it
+-- is told whether it was there
 pub record IsEnded {R : Type 0} (kept : Kept R) (old new : PageMap) (was is : Standing) (version : ℕ) (cell : List ℕ) (found : Bool) : Type 0 where
-  pub changes : (accepted : ℕ) (one : R) → accepted ≤ version → kept.says cell one → ChangesRecords kept old new was is accepted version (HasEnded kept version one)
+  pub changes : (accepted last : ℕ) (one : R) → accepted ≤ last → version ≤ last → kept.says cell one
+      → ChangesRecords kept old new was is accepted last (HasEnded kept version one)
   pub ends : Ends kept.form old new was is version cell
   pub tells : (one : R) → kept.says cell one → TellsOf kept old was one found
 

@@ -4,7 +4,7 @@
 //! pages are to be committed or abandoned with them.
 
 ghost use Rattle.std.specs.Prelude.{◌≡◌, ◌≢◌, ◌<◌, ◌≤◌, ◌*◌, ◌+◌, ℕ, IsTrue, IfOk, OnOk, length, true, Err};
-ghost use Rattle.rs_cell_versions.specs.Version.{HaveDiedBy, is_living};
+ghost use Rattle.rs_cell_versions.specs.Version.{HaveDiedBy, born_of, is_living};
 ghost use Rattle.rs_cell_versions.specs.Versioned.{nothing_stands};
 ghost use Rattle.rs_cell_versions.specs.declared.cell.TheConstants.{LIVING};
 ghost use Rattle.rs_versioned.specs.Calls.{AddsCell, Clears, KeepsTable, Kills, Leaves, TakesFirst, Vacuums};
@@ -89,8 +89,8 @@ impl<K: RecordKind> RecordTable<K> {
     }
 
     /// Ends a living record at a version, and answers whether it was there: versions before this one see it as they did, and
-    /// no other does. A record that no version saw before this one is taken out. It is refused with 90, with 91, with 92
-    /// where the file is full, and with 94 only where no such records lie there with pages of their own; after a refusal the table
+    /// no other does. A record that no version saw before this one is taken out; at version 0 any is. It is refused with 90, with 91, with
+    /// 92 where the file is full, and with 94 only where no such records lie there with pages of their own; after a refusal the table
     /// is as it was, and the working pages are to be abandoned.
     pub fn kill<P: Pages>(
         &mut self,
@@ -102,11 +102,12 @@ impl<K: RecordKind> RecordTable<K> {
         requires width { length cell.now ≡ K.width self.old.types }
         requires living { IsTrue (is_living cell.now) }
         requires version { version < LIVING }
-        requires order { HaveDiedBy version self.old.working.dead }
+        requires order { born_of cell.now < version → HaveDiedBy version self.old.working.dead }
         ensures leaves { Leaves P.Pages (kept_as K.Summary.Summary K.RecordKind) self.old result pages.old pages.new }
         ensures kills { Kills P.Pages (kept_as K.Summary.Summary K.RecordKind) self.old self.new version cell.now result pages.old pages.new }
         ensures table { KeepsTable result self.old self.new }
-        ensures order { HaveDiedBy version self.new.working.dead }
+        ensures order { (last : ℕ) → version ≤ last → HaveDiedBy last self.old.working.dead → HaveDiedBy last self.new.working.dead }
+        ensures more { length self.old.working.dead ≤ length self.new.working.dead }
     {
         self.versions.kill(pages, version, cell)
     }

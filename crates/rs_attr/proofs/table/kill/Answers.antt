@@ -108,9 +108,9 @@ returns-in_ok-change_each-2-clause-kills g c = λ tied.
     let tied_mid = g.met.P.Pages.keeps_tied c.args.pages.now c.kill.new.pages c.in_ok-found.ensures.leaves.keeps tied in
     let tied_next = g.met.P.Pages.keeps_tied c.kill.new.pages c.change_each.new.pages c.in_ok-change_each.ensures.leaves.keeps tied_mid in
     record {
-      changes = λ accepted event later says.
-          together types old was c.args.indexes.now mid new is c.change_each-then-born_of-version.new.indexes accepted version (HasEnded (kept_events types) version event) (λ cells. with_cell last (without_cell cell cells))
-          ((c.in_ok-found.ensures.kills tied).changes accepted event later says)
+      changes = λ accepted last_one event later upto says.
+          together types old was c.args.indexes.now mid new is c.change_each-then-born_of-version.new.indexes accepted last_one (HasEnded (kept_events types) version event) (λ cells. with_cell last (without_cell cell cells))
+          ((c.in_ok-found.ensures.kills tied).changes accepted last_one event later upto says)
           (become_as types old mid was is accepted (with_end version cell) (λ cells. with_cell last (without_cell cell cells))
           (λ cells. ended_late version cell cells born ∙ ap (λ (x : List ℕ). with_cell x (without_cell cell cells)) (sym made))
           (ends_become types old mid was is version cell (c.in_ok-found.ensures.kills tied).ends accepted event c.in_ok-found.found says (c.in_ok-found.ensures.kills tied).tells c.if-found.true))
@@ -133,9 +133,9 @@ returns-else-born_of-version-clause-kills g c = λ tied.
     let cell = c.args.cell.now in
     let tied_mid = g.met.P.Pages.keeps_tied c.args.pages.now c.kill.new.pages c.in_ok-found.ensures.leaves.keeps tied in
     record {
-      changes = λ accepted event later says.
-          together types old was c.args.indexes.now mid new is c.change_each.new.indexes accepted version (HasEnded (kept_events types) version event) (without_cell cell)
-          ((c.in_ok-found.ensures.kills tied).changes accepted event later says)
+      changes = λ accepted last_one event later upto says.
+          together types old was c.args.indexes.now mid new is c.change_each.new.indexes accepted last_one (HasEnded (kept_events types) version event) (without_cell cell)
+          ((c.in_ok-found.ensures.kills tied).changes accepted last_one event later upto says)
           (become_as types old mid was is accepted (with_end version cell) (without_cell cell)
           (λ cells. ended_early version cell cells (omega (arith, c.if-born_of-version.false, c.born_of.ensures)))
           (ends_become types old mid was is version cell (c.in_ok-found.ensures.kills tied).ends accepted event c.in_ok-found.found says (c.in_ok-found.ensures.kills tied).tells c.if-found.true))
@@ -153,12 +153,12 @@ returns-else-found-clause-kills g c = λ tied.
     let version = c.args.version in
     let cell = c.args.cell.now in
     record {
-      changes = λ accepted event later says.
+      changes = λ accepted last_one event later upto says.
           let ended = HasEnded (kept_events types) version event in
           elim c.else-found.branch [
-            | else-found-via-then-found+else-not-is_empty w ↦ alone_among types old new was is c.args.indexes.now accepted version ended (search rules) ((c.in_ok-found.ensures.kills tied).changes accepted event later says)
+            | else-found-via-then-found+else-not-is_empty w ↦ alone_among types old new was is c.args.indexes.now accepted last_one ended (search rules) ((c.in_ok-found.ensures.kills tied).changes accepted last_one event later upto says)
             | else-found-via-else-found w ↦
-                together types old was c.args.indexes.now new new is c.args.indexes.now accepted version ended (λ cells. cells) ((c.in_ok-found.ensures.kills tied).changes accepted event later says)
+                together types old was c.args.indexes.now new new is c.args.indexes.now accepted last_one ended (λ cells. cells) ((c.in_ok-found.ensures.kills tied).changes accepted last_one event later upto says)
                 (ends_stay types old new was is version cell (c.in_ok-found.ensures.kills tied).ends accepted event c.in_ok-found.found says (c.in_ok-found.ensures.kills tied).tells w.if-found.false)
                 (indexes_stay (event_width types) new c.args.indexes.now)
           ];

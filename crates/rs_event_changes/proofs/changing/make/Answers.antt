@@ -11,8 +11,8 @@ use Rattle.rs_page_owners.proofs.Following.{works_err}
 use Rattle.rs_page_owners.proofs.Working.{CountsNothing-refl, CountsNothing-trans, Works-refl, Works-trans}
 use Rattle.rs_records.specs.Listed.{listed}
 use Rattle.rs_value.specs.Values.{IsRowOf}
-use Rattle.rs_event_changes.specs.Calls.{HoldsNoTableBy}
-use Rattle.rs_event_changes.specs.Chains.{ComeAll, EndAll, GivesWay}
+use Rattle.rs_event_changes.specs.Calls.{HoldsNoTableBy, end_at}
+use Rattle.rs_event_changes.specs.Chains.{ComeAll, EndAll, GivesWayAt}
 use Rattle.rs_event_changes.specs.Inner.{HoldsNoTableWith}
 use Rattle.rs_event_changes.proofs.Tables.{changes_then, none_made}
 use Rattle.rs_event_changes.proofs.changing.make.Goals as goal
@@ -25,8 +25,8 @@ returns-in_err-end_each-clause-leaves g c =
     let p = err_from_is_err_and c.from_residual.result c.from_residual.ensures.1 in
     record {
       keeps = c.in_err-end_each.ensures.leaves.keeps;
-      works = rw (p.1, p.2) (works_err (g.P.Pages.is_tied c.args.pages.now → HoldsNoTableWith c.args.version cells table.records.types first.map table.records.working table.indexes.items)
-          (g.P.Pages.is_tied c.args.pages.now → HoldsNoTableWith c.args.version cells table.records.types first.map table.records.working table.indexes.items) c.in_err-end_each.field-0.0
+      works = rw (p.1, p.2) (works_err (g.P.Pages.is_tied c.args.pages.now → HoldsNoTableWith c.args.moment.version cells table.records.types first.map table.records.working table.indexes.items)
+          (g.P.Pages.is_tied c.args.pages.now → HoldsNoTableWith c.args.moment.version cells table.records.types first.map table.records.working table.indexes.items) c.in_err-end_each.field-0.0
           first first (g.P.Pages.store c.end_each.new.pages) (Works-refl first) (CountsNothing-refl first) (λ none. none) c.in_err-end_each.ensures.leaves.works);
     }
 
@@ -53,12 +53,12 @@ returns-in_err-add_each-clause-leaves g c =
     let p = err_from_is_err_and c.from_residual-in_err-add_each.result c.from_residual-in_err-add_each.ensures.1 in
     record {
       keeps = g.met.P.Pages.keeps_trans c.args.pages.now c.end_each.new.pages c.add_each.new.pages c.in_ok-end_each.ensures.leaves.keeps c.in_err-add_each.ensures.leaves.keeps;
-      works = rw (p.1, p.2) (works_err (g.P.Pages.is_tied c.args.pages.now → HoldsNoTableWith c.args.version cells was.records.types first.map was.records.working was.indexes.items)
-          (g.P.Pages.is_tied c.end_each.new.pages → HoldsNoTableBy c.args.version next.records.types mid.map next.records.working next.indexes.items) c.in_err-add_each.field-0.0
+      works = rw (p.1, p.2) (works_err (g.P.Pages.is_tied c.args.pages.now → HoldsNoTableWith c.args.moment.version cells was.records.types first.map was.records.working was.indexes.items)
+          (g.P.Pages.is_tied c.end_each.new.pages → HoldsNoTableBy c.args.moment.version next.records.types mid.map next.records.working next.indexes.items) c.in_err-add_each.field-0.0
           first mid (g.P.Pages.store c.add_each.new.pages) c.in_ok-end_each.ensures.leaves.works.works c.in_ok-end_each.ensures.leaves.works.ends
           (λ none tied.
-          none_made was.records.types c.args.version cells first.map mid.map was.records.working next.records.working was.indexes.items next.indexes.items (c.in_ok-end_each.ensures.ended tied)
-          (subst (λ types. HoldsNoTableBy c.args.version types mid.map next.records.working next.indexes.items) c.in_ok-end_each.ensures.keeps.table.types
+          none_made was.records.types c.args.moment.version (end_at c.args.moment) cells first.map mid.map was.records.working next.records.working was.indexes.items next.indexes.items (c.in_ok-end_each.ensures.ended tied)
+          (subst (λ types. HoldsNoTableBy c.args.moment.version types mid.map next.records.working next.indexes.items) c.in_ok-end_each.ensures.keeps.table.types
           (none (g.met.P.Pages.keeps_tied c.args.pages.now c.end_each.new.pages c.in_ok-end_each.ensures.leaves.keeps tied))))
           c.in_err-add_each.ensures.leaves.works);
     }
@@ -84,12 +84,13 @@ returns-clause-made g c = λ tied gone say.
     let first = g.P.Pages.store c.args.pages.now in
     let mid = g.P.Pages.store c.end_each.new.pages in
     let last = g.P.Pages.store c.add_each.new.pages in
-    let version = c.args.version in
+    let version = c.args.moment.version in
+    let at = end_at c.args.moment in
     let route = c.args.route in
     let come = map seen c.args.edit.now.come.items in
     let step = c.in_ok-add_each.ensures.came (g.met.P.Pages.keeps_tied c.args.pages.now c.end_each.new.pages c.in_ok-end_each.ensures.leaves.keeps tied) in
     let listed_so = subst (λ (l : List Span). ChangesTable next.records.types mid.map last.map next.records.working is.records.working next.indexes.items is.indexes.items version version (ComeAll route version (map seen l))) c.deref.ensures.value step in
     let typed = subst (λ types. ChangesTable types mid.map last.map next.records.working is.records.working next.indexes.items is.indexes.items version version (ComeAll route version come)) c.in_ok-end_each.ensures.keeps.table.types listed_so in
     changes_then was.records.types first.map mid.map last.map was.records.working next.records.working is.records.working was.indexes.items next.indexes.items is.indexes.items version version version
-    (EndAll was.records.types version gone) (ComeAll route version come) (GivesWay was.records.types version route gone come) (λ a b d x y. record { between = b; ended = x; came = y })
+    (EndAll was.records.types at gone) (ComeAll route version come) (GivesWayAt was.records.types at version route gone come) (λ a b d x y. record { between = b; ended = x; came = y })
     (c.in_ok-end_each.ensures.ended tied gone say) typed

@@ -14,10 +14,11 @@ use Rattle.rs_records.specs.Listed.{listed}
 use Rattle.rs_refusal.specs.declared.refusal.Refusal.{Refusal}
 use Rattle.rs_value.specs.Values.{IsRowOf}
 use Rattle.rs_versioned.specs.Events.{is_visible}
-use Rattle.rs_event_changes.specs.Calls.{HoldsNoTableBy}
+use Rattle.rs_event_changes.specs.Calls.{HoldsNoTableBy, end_at}
 use Rattle.rs_event_changes.specs.Inner.{HoldsNoTableWith}
 use Rattle.rs_event_changes.specs.Picked.{SayNone, Takes}
 use Rattle.rs_event_changes.proofs.Finding.{none_said, none_with_these, none_without_tree}
+use Rattle.rs_event_changes.proofs.Moments.{ends_so}
 use Rattle.rs_event_changes.proofs.Removed.{are_there, none_removed, removed_in_pages}
 use Rattle.rs_event_changes.proofs.removal.remove.Goals as goal
 
@@ -25,7 +26,7 @@ pub returns-in_err-found-clause-leaves : goal.returns-in_err-found-clause-leaves
 returns-in_err-found-clause-leaves g c =
     let was = c.args.table.now in
     let first = g.P.Pages.store c.args.pages.now in
-    let none = g.P.Pages.is_tied c.args.pages.now → HoldsNoTableBy c.args.version was.records.types first.map was.records.working was.indexes.items in
+    let none = g.P.Pages.is_tied c.args.pages.now → HoldsNoTableBy c.args.moment.version was.records.types first.map was.records.working was.indexes.items in
     let p = err_from_is_err_and c.from_residual.result c.from_residual.ensures.1 in
     record {
       keeps = c.in_err-found.ensures.rests.below;
@@ -38,7 +39,7 @@ returns-in_err-found-clause-leaves g c =
               | inr damaged ↦ inr (inr (
                 damaged.0,
                 λ tied.
-                    none_without_tree was.records.types c.args.version first.map first.map (SamePages-refl first.map) was.records.working was.indexes.items (damaged.1 tied),
+                    none_without_tree was.records.types c.args.moment.version first.map first.map (SamePages-refl first.map) was.records.working was.indexes.items (damaged.1 tied),
               ))
             ]
           ])));
@@ -49,7 +50,7 @@ returns-in_err-left-clause-leaves g c =
     let was = c.args.table.now in
     let first = g.P.Pages.store c.args.pages.now in
     let mid = g.P.Pages.store c.visible.new.pages in
-    let none = g.P.Pages.is_tied c.args.pages.now → HoldsNoTableBy c.args.version was.records.types first.map was.records.working was.indexes.items in
+    let none = g.P.Pages.is_tied c.args.pages.now → HoldsNoTableBy c.args.moment.version was.records.types first.map was.records.working was.indexes.items in
     let found = c.in_ok-found.found in
     let rests = c.in_ok-found.ensures.rests in
     let read = rests-work g.P.Pages.is_tied g.P.Pages.store g.P.Pages.keeps (Unit {0}) (Ok found) c.args.pages.now c.visible.new.pages rests tt in
@@ -62,8 +63,8 @@ returns-in_err-left-clause-leaves g c =
         | inr damaged ↦
             subst (λ (w : Refusal). WorksAfter {T = ℕ} none (Err w) first mid) (sym damaged.0)
             (damaged_err none first mid read.works read.ends (λ tied.
-            none_said was.records.types c.args.version first.map mid.map (rests.rests.keeps.pages tied) was.records.working was.indexes.items
-            (is_visible c.args.version c.args.stretch.route c.args.stretch.lo c.args.stretch.hi) (listed found) (c.in_ok-found.ensures.found tied)
+            none_said was.records.types c.args.moment.version first.map mid.map (rests.rests.keeps.pages tied) was.records.working was.indexes.items
+            (is_visible c.args.moment.version c.args.stretch.route c.args.stretch.lo c.args.stretch.hi) (listed found) (c.in_ok-found.ensures.found tied)
             (subst (λ types. SayNone types (listed found)) c.schema.ensures damaged.1)))
       ]);
     }
@@ -85,7 +86,7 @@ returns-in_err-make-clause-leaves g c =
     let was = c.args.table.now in
     let first = g.P.Pages.store c.args.pages.now in
     let mid = g.P.Pages.store c.visible.new.pages in
-    let none = g.P.Pages.is_tied c.args.pages.now → HoldsNoTableBy c.args.version was.records.types first.map was.records.working was.indexes.items in
+    let none = g.P.Pages.is_tied c.args.pages.now → HoldsNoTableBy c.args.moment.version was.records.types first.map was.records.working was.indexes.items in
     let found = c.in_ok-found.found in
     let edit = c.in_ok-left.left.edit in
     let rests = c.in_ok-found.ensures.rests in
@@ -95,12 +96,12 @@ returns-in_err-make-clause-leaves g c =
     record {
       keeps = g.met.P.Pages.keeps_trans c.args.pages.now c.visible.new.pages c.make.new.pages rests.below c.in_err-make.ensures.leaves.keeps;
       works = rw (p.1, p.2) (works_err none
-          (g.P.Pages.is_tied c.visible.new.pages → HoldsNoTableWith c.args.version (listed edit.gone) was.records.types mid.map was.records.working was.indexes.items) c.in_err-make.field-0.0
+          (g.P.Pages.is_tied c.visible.new.pages → HoldsNoTableWith c.args.moment.version (listed edit.gone) was.records.types mid.map was.records.working was.indexes.items) c.in_err-make.field-0.0
           first mid (g.P.Pages.store c.make.new.pages) read.works read.ends
           (λ there tied.
-          none_with_these was.records.types c.args.version first.map mid.map (rests.rests.keeps.pages tied) was.records.working was.indexes.items
-          (is_visible c.args.version c.args.stretch.route c.args.stretch.lo c.args.stretch.hi) (listed found) (c.in_ok-found.ensures.found tied) (listed edit.gone)
-          (are_there was.records.types c.args.version c.args.stretch.route c.requires.may.mortal c.args.stretch.lo c.args.stretch.hi (option_copied c.args.goes) first.map was.records.working
+          none_with_these was.records.types c.args.moment.version first.map mid.map (rests.rests.keeps.pages tied) was.records.working was.indexes.items
+          (is_visible c.args.moment.version c.args.stretch.route c.args.stretch.lo c.args.stretch.hi) (listed found) (c.in_ok-found.ensures.found tied) (listed edit.gone)
+          (are_there was.records.types c.args.moment.version c.args.stretch.route c.requires.may.mortal c.args.stretch.lo c.args.stretch.hi (option_copied c.args.goes) first.map was.records.working
           (listed found) (listed edit.gone) (map seen edit.come.items) c.in_ok-left.left.count (c.in_ok-found.ensures.found tied) takes)
           (there (g.met.P.Pages.keeps_tied c.args.pages.now c.visible.new.pages rests.below tied)))
           c.in_err-make.ensures.leaves.works);
@@ -109,7 +110,7 @@ returns-in_err-make-clause-leaves g c =
 pub returns-then-hi-lo-clause-removes : goal.returns-then-hi-lo-clause-removes
 returns-then-hi-lo-clause-removes g c = λ tied accepted before.
     let was = c.args.table.now in
-    none_removed was.records.types c.args.version c.args.stretch.route c.requires.may.mortal c.args.stretch.lo c.args.stretch.hi (option_copied c.args.goes) (g.P.Pages.store c.args.pages.now).map was.records.working was.indexes.items
+    none_removed was.records.types c.args.moment.version c.args.stretch.route c.requires.may.mortal c.args.stretch.lo c.args.stretch.hi (option_copied c.args.goes) (g.P.Pages.store c.args.pages.now).map was.records.working c.args.moment.oldest was.indexes.items
     (omega (arith, c.if-hi-lo.true)) accepted before
 
 pub returns-clause-removes : goal.returns-clause-removes
@@ -123,7 +124,8 @@ returns-clause-removes g c = λ tied accepted before.
     let edit = c.in_ok-left.left.edit in
     let rests = c.in_ok-found.ensures.rests in
     let takes = subst (λ types. Takes types c.args.stretch.lo c.args.stretch.hi (goes_by (option_copied c.args.goes)) (listed found) (listed edit.gone) (map seen edit.come.items) c.in_ok-left.left.count) c.schema.ensures c.in_ok-left.ensures.takes in
-    removed_in_pages was.records.types c.args.version c.args.stretch.route c.requires.may.mortal c.args.stretch.lo c.args.stretch.hi (option_copied c.args.goes) first.map was.records.working
+    removed_in_pages was.records.types c.args.moment.version c.args.stretch.route c.requires.may.mortal c.args.stretch.lo c.args.stretch.hi (option_copied c.args.goes) first.map was.records.working
     (listed found) (listed edit.gone) (map seen edit.come.items) c.in_ok-left.left.count (c.in_ok-found.ensures.found tied) takes
     (omega (arith, c.if-hi-lo.false)) mid.map last.map (rests.rests.keeps.pages tied) is.records.working was.indexes.items is.indexes.items c.what_gave_way_is_still_seen.ensures
+    c.args.moment.oldest (end_at c.args.moment) (ends_so c.args.moment)
     (c.in_ok-make.ensures.made (g.met.P.Pages.keeps_tied c.args.pages.now c.visible.new.pages rests.below tied)) accepted before

@@ -6,7 +6,7 @@ use Rattle.rs_event_changes.specs.Changes.{Inserts}
 use Rattle.rs_facts.specs.Spans.{seen}
 use Rattle.rs_file_changes.proofs.Ready.{keeps_then, ready_after}
 use Rattle.rs_pages.specs.PageMap.{PageMap}
-use Rattle.rs_state_changes.proofs.TablesPlaced.{ChangesBy, made_next, same_directory}
+use Rattle.rs_state_changes.proofs.TakenRows.{TakesBy, same_directory, taken_file, taken_next}
 use Rattle.rs_state_changes.proofs.Wholes.{changes_file, completion_refused, numbers_stay, routes_stay, stored_by_storing}
 use Rattle.rs_state_laws.specs.Changing.{HoldsNoFile}
 use Rattle.rs_versioned.specs.Events.{Event}
@@ -24,11 +24,11 @@ returns-in_err-complete-clause-leaves g c =
     let old = g.P.Pages.store c.args.pages.now in
     let mid = g.P.Pages.store c.insert_in_place.new.pages in
     let p = err_from_is_err_and c.from_residual-in_err-complete.result c.from_residual-in_err-complete.ensures.1 in
-    rw (p.1, p.2) (completion_refused g.P.Pages was c.in_err-complete.field-0.0 c.args.pages.now c.insert_in_place.new.pages c.complete.new.pages between (ChangesBy place by) c.in_ok-count.ensures.keeps.accepted
+    rw (p.1, p.2) (completion_refused g.P.Pages was c.in_err-complete.field-0.0 c.args.pages.now c.insert_in_place.new.pages c.complete.new.pages between (TakesBy c.args.oldest place by) c.in_ok-count.ensures.keeps.accepted
     (g.met.P.Pages.keeps_trans c.args.pages.now c.insert_in_place.new.pages c.complete.new.pages c.in_ok-count.ensures.leaves.keeps c.in_err-complete.ensures.leaves.keeps)
     (g.met.P.Pages.keeps_tied c.args.pages.now c.insert_in_place.new.pages c.in_ok-count.ensures.leaves.keeps)
     (stored_by_storing (g.P.Pages.is_tied c.args.pages.now → HoldsNoFile old.map was) c.in_ok-count.count old mid c.in_ok-count.ensures.leaves.stores)
-    (λ tied. made_next place by old.map mid.map was between (c.in_ok-count.ensures.inserts tied))
+    (λ tied. taken_next c.args.oldest place by old.map mid.map was between c.requires.may.room c.in_ok-count.ensures.more (c.in_ok-count.ensures.inserts tied))
     c.in_err-complete.ensures.leaves)
 
 pub returns-in_err-complete-clause-opened : goal.returns-in_err-complete-clause-opened
@@ -45,8 +45,10 @@ returns-clause-inserts g c = λ tied.
     let old : PageMap = (g.P.Pages.store c.args.pages.now).map in
     let mid : PageMap = (g.P.Pages.store c.insert_in_place.new.pages).map in
     let new : PageMap = (g.P.Pages.store c.complete.new.pages).map in
-    changes_file old mid was between (ChangesBy place by) c.in_ok-count.ensures.keeps.accepted (made_next place by old mid was between (c.in_ok-count.ensures.inserts tied))
-    c.args.oldest c.garbage-before.result new c.complete.new.file c.garbage-before.ensures (same_directory place by)
+    taken_file c.args.oldest place by old new was c.complete.new.file
+    (changes_file old mid was between (TakesBy c.args.oldest place by) c.in_ok-count.ensures.keeps.accepted
+    (taken_next c.args.oldest place by old mid was between c.requires.may.room c.in_ok-count.ensures.more (c.in_ok-count.ensures.inserts tied))
+    c.args.oldest c.garbage-before.result new c.complete.new.file c.garbage-before.ensures (same_directory c.args.oldest place by)
     (λ contents holds opened. routes_stay old contents was between c.in_ok-count.ensures.keeps.definitions holds opened)
     (λ contents holds opened. numbers_stay old contents was between c.in_ok-count.ensures.keeps.definitions holds opened)
-    (c.in_ok-complete.ensures.completes (g.met.P.Pages.keeps_tied c.args.pages.now c.insert_in_place.new.pages c.in_ok-count.ensures.leaves.keeps tied))
+    (c.in_ok-complete.ensures.completes (g.met.P.Pages.keeps_tied c.args.pages.now c.insert_in_place.new.pages c.in_ok-count.ensures.leaves.keeps tied)))

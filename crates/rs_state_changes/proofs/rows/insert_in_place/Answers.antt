@@ -1,14 +1,15 @@
 -- The table at its place changes.
-use Rattle.std.proofs.Common.{◌+◌, ℕ, refl, arith}
+use Rattle.std.proofs.Common.{◌+◌, ℕ, min, refl, arith}
 use Rattle.std.proofs.lemmas.Result.{IfOk-weaker}
 use Rattle.std.specs.Vec.{with_item}
 use Rattle.rs_contents.specs.declared.opened.OpenedFile.{OpenedFile}
 use Rattle.rs_contents.specs.declared.opened.OpenedTable.{OpenedTable}
 use Rattle.rs_event_changes.specs.Changes.{Inserted, Inserts}
+use Rattle.rs_event_changes.specs.declared.moment.Moment.{Moment}
 use Rattle.rs_facts.specs.Spans.{seen}
 use Rattle.rs_file_changes.proofs.Placed.{place_keeps, place_on_cells}
 use Rattle.rs_state_changes.specs.InPlace.{MakesAt}
-use Rattle.rs_state_changes.proofs.TablesPlaced.{leaves_placed, made_placed, order_later, order_placed, tables_died}
+use Rattle.rs_state_changes.proofs.TablesPlaced.{garbage_placed, leaves_placed, made_placed, order_later, order_placed, tables_died}
 use Rattle.rs_state_changes.proofs.rows.insert_in_place.Goals as goal
 
 pub insert-requires-clause-may : goal.insert-requires-clause-may
@@ -34,9 +35,11 @@ returns-clause-inserts g c = λ tied.
     let old = (g.P.Pages.store c.args.pages.now).map in
     let new = (g.P.Pages.store c.insert.new.pages).map in
     let version : ℕ = was.accepted + 1 in
-    IfOk-weaker c.insert.result (Inserted old new one now c.args.insertion.now.kind version c.args.insertion.now.route (seen c.args.insertion.now.span))
-    (λ count. MakesAt old new was is place (Inserts c.args.insertion.now.kind was.accepted version c.args.insertion.now.route (seen c.args.insertion.now.span) count))
-    (λ count did. made_placed was place one c.requires.row.there c.index_mut.ensures.value now c.insert.ensures.keeps.table old new is (Inserts c.args.insertion.now.kind was.accepted version c.args.insertion.now.route (seen c.args.insertion.now.span) count) refl refl refl refl
+    let level : ℕ = min c.args.oldest version in
+    let moment : Moment = record { version = version; oldest = c.args.oldest } in
+    IfOk-weaker c.insert.result (Inserted old new one now moment c.args.insertion.now.kind c.args.insertion.now.route (seen c.args.insertion.now.span))
+    (λ count. MakesAt old new was is place level (Inserts c.args.insertion.now.kind was.accepted version c.args.insertion.now.route (seen c.args.insertion.now.span) count))
+    (λ count did. made_placed was place one c.requires.row.there c.index_mut.ensures.value now c.insert.ensures.keeps.table old new is level (Inserts c.args.insertion.now.kind was.accepted version c.args.insertion.now.route (seen c.args.insertion.now.span) count) refl refl refl refl
     (did was.accepted (omega arith)))
     (c.insert.ensures.inserts tied)
 
@@ -55,3 +58,6 @@ returns-clause-order g c = record {
       c.requires.may.opened.order c.insert.ensures.keeps.order;
   referents = (order_later c.args.file.now.accepted (c.args.file.now.accepted + 1) c.args.file.now (omega arith) c.requires.may.opened.order).referents;
 }
+
+pub returns-clause-more : goal.returns-clause-more
+returns-clause-more g c = garbage_placed c.args.file.now c.args.insertion.now.table c.index_mut.result.now c.requires.row.there c.index_mut.ensures.value c.insert.new.table c.insert.ensures.keeps.more

@@ -53,16 +53,16 @@ list_written-requires-clause-order g c =
     let died : died_of c.write.new.self.written ≡ c.args.version = ap died_of written ∙ died-ended c.args.version c.args.cell.now (omega (arith, c.requires.version)) in
     let same : c.args.self.now.working.dead ≡ c.write.new.self.working = sym (ap (λ (v : Versioned). v.working.dead) c.self.view_is) ∙ sym c.write.ensures.working in
     subst (λ (n : ℕ). AllByRecursion (λ dead. died_of dead ≤ n) c.write.new.self.working) (sym died)
-    (subst (λ (cells : List (List ℕ)). AllByRecursion (λ dead. died_of dead ≤ c.args.version) cells) same c.requires.order)
+    (subst (λ (cells : List (List ℕ)). AllByRecursion (λ dead. died_of dead ≤ c.args.version) cells) same (c.requires.order (c.in_ok-ended.ensures.late c.if-ended.true)))
 
 pub returns-then-ended-clause-order : goal.returns-then-ended-clause-order
-returns-then-ended-clause-order g c =
+returns-then-ended-clause-order g c = λ last later before.
     let written : c.write.new.self.written ≡ ended c.args.version c.args.cell.now = search rules in
     let died : died_of c.write.new.self.written ≡ c.args.version = ap died_of written ∙ died-ended c.args.version c.args.cell.now (omega (arith, c.requires.version)) in
     let same : c.args.self.now.working.dead ≡ c.write.new.self.working = sym (ap (λ (v : Versioned). v.working.dead) c.self.view_is) ∙ sym c.write.ensures.working in
-    subst (λ (cells : List (List ℕ)). AllByRecursion (λ dead. died_of dead ≤ c.args.version) cells) (sym c.list_written.ensures.working)
-    (all_push (λ dead. died_of dead ≤ c.args.version) c.write.new.self.working c.write.new.self.written
-    (subst (λ (cells : List (List ℕ)). AllByRecursion (λ dead. died_of dead ≤ c.args.version) cells) same c.requires.order) (omega (arith, died)))
+    subst (λ (cells : List (List ℕ)). AllByRecursion (λ dead. died_of dead ≤ last) cells) (sym c.list_written.ensures.working)
+    (all_push (λ dead. died_of dead ≤ last) c.write.new.self.working c.write.new.self.written
+    (subst (λ (cells : List (List ℕ)). AllByRecursion (λ dead. died_of dead ≤ last) cells) same before) (omega (arith, died, later)))
 
 pub returns-then-ended-clause-kills : goal.returns-then-ended-clause-kills
 returns-then-ended-clause-kills g c = λ tied.

@@ -1,10 +1,13 @@
 -- The record of the cell ends as the cell does.
+use Rattle.std.proofs.Common.{sym, subst}
 use Rattle.std.proofs.lemmas.Result.{IfOk-weaker}
 use Rattle.rs_tree.specs.Forms.{form}
 use Rattle.rs_cell_versions.specs.Calls as cells
 use Rattle.rs_cell_versions.specs.Changes.{Ends}
+use Rattle.rs_cell_versions.specs.Version.{HaveDiedBy}
 use Rattle.rs_versioned.specs.Calls.{IsEnded}
 use Rattle.rs_versioned.specs.Kinds.{kept_as}
+use Rattle.rs_versioned.specs.Tables.{TableState}
 use Rattle.rs_versioned.proofs.Changing.{is_ended}
 use Rattle.rs_versioned.proofs.InTables.{in_table, kept_in_table}
 use Rattle.rs_versioned.proofs.record_table.RecordTable.kill.Goals as goal
@@ -28,3 +31,7 @@ returns-clause-kills g c = λ tied.
     (here (λ width working. Ends (form summary width) old new working is version cell) ended.ends)
     (here (λ width working. cells.TellsOf (form summary width) old working cell found) ended.tells))
     (c.kill.ensures.kills tied)
+
+pub returns-clause-order : goal.returns-clause-order
+returns-clause-order g c = λ last later before.
+    c.kill.ensures.order last later (subst (λ (table : TableState _). HaveDiedBy last table.working.dead) (sym c.self.view_is) before)
