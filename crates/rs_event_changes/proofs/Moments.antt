@@ -1,7 +1,7 @@
 -- The version at which events end in a change.
-use Rattle.std.proofs.Common.{◌≡◌, ◌<◌, ◌≤◌, ◌⊎◌, ℕ, Bool, true, false, inl, inr, refl, arith}
+use Rattle.std.proofs.Common.{◌≡◌, ◌≤◌, true, false, inl, inr, refl, arith}
 use Rattle.std.proofs.lemmas.Bool.{cases_lt, le-ltb, lt-ltb}
-use Rattle.std.specs.Prelude.{if◌then◌else◌, nat_lt}
+use Rattle.std.specs.Prelude.{nat_lt}
 use Rattle.rs_event_changes.specs.Calls.{end_at}
 use Rattle.rs_event_changes.specs.declared.moment.Moment.{Moment}
 use Rattle.rs_event_changes.proofs.Taken.{EndsSo}

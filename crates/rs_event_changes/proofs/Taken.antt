@@ -1,5 +1,5 @@
 -- Events that are taken out: it comes to the same as if they had ended at the version and were cleared.
-use Rattle.std.proofs.Common.{◌≡◌, ◌≢◌, ◌<◌, ◌≤◌, ◌⊎◌, ℕ, Bool, min, inl, inr, List, [], ◌∷◌, ◌++◌, map, filter, not, append_assoc, append-nil, refl, sym, ap, ◌∙◌, subst, arith}
+use Rattle.std.proofs.Common.{◌≡◌, ◌≢◌, ◌<◌, ◌≤◌, ◌⊎◌, ℕ, Bool, min, inl, inr, List, [], ◌∷◌, ◌++◌, map, filter, not, append_assoc, append-nil, refl, ap, ◌∙◌, subst, arith}
 use Rattle.std.proofs.lemmas.List.Elements.{Contains-append_cases, Contains-append_left}
 use Rattle.std.proofs.lemmas.List.Sorted.{Contains-permutation, IsPermutation-append_comm, IsPermutation-append_left, IsPermutation-cons, IsPermutation-filter_both, IsPermutation-refl, IsPermutation-sym, IsPermutation-to_front, IsPermutation-trans}
 use Rattle.std.specs.List.{AllByRecursion, AllZip, Contains}
@@ -9,7 +9,7 @@ use Rattle.rs_cell_versions.specs.declared.cell.TheConstants.{LIVING}
 use Rattle.rs_facts.specs.Runs.{Stretch}
 use Rattle.rs_value.specs.declared.column.ColumnType.{ColumnType}
 use Rattle.rs_versioned.specs.Events.{Event, SaysEvent, ended_event, kept_events}
-use Rattle.rs_versioned.specs.Records.{HasCleared, HasEnded, HasOneMore}
+use Rattle.rs_versioned.specs.Records.{HasEnded, HasOneMore}
 use Rattle.rs_versioned.proofs.KeptRecords.{events_are_kept}
 use Rattle.rs_versioned.proofs.MeantLists.{all_weaker}
 use Rattle.rs_versioned.proofs.Present.{IsDatedRecord}

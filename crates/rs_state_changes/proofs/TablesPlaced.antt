@@ -8,7 +8,7 @@ use Rattle.rs_attr.specs.Calls.{KeepsTable}
 use Rattle.rs_attr.specs.Tables.{ChangesTable, HoldsTable, IndexState}
 use Rattle.rs_cell_versions.specs.Version.{HaveDiedBy}
 use Rattle.rs_cell_versions.specs.Versioned.{Standing}
-use Rattle.rs_contents.specs.Contents.{Contents, LiesTable, TableContents, beside_table}
+use Rattle.rs_contents.specs.Contents.{LiesTable, TableContents, beside_table}
 use Rattle.rs_contents.specs.Opening.{IsOpened}
 use Rattle.rs_contents.specs.declared.opened.OpenedFile.{OpenedFile}
 use Rattle.rs_contents.specs.declared.opened.OpenedTable.{OpenedTable}

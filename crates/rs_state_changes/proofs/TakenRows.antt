@@ -1,5 +1,5 @@
 -- A change of one table after which records were taken out is the change, and then these are cleared.
-use Rattle.std.proofs.Common.{◌≡◌, ◌<◌, ◌≤◌, ◌+◌, ◌-◌, ℕ, min, length, List, [], ◌∷◌, ◌++◌, refl, sym, ap, ◌∙◌, subst, arith}
+use Rattle.std.proofs.Common.{◌≡◌, ◌<◌, ◌≤◌, ◌+◌, ℕ, min, length, List, [], ◌∷◌, ◌++◌, refl, sym, ap, subst, arith}
 use Rattle.std.specs.List.{AllByRecursion, AllZip, sum_by}
 use Rattle.rs_cell_versions.specs.declared.cell.TheConstants.{LIVING}
 use Rattle.rs_catalog_pages.specs.Directory.{DirectoryItems}
@@ -29,15 +29,15 @@ cleared_later {R = R} kept level later upto cells old now cleared = record { gon
 
 module _ (place level : ℕ) (change : List Event → List Event → Type 0) (old now : Contents) (at : ChangesThenCleared place level change old now) where
   -- how many were taken out
-  pub gone : ℕ
+  abbrev pub gone : ℕ
   gone = length at.changed.cells
 
   -- the table before they were
-  whole : TableContents
+  abbrev whole : TableContents
   whole = record at.next { events = at.changed.between }
 
   -- the contents before they were
-  pub between : Contents
+  abbrev pub between : Contents
   between = record old { tables = at.before ++ whole ∷ at.after }
 
   pub changes_at : ChangesTableAt place change old between

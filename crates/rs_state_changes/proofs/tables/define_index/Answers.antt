@@ -19,7 +19,7 @@ use Rattle.rs_state_changes.proofs.Among.{removed_again}
 use Rattle.rs_state_changes.proofs.Commuting.{ThenChanges, index_commutes}
 use Rattle.rs_state_changes.proofs.Next.{file_changed, next_written, none_next}
 use Rattle.rs_state_changes.proofs.Readied.{ready_with_index}
-use Rattle.rs_state_changes.proofs.Replaced.{any_err, births_still, here_is, index_fits, index_made, indexed_there, open_there, place_kept, place_order, place_restored, read_back}
+use Rattle.rs_state_changes.proofs.Replaced.{births_still, here_is, index_fits, index_made, indexed_there, open_there, place_kept, place_order, place_restored, read_back}
 use Rattle.rs_state_changes.proofs.Wholes.{leaves_refused, no_file, part_refused, stored_by_works, stored_then, storing_by_works}
 use Rattle.rs_state_laws.specs.Parts.{ChangesIndexes, ChangesTableAt}
 use Rattle.rs_state_changes.proofs.tables.define_index.Goals as goal

@@ -19,7 +19,7 @@ use Rattle.rs_state_changes.proofs.Commuting.{ThenChanges, table_commutes, then_
 use Rattle.rs_state_changes.proofs.Next.{file_changed, next_written, none_next}
 use Rattle.rs_state_changes.proofs.Placing.{order_with_table, place_to_come}
 use Rattle.rs_state_changes.proofs.Readied.{ready_with_table}
-use Rattle.rs_state_changes.proofs.Replaced.{any_err, births_still}
+use Rattle.rs_state_changes.proofs.Replaced.{births_still}
 use Rattle.rs_state_changes.proofs.Wholes.{leaves_refused, part_refused, stored_by_works}
 use Rattle.rs_state_laws.specs.Parts.{PutsTable}
 use Rattle.rs_state_changes.proofs.tables.define_table.Goals as goal

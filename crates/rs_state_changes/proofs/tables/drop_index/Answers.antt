@@ -18,7 +18,7 @@ use Rattle.rs_state_changes.specs.Tables.{HasIndexAt, HoldsNoneBeside, StaySame}
 use Rattle.rs_state_changes.proofs.Commuting.{ThenChanges, index_commutes}
 use Rattle.rs_state_changes.proofs.Next.{file_changed, next_written, none_next}
 use Rattle.rs_state_changes.proofs.Readied.{ready_without_index}
-use Rattle.rs_state_changes.proofs.Replaced.{any_err, births_still, here_is, index_made, open_there, place_kept, place_order, place_restored, position_inside, read_back, when_ok}
+use Rattle.rs_state_changes.proofs.Replaced.{births_still, here_is, index_made, open_there, place_kept, place_order, place_restored, position_inside, read_back, when_ok}
 use Rattle.rs_state_changes.proofs.Wholes.{leaves_refused, no_file, part_refused, stored_by_storing, stored_by_works, stored_ok, stored_then, storing_by_works}
 use Rattle.rs_state_laws.specs.Changing.{HoldsNoFile}
 use Rattle.rs_state_laws.specs.Parts.{ChangesIndexes, ChangesTableAt}

@@ -17,7 +17,7 @@ use Rattle.rs_state_changes.specs.Tables.{HoldsNoneBeside, LosesTableAt}
 use Rattle.rs_state_changes.proofs.Next.{file_changed, next_written, none_next}
 use Rattle.rs_state_changes.proofs.Placing.{order_without_table, place_to_go, put_again}
 use Rattle.rs_state_changes.proofs.Readied.{ready_without_table}
-use Rattle.rs_state_changes.proofs.Replaced.{any_err, births_still, when_ok}
+use Rattle.rs_state_changes.proofs.Replaced.{births_still, when_ok}
 use Rattle.rs_state_changes.proofs.Tabled.{EmptiedAndCleared, GoesCleared, emptied_and_cleared, table_gone, table_leaves}
 use Rattle.rs_state_changes.proofs.Wholes.{leaves_refused, no_file, part_refused, stored_by_works, stored_then, storing_by_works}
 use Rattle.rs_state_laws.specs.Parts.{ChangesTableAt, TakesTable}
