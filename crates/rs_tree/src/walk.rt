@@ -25,7 +25,7 @@ use rs_pages::Pages;
 use rs_records::{Cells, place, record_at};
 use rs_refusal::Refusal;
 
-/// Walks through the part of a tree with this page at its top.
+/// Walks through the part of a tree with this page at its top. An inner page is copied.
 #[cycle(walking)]
 pub fn walk<P: Pages, S: Summary, F: Fn(&S) -> bool>(
     pages: &mut P,
@@ -34,6 +34,7 @@ pub fn walk<P: Pages, S: Summary, F: Fn(&S) -> bool>(
     wanted: &Wanted<'_, F>,
     left: &mut u32,
     cells: &mut Cells,
+    copy: &mut Page,
 ) -> Result<(), Refusal>
     requires callable { F.IsAlwaysCallable wanted.now.keep.now }
     requires width { record_width cells.old ≡ wanted.now.layout.width }
@@ -53,17 +54,16 @@ pub fn walk<P: Pages, S: Summary, F: Fn(&S) -> bool>(
         → HasNoPart (form_in S.Summary wanted.now.layout) (P.store pages.old).map number
         levels left.old }
 {
-    let mut inner = Page::new();
-    let Some(count) = look(pages, number, wanted, left, cells, &mut inner)? else {
+    let Some(count) = look(pages, number, wanted, left, cells, copy)? else {
         return Ok(());
     };
     if levels == 0 {
         return Err(Refusal::DamagedFile);
     }
-    walk_entries(pages, &inner, count, levels, wanted, left, cells)
+    walk_entries(pages, copy, count, levels, wanted, left, cells)
 }
 
-/// Walks through what the entries of an inner page say.
+/// Walks through what the entries of an inner page say. There is one place for the copies of the pages below, one after another.
 #[cycle(walking)]
 fn walk_entries<P: Pages, S: Summary, F: Fn(&S) -> bool>(
     pages: &mut P,
@@ -97,9 +97,10 @@ fn walk_entries<P: Pages, S: Summary, F: Fn(&S) -> bool>(
 {
     let bytes = content(page);
     let (from, to) = entries_within(bytes, wanted.layout, count, wanted.low, wanted.high);
+    let mut below = Page::new();
     for index in from..to {
         let entry = record_at(bytes, wanted.layout.entry_width(), index);
-        walk_entry(pages, entry, levels, wanted, left, cells)?;
+        walk_entry(pages, entry, levels, wanted, left, cells, &mut below)?;
     }
     Ok(())
 }
@@ -113,6 +114,7 @@ fn walk_entry<P: Pages, S: Summary, F: Fn(&S) -> bool>(
     wanted: &Wanted<'_, F>,
     left: &mut u32,
     cells: &mut Cells,
+    copy: &mut Page,
 ) -> Result<(), Refusal>
     requires callable { F.IsAlwaysCallable wanted.now.keep.now }
     requires width { record_width cells.old ≡ wanted.now.layout.width }
@@ -138,7 +140,7 @@ fn walk_entry<P: Pages, S: Summary, F: Fn(&S) -> bool>(
         return Ok(());
     }
     let number = child(entry, wanted.layout);
-    walk(pages, number, levels - 1, wanted, left, cells)
+    walk(pages, number, levels - 1, wanted, left, cells, copy)
 }
 
 /// The first entry that may say a cell within the bounds, and the one after the last.

@@ -1,5 +1,5 @@
 -- Whichever part has the page at its top, its page is what was lent.
-use Rattle.std.proofs.Common.{◌≡◌, Result, Err, inl, inr, rules}
+use Rattle.std.proofs.Common.{Result, Err, inl, inr, rules}
 use Rattle.rs_refusal.specs.declared.refusal.Refusal.{Refusal}
 use Rattle.rs_pages.specs.Lending.{RestsAfter}
 use Rattle.rs_tree.specs.Reading.{HasNoNode}
