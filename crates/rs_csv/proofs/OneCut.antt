@@ -1,5 +1,5 @@
 -- The input is cut in one way.
-use Rattle.std.proofs.Common.{◌≡◌, ◌∙◌, ℕ, Bool, true, false, List, [], ◌∷◌, ◌++◌, refl, sym, ap, subst, append_assoc}
+use Rattle.std.proofs.Common.{◌≡◌, ◌∙◌, ℕ, true, false, List, [], ◌∷◌, ◌++◌, refl, sym, ap, subst, append_assoc}
 use Rattle.std.specs.Prelude.{All}
 use Rattle.std.specs.List.{concat}
 use Rattle.std.proofs.lemmas.Bool.{false≢true}
@@ -7,7 +7,7 @@ use Rattle.std.proofs.lemmas.List.Elements.{All-head, All-tail}
 use Rattle.rs_csv.specs.declared.quoting.Place.{Place}
 use Rattle.rs_csv.specs.declared.quoting.Place.TheVariants as places
 use Rattle.rs_csv.specs.Quoting.{after, ends_record}
-use Rattle.rs_csv.specs.Cutting.{HasNoEnd, IsCut, IsRawRecord, after_all}
+use Rattle.rs_csv.specs.Cutting.{HasNoEnd, IsRawRecord, after_all}
 
 both : (place : Place) (byte other : ℕ) → byte ≡ other → ends_record place byte ≡ true → ends_record place other ≡ false → ⊥
 both place byte other same ends none = false≢true (sym none ∙ sym (ap (ends_record place) same) ∙ ends)

@@ -31,6 +31,16 @@ pub record IsDefinition (session : ℕ) (definition : Definition) : Type 0 where
   pub asks : Asks (string_bytes definition.line) (command session (table_of definition))
   pub sound : IsSound (table_of definition)
 
+-- What a job is: what is to be made, and the table that its words define.
+pub record JobParts : Type 0 where
+  pub wanted : Wanted
+  pub definition : Definition
+
+-- The lines are of a session that there is, and the table is defined by a line of it.
+pub record IsJob (wanted : Wanted) (definition : Definition) : Type 0 where
+  pub in_range : wanted.session < 64
+  pub defines : IsDefinition wanted.session definition
+
 -- The plan is of this table: its name, and its columns in their order. Each field that it takes has in the header the name that is wanted.
 pub record IsPlanOf (wanted : Wanted) (table : CommandTree) (header : List (List ℕ)) (plan : Plan) : Type 0 where
   pub kind : Kind

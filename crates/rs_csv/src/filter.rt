@@ -8,7 +8,7 @@ ghost use Rattle.rs_protocol.specs.Puts.{PutsBut};
 ghost use Rattle.rs_syntax.specs.Tree.{CommandTree};
 ghost use Rattle.rs_csv_lines.specs.declared.plan.Plan.{Plan};
 ghost use Rattle.rs_csv.specs.Cutting.{IsBatchOf, IsBetween, text_of};
-ghost use Rattle.rs_csv.specs.Output.{Ends, GoesFar, GoesOn, IsDefinition, IsPlanOf, IsPlanned, IsQuiet, Makes, SendsMore, SoFar, TakesHead, TakesInput, TakesMore, TakesRest, held_texts, table_of};
+ghost use Rattle.rs_csv.specs.Output.{Ends, GoesFar, GoesOn, IsPlanOf, IsPlanned, IsQuiet, Makes, SendsMore, SoFar, TakesHead, TakesInput, TakesMore, TakesRest, held_texts, table_of};
 ghost use Rattle.rs_csv.specs.Reading.{ReadsAll};
 
 use crate::batch::{Batch, Taken};
@@ -23,6 +23,7 @@ use rs_csv_lines::Plan;
 use rs_protocol::{Fault, put_parts};
 use std::alloc::{AllocError, AllocFailed, Global};
 use std::io::{Read, Write};
+use std::marker::Model;
 
 /// How many bytes are read at once, at the most.
 const PIECE_BYTES: usize = 4_096;
@@ -98,6 +99,16 @@ pub struct Job<'a> {
     pub definition: Definition,
 }
 
+impl<'a> Model for Job<'a> {
+    ghost use Rattle.rs_csv.specs.Output.{IsJob, JobParts};
+
+    ghost Value = { JobParts };
+
+    ghost view = { λ job. record { wanted = job.wanted; definition = job.definition } };
+
+    ghost invariant = { λ job. IsJob job.wanted job.definition };
+}
+
 /// How the records are made into lines, by their header.
 #[derive(Drop)]
 pub struct Planned {
@@ -136,7 +147,6 @@ impl Progress {
 
 // Makes the line that defines the table, where it is wanted.
 fn put_definition(job: &Job<'_>, bytes: &mut Vec<u8>) -> Result<(), AllocError>
-    requires { IsDefinition job.now.wanted.session job.now.definition }
     ensures { OnOk result ((plan : Plan) (told : Bool) → GoesOn job.now.wanted.session (table_of job.now.definition) plan told [] bytes.old.items bytes.new.items) }
 {
     if !job.wanted.defines_table {
@@ -152,8 +162,6 @@ fn take_header<E: Write>(
     made: &mut Made,
     errors: &mut E,
 ) -> Result<Planned, Stop>
-    requires in_range { job.now.wanted.session < 64 }
-    requires defines { IsDefinition job.now.wanted.session job.now.definition }
     ensures header { IfOk result (λ planned. planned.header ≡ header) }
     ensures plan { IfOk result (λ planned. IsPlanOf job.now.wanted (table_of job.now.definition) (fields_of header) planned.plan) }
     ensures made { OnOk result ((plan : Plan) (told : Bool) → GoesOn job.now.wanted.session (table_of job.now.definition) plan told [] made.old.bytes.items made.new.bytes.items) }
@@ -171,8 +179,6 @@ fn take_next<E: Write>(
     progress: &mut Progress,
     errors: &mut E,
 ) -> Result<(), Stop>
-    requires in_range { job.now.wanted.session < 64 }
-    requires defines { IsDefinition job.now.wanted.session job.now.definition }
     requires planned { IsPlanned job.now.wanted (table_of job.now.definition) progress.old }
     ensures planned { OnOk result (IsPlanned job.now.wanted (table_of job.now.definition) progress.new) }
     ensures made { OnOk result (Makes job.now.wanted (table_of job.now.definition) (fields_of record.now ∷ []) progress.old progress.new) }
@@ -203,8 +209,6 @@ fn read_records<E: Write>(
     progress: &mut Progress,
     errors: &mut E,
 ) -> Result<(), Stop>
-    requires in_range { job.now.wanted.session < 64 }
-    requires defines { IsDefinition job.now.wanted.session job.now.definition }
     requires planned { IsPlanned job.now.wanted (table_of job.now.definition) progress.old }
     ensures planned { OnOk result (IsPlanned job.now.wanted (table_of job.now.definition) progress.new) }
     ensures made { OnOk result ((records : List (List (List ℕ))) × ReadsAll text.now records × Makes job.now.wanted (table_of job.now.definition) records progress.old progress.new) }
@@ -249,8 +253,6 @@ pub fn write_text<W: Write, E: Write>(
     output: &mut W,
     errors: &mut E,
 ) -> Result<(), Stop>
-    requires in_range { job.now.wanted.session < 64 }
-    requires defines { IsDefinition job.now.wanted.session job.now.definition }
     requires planned { IsPlanned job.now.wanted (table_of job.now.definition) progress.old }
     ensures planned { OnOk result (IsPlanned job.now.wanted (table_of job.now.definition) progress.new) }
     ensures sent { (more : List (List ℕ)) → text.now ≡ text_of more → SendsMore job.now.wanted (table_of job.now.definition) result more progress.old progress.new (W.contents output.old) (W.contents output.new) }
@@ -269,8 +271,6 @@ fn hold_text<E: Write>(
     progress: &mut Progress,
     errors: &mut E,
 ) -> Result<(), Stop>
-    requires in_range { job.now.wanted.session < 64 }
-    requires defines { IsDefinition job.now.wanted.session job.now.definition }
     requires planned { IsPlanned job.now.wanted (table_of job.now.definition) progress.old }
     ensures planned { OnOk result (IsPlanned job.now.wanted (table_of job.now.definition) progress.new) }
     ensures held { OnOk result (held_texts progress.new ≡ held_texts progress.old ++ text.now ∷ []) }
@@ -295,8 +295,6 @@ fn take_text<W: Write, E: Write>(
     output: &mut W,
     errors: &mut E,
 ) -> Result<(), Stop>
-    requires in_range { job.now.wanted.session < 64 }
-    requires defines { IsDefinition job.now.wanted.session job.now.definition }
     requires planned { IsPlanned job.now.wanted (table_of job.now.definition) progress.old }
     ensures planned { OnOk result (IsPlanned job.now.wanted (table_of job.now.definition) progress.new) }
     ensures taken { (more : List (List ℕ)) → text.now ≡ text_of more → TakesMore job.now.wanted (table_of job.now.definition) result more progress.old progress.new (W.contents output.old) (W.contents output.new) }
@@ -317,8 +315,6 @@ fn take_batch<W: Write, E: Write>(
     output: &mut W,
     errors: &mut E,
 ) -> Result<(), Stop>
-    requires in_range { job.now.wanted.session < 64 }
-    requires defines { IsDefinition job.now.wanted.session job.now.definition }
     requires planned { IsPlanned job.now.wanted (table_of job.now.definition) progress.old }
     ensures planned { OnOk result (IsPlanned job.now.wanted (table_of job.now.definition) progress.new) }
     ensures taken { (more : List (List ℕ)) (begun : List ℕ) → IsBatchOf batch.old (concat more) begun → IsBetween batch.old begun
@@ -361,8 +357,6 @@ fn take_byte<W: Write, E: Write>(
     output: &mut W,
     errors: &mut E,
 ) -> Result<(), Stop>
-    requires in_range { job.now.wanted.session < 64 }
-    requires defines { IsDefinition job.now.wanted.session job.now.definition }
     requires planned { IsPlanned job.now.wanted (table_of job.now.definition) progress.old }
     ensures planned { OnOk result (IsPlanned job.now.wanted (table_of job.now.definition) progress.new) }
     ensures far { GoesFar job.now.wanted (table_of job.now.definition) result (byte ∷ []) batch.old batch.new progress.old progress.new (W.contents output.old) (W.contents output.new) }
@@ -394,8 +388,6 @@ fn take_piece<W: Write, E: Write>(
     output: &mut W,
     errors: &mut E,
 ) -> Result<(), Stop>
-    requires in_range { job.now.wanted.session < 64 }
-    requires defines { IsDefinition job.now.wanted.session job.now.definition }
     requires planned { IsPlanned job.now.wanted (table_of job.now.definition) progress.old }
     ensures planned { OnOk result (IsPlanned job.now.wanted (table_of job.now.definition) progress.new) }
     ensures far { GoesFar job.now.wanted (table_of job.now.definition) result piece.now batch.old batch.new progress.old progress.new (W.contents output.old) (W.contents output.new) }
@@ -418,8 +410,6 @@ fn take_head<R: Read, W: Write, E: Write>(
     output: &mut W,
     errors: &mut E,
 ) -> Result<bool, Stop>
-    requires in_range { job.now.wanted.session < 64 }
-    requires defines { IsDefinition job.now.wanted.session job.now.definition }
     requires planned { IsPlanned job.now.wanted (table_of job.now.definition) progress.old }
     ensures planned { OnOk result (IsPlanned job.now.wanted (table_of job.now.definition) progress.new) }
     ensures far { (before : Option (List ℕ)) → SoFar job.now.wanted (table_of job.now.definition) before batch.old progress.old [] (W.contents output.old)
@@ -448,8 +438,6 @@ fn take_end<W: Write, E: Write>(
     output: &mut W,
     errors: &mut E,
 ) -> Result<(), Stop>
-    requires in_range { job.now.wanted.session < 64 }
-    requires defines { IsDefinition job.now.wanted.session job.now.definition }
     requires planned { IsPlanned job.now.wanted (table_of job.now.definition) progress.old }
     ensures planned { OnOk result (IsPlanned job.now.wanted (table_of job.now.definition) progress.new) }
     ensures far { TakesRest job.now.wanted (table_of job.now.definition) result batch.old progress.old progress.new (W.contents output.old) (W.contents output.new) }
@@ -471,8 +459,6 @@ fn read_all<R: Read, W: Write, E: Write>(
     output: &mut W,
     errors: &mut E,
 ) -> Result<(), Stop>
-    requires in_range { job.now.wanted.session < 64 }
-    requires defines { IsDefinition job.now.wanted.session job.now.definition }
     requires no_plan { progress.old.planned ≡ None }
     requires no_line { progress.old.made.bytes.items ≡ [] }
     requires no_text { progress.old.held.items ≡ [] }

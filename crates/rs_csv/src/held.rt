@@ -2,11 +2,11 @@
 //!
 //! What is told of a record was told when it was read first.
 
-ghost use Rattle.std.specs.Prelude.{◌≡◌, ◌<◌, [], OnOk, IfOk, MatchResult, ℕ, List, Bool, Option, Ok, false, map};
+ghost use Rattle.std.specs.Prelude.{◌≡◌, [], OnOk, IfOk, MatchResult, ℕ, List, Bool, Option, Ok, false, map};
 ghost use Rattle.std.specs.Io.KnownBytes.{Keeps};
 ghost use Rattle.rs_syntax.specs.Tree.{CommandTree};
 ghost use Rattle.rs_csv_lines.specs.declared.plan.Plan.{Plan};
-ghost use Rattle.rs_csv.specs.Output.{AreLines, EndsTaken, GoesOn, IsDefinition, IsQuiet, WroteFront, WroteOf, table_of};
+ghost use Rattle.rs_csv.specs.Output.{AreLines, EndsTaken, GoesOn, IsQuiet, WroteFront, WroteOf, table_of};
 ghost use Rattle.rs_csv.specs.Reading.{AreTexts};
 
 use crate::filter::{Job, Progress, Stop, write_text};
@@ -25,7 +25,6 @@ fn put_route<E: Write>(
     made: &mut Made,
     errors: &mut E,
 ) -> Result<(), Stop>
-    requires { job.now.wanted.session < 64 }
     ensures lines { OnOk result ((table : CommandTree) (plan : Plan) (told : Bool) → GoesOn job.now.wanted.session table plan told [] lines.old.items lines.new.items) }
     ensures bytes { made.new.bytes.items ≡ made.old.bytes.items }
     ensures quiet { OnOk result (IsQuiet made.old.has_told made.new.has_told (E.contents errors.old) (E.contents errors.new)) }
@@ -43,7 +42,6 @@ fn put_route<E: Write>(
 
 // The lines that define the routes.
 fn route_lines<E: Write>(job: &Job<'_>, made: &mut Made, errors: &mut E) -> Result<Vec<u8>, Stop>
-    requires { job.now.wanted.session < 64 }
     ensures lines { IfOk result (λ lines. (table : CommandTree) (plan : Plan) (told : Bool) → AreLines job.now.wanted.session table plan told [] lines.items) }
     ensures bytes { OnOk result (made.new.bytes.items ≡ made.old.bytes.items) }
     ensures quiet { OnOk result (IsQuiet made.old.has_told made.new.has_told (E.contents errors.old) (E.contents errors.new)) }
@@ -68,8 +66,6 @@ fn write_held<W: Write>(
     has_told: bool,
     output: &mut W,
 ) -> Result<bool, Stop>
-    requires in_range { job.now.wanted.session < 64 }
-    requires defines { IsDefinition job.now.wanted.session job.now.definition }
     ensures wrote { (raws : List (List ℕ)) → AreTexts (map (λ text. text.items) held.now) raws
         → MatchResult result (λ told. WroteOf job.now.wanted (table_of job.now.definition) told raws (W.contents output.old) (W.contents output.new))
         (λ _. WroteFront job.now.wanted (table_of job.now.definition) raws (W.contents output.old) (W.contents output.new)) }
@@ -94,8 +90,6 @@ pub fn write_rest<W: Write, E: Write>(
     output: &mut W,
     errors: &mut E,
 ) -> Result<bool, Stop>
-    requires in_range { job.now.wanted.session < 64 }
-    requires defines { IsDefinition job.now.wanted.session job.now.definition }
     ensures wrote { EndsTaken job.now.wanted (table_of job.now.definition) result progress.old (W.contents output.old) (W.contents output.new) }
     ensures told { IfOk result (λ told. told ≡ false → progress.old.made.has_told ≡ false) }
     ensures quiet { result ≡ Ok false → Keeps (E.contents errors.old) (E.contents errors.new) }

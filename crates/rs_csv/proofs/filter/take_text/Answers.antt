@@ -4,8 +4,8 @@ use Rattle.rs_csv.proofs.filter.take_text.Goals as goal
 
 pub returns-then-job-clause-taken : goal.returns-then-job-clause-taken
 returns-then-job-clause-taken g c = λ more is.
-    takes_by_holding c.args.job.now.wanted (table_of c.args.job.now.definition) c.hold_text.result c.args.progress.now c.hold_text.new.progress c.args.text.now more _ c.if-job.true c.hold_text.ensures.held is
+    takes_by_holding c.args.job.now.wanted (table_of c.args.job.now.definition) c.hold_text.result c.args.progress.now c.hold_text.new.progress c.args.text.now more _ (rw (← c.job.view_is) c.if-job.true) c.hold_text.ensures.held is
 
 pub returns-else-job-clause-taken : goal.returns-else-job-clause-taken
 returns-else-job-clause-taken g c = λ more is.
-    takes_by_sending c.args.job.now.wanted (table_of c.args.job.now.definition) c.write_text.result c.args.progress.now c.write_text.new.progress more _ _ c.if-job.false (c.write_text.ensures.sent more is)
+    takes_by_sending c.args.job.now.wanted (table_of c.args.job.now.definition) c.write_text.result c.args.progress.now c.write_text.new.progress more _ _ (rw (← c.job.view_is) c.if-job.false) (c.write_text.ensures.sent more is)
