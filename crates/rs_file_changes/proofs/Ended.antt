@@ -195,5 +195,5 @@ file_as_before was between is committed kept definitions pages accepted tables w
   referents =
       let work : is.referents.working ≡ was.referents.working = working ∙ kept.referents ∙ committed.referents in
       let was_stood : is.referents.committed ≡ was.referents.committed = stood ∙ kept.referents in
-      λ k. record { working = work k; committed = was_stood k };
+      λ k. record { types = record {}; working = work k; committed = was_stood k };
 }
