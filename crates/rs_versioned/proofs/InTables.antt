@@ -1,5 +1,5 @@
 -- What holds of the cells of a table holds by what is known of the table.
-use Rattle.std.proofs.Common.{◌≡◌, ℕ, [], ◌∙◌, subst}
+use Rattle.std.proofs.Common.{◌≡◌, ℕ, [], sym, ◌∙◌, subst}
 use Rattle.rs_tree.specs.declared.summary.NoSummary.{NoSummary}
 use Rattle.rs_tree.specs.declared.summary.Summary.{Ghosts as Summaries}
 use Rattle.rs_tree.specs.Form.{Form, form_of}
@@ -18,6 +18,9 @@ module _ {S T : Type 0} (summaries : Summaries S) (kinds : Kinds T S) (types : T
     (sound : (versions.width ≡ kinds.width types) × IsKept (kept_as summaries kinds types)) (is : table_of types versions ≡ table) where
   pub in_table : (P : ℕ → Standing → Type 0) → P versions.width versions.working → P (kinds.width table.types) table.working
   in_table P here = subst (λ (t : TableState T). P (kinds.width t.types) t.working) is (subst (λ (w : ℕ). P w versions.working) sound.0 here)
+
+  pub from_table : (P : Standing → Type 0) → P table.working → P versions.working
+  from_table P here = subst (λ (t : TableState T). P t.working) (sym is) here
 
   pub kept_in_table : IsKept (kept_as summaries kinds table.types)
   kept_in_table = subst (λ (t : TableState T). IsKept (kept_as summaries kinds t.types)) is sound.1

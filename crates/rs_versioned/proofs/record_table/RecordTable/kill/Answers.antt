@@ -1,5 +1,4 @@
 -- The record of the cell ends as the cell does.
-use Rattle.std.proofs.Common.{sym, subst}
 use Rattle.std.proofs.lemmas.Result.{IfOk-weaker}
 use Rattle.rs_tree.specs.Forms.{form}
 use Rattle.rs_cell_versions.specs.Calls as cells
@@ -7,9 +6,8 @@ use Rattle.rs_cell_versions.specs.Changes.{Ends}
 use Rattle.rs_cell_versions.specs.Version.{HaveDiedBy}
 use Rattle.rs_versioned.specs.Calls.{IsEnded}
 use Rattle.rs_versioned.specs.Kinds.{kept_as}
-use Rattle.rs_versioned.specs.Tables.{TableState}
 use Rattle.rs_versioned.proofs.Changing.{is_ended}
-use Rattle.rs_versioned.proofs.InTables.{in_table, kept_in_table}
+use Rattle.rs_versioned.proofs.InTables.{from_table, in_table, kept_in_table}
 use Rattle.rs_versioned.proofs.record_table.RecordTable.kill.Goals as goal
 
 pub returns-clause-kills : goal.returns-clause-kills
@@ -34,4 +32,5 @@ returns-clause-kills g c = λ tied.
 
 pub returns-clause-order : goal.returns-clause-order
 returns-clause-order g c = λ last later before.
-    c.kill.ensures.order last later (subst (λ (table : TableState _). HaveDiedBy last table.working.dead) (sym c.self.view_is) before)
+    c.kill.ensures.order last later
+    (from_table g.K.Summary.Summary g.K.RecordKind c.self.inside.kind c.self.inside.versions c.args.self.now c.self.invariant c.self.view_is (λ working. HaveDiedBy last working.dead) before)
