@@ -38,8 +38,8 @@ pub record IsAdded (old new : PageMap) (was is : EventTableState) (were are : Li
   pub tells : TellsNew (kept_events was.types) old was.working event is_new
   pub rests : is_new ≡ false → SamePages new old × (is ≡ was) × (are ≡ were)
 
--- the event of the cell has ended at the version, whichever versions from there on are accepted first and last, and it is told whether it
--- was there
+-- the event of the cell has ended at the version, whichever version was accepted, and whichever from that one and this one on is accepted
+-- last, and it is told whether it was there
 pub record IsEnded (old new : PageMap) (was is : EventTableState) (were are : List IndexState) (version : ℕ) (cell : List ℕ) (found : Bool) : Type 0 where
   pub changes : (accepted last : ℕ) (event : Event) → accepted ≤ last → version ≤ last → SaysEvent was.types cell event
       → ChangesTable was.types old new was.working is.working were are accepted last (HasEnded (kept_events was.types) version event)

@@ -36,7 +36,7 @@ pub record JobParts : Type 0 where
   pub wanted : Wanted
   pub definition : Definition
 
--- The lines are of a session that there is, and the table is defined by a line of it.
+-- The lines are of a session that there is, and the table is defined by a line of that session.
 pub record IsJob (wanted : Wanted) (definition : Definition) : Type 0 where
   pub in_range : wanted.session < 64
   pub defines : IsDefinition wanted.session definition

@@ -21,14 +21,14 @@ use Rattle.rs_versioned.proofs.Present.{IsDatedRecord, held_dated}
 use Rattle.rs_versioned.proofs.RunsByVersion.{spans_level}
 use Rattle.rs_event_changes.specs.Chains.{ComeAll, GivesWay, GivesWayAt}
 use Rattle.rs_event_changes.specs.Changes.{Inserts, ThenCleared}
-use Rattle.rs_event_changes.specs.Inner.{HasThese}
+use Rattle.rs_event_changes.specs.Inner.{EndsSo, HasThese}
 use Rattle.rs_event_changes.specs.Picked.{IsHeld, IsWidened, Joins, passing}
 use Rattle.rs_event_changes.specs.Seen.{GivenWayIsSeen}
 use Rattle.rs_event_changes.specs.Turns.{EventsTurn}
 use Rattle.rs_event_changes.proofs.Finding.{Finds, has_none, has_passing, live_gone, small_each}
 use Rattle.rs_event_changes.proofs.Inserting.{InsertsHere, held_now, is_one_met, met_are, one_met_on, widened}
 use Rattle.rs_event_changes.proofs.Tables.{same_shares, same_table}
-use Rattle.rs_event_changes.proofs.Taken.{EndsSo, cleared_as, gave_way, none_cleared}
+use Rattle.rs_event_changes.proofs.Taken.{cleared_as, gave_way, none_cleared}
 use Rattle.rs_event_changes.proofs.Turning.{AreApart, events_apart, none_turned, turned}
 
 module _ (types : List ColumnType) (kind : Kind) (version route : ℕ) (below : version < LIVING) (span : Stretch) (placed : IsPlaced kind span)

@@ -1,21 +1,18 @@
 -- The version at which events end in a change.
-use Rattle.std.proofs.Common.{◌≡◌, ◌≤◌, true, false, inl, inr, refl, arith}
-use Rattle.std.proofs.lemmas.Bool.{cases_lt, le-ltb, lt-ltb}
-use Rattle.std.specs.Prelude.{nat_lt}
-use Rattle.rs_event_changes.specs.Calls.{end_at}
-use Rattle.rs_event_changes.specs.declared.moment.Moment.{Moment}
-use Rattle.rs_event_changes.proofs.Taken.{EndsSo}
+use Rattle.std.proofs.Common.{◌≡◌, ◌<◌, ◌≤◌, ◌⊎◌, ℕ, List, inl, inr, sym, subst, arith}
+use Rattle.rs_cell_versions.specs.Version.{HaveDiedBy}
+use Rattle.rs_event_changes.specs.Inner.{EndsSo}
 
--- it is the change's own, or 0 where no older one is seen
-pub ends_so : (moment : Moment) → EndsSo (end_at moment) moment.version moment.oldest
-ends_so moment = elim (cases_lt moment.oldest moment.version) [
-  | inl older ↦ let is : nat_lt moment.oldest moment.version ≡ true = lt-ltb moment.oldest moment.version older in rw is (inl refl)
-  | inr none ↦ let is : nat_lt moment.oldest moment.version ≡ false = le-ltb moment.oldest moment.version none in rw is (inr (refl, none))
-]
+-- it is that of the change, or 0
+pub ends_of : (at version oldest : ℕ) → EndsSo at version oldest → (at ≡ version) ⊎ (at ≡ 0)
+ends_of at version oldest (inl same) = inl same
+ends_of at version oldest (inr none) = inr none.0
 
--- and so no later than it
-pub end_within : (moment : Moment) → end_at moment ≤ moment.version
-end_within moment = elim (ends_so moment) [
-  | inl same ↦ omega (arith, same)
-  | inr none ↦ omega (arith, none.0)
-]
+pub end_within : (at version : ℕ) → (at ≡ version) ⊎ (at ≡ 0) → at ≤ version
+end_within at version (inl same) = omega (arith, same)
+end_within at version (inr zero) = omega (arith, zero)
+
+-- where it comes after a birth, none that is known to be dead died later
+pub died_by_end : (at version : ℕ) (dead : List (List ℕ)) → (at ≡ version) ⊎ (at ≡ 0) → HaveDiedBy version dead → (birth : ℕ) → birth < at → HaveDiedBy at dead
+died_by_end at version dead (inl same) order birth after = subst (λ n. HaveDiedBy n dead) (sym same) order
+died_by_end at version dead (inr zero) order birth after = absurd (omega (arith, after, zero))

@@ -23,13 +23,13 @@ use Rattle.rs_versioned.proofs.Present.{IsDatedRecord, held_dated}
 use Rattle.rs_versioned.proofs.RunsByVersion.{spans_level}
 use Rattle.rs_event_changes.specs.Chains.{GivesWay, GivesWayAt}
 use Rattle.rs_event_changes.specs.Changes.{Removes, ThenCleared}
-use Rattle.rs_event_changes.specs.Inner.{HasThese}
+use Rattle.rs_event_changes.specs.Inner.{EndsSo, HasThese}
 use Rattle.rs_event_changes.specs.Picked.{Takes, outside_all, shared_by}
 use Rattle.rs_event_changes.specs.Seen.{GivenWayIsSeen}
 use Rattle.rs_event_changes.proofs.Finding.{Finds, has_passing, live_gone}
 use Rattle.rs_event_changes.proofs.Removing.{gone_are, is_one_gone, nothing_removed, one_gone_on, removed}
 use Rattle.rs_event_changes.proofs.Tables.{same_shares, same_table}
-use Rattle.rs_event_changes.proofs.Taken.{EndsSo, cleared_as, gave_way, none_cleared}
+use Rattle.rs_event_changes.proofs.Taken.{cleared_as, gave_way, none_cleared}
 use Rattle.rs_event_changes.proofs.Turning.{events_apart, none_turned, turned}
 
 module _ (types : List ColumnType) (version route : ℕ) (below : version < LIVING) (lo hi : ℕ) (goes : Option Condition) (old : PageMap) (was : Standing) where

@@ -15,6 +15,7 @@ use Rattle.rs_versioned.proofs.MeantLists.{all_weaker}
 use Rattle.rs_versioned.proofs.Present.{IsDatedRecord}
 use Rattle.rs_event_changes.specs.Chains.{ComeAll, EndAll, GivesWay, GivesWayAt, living_event}
 use Rattle.rs_event_changes.specs.Changes.{ThenCleared}
+use Rattle.rs_event_changes.specs.Inner.{EndsSo}
 use Rattle.rs_event_changes.proofs.Cancelling.{cancel_first}
 use Rattle.rs_event_changes.proofs.GiveWay.{first_there}
 use Rattle.rs_event_changes.proofs.Seeing.{all_kept}
@@ -33,10 +34,6 @@ none_cleared level types change old now changed = record {
   cells = [];
   cleared = record { gone = []; say = tt; unseen = tt; rest = IsPermutation-refl now };
 }
-
--- events end at the version, or no version before it is seen and they are taken out
-abbrev pub EndsSo : ℕ → ℕ → ℕ → Type 0
-EndsSo at version oldest = (at ≡ version) ⊎ ((at ≡ 0) × (version ≤ oldest))
 
 module _ (types : List ColumnType) (version : ℕ) (below : version < LIVING) where
   -- none of these is what the event is once it has ended
@@ -82,8 +79,7 @@ module _ (types : List ColumnType) (version : ℕ) (below : version < LIVING) wh
       let more : IsPermutation (next ++ (done ++ last ∷ [])) (last ∷ (next ++ done)) =
       subst (λ (l : List Event). IsPermutation l (last ∷ (next ++ done))) (append_assoc next done (last ∷ [])) (IsPermutation-to_front (next ++ done) last) in
       let then : EndAll types version gone (next ++ (done ++ last ∷ [])) (now ++ ((done ++ last ∷ []) ++ map (ended_event version) gone)) =
-      taken gone (done ++ last ∷ []) rest next now lived.1 early.1 apart.1 (next_apart one done gone lived.0 lived.1 apart.0 never.1) stay e.2 left in
-      (
+      taken gone (done ++ last ∷ []) rest next now lived.1 early.1 apart.1 (next_apart one done gone lived.0 lived.1 apart.0 never.1) stay e.2 left in (
         next ++ (done ++ last ∷ []),
         inr (record {
           rest = next ++ done;

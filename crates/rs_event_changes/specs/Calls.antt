@@ -1,5 +1,5 @@
 -- What a change of a table at a version needs, and what it leaves of the pages and of what is open.
-use Rattle.std.specs.Prelude.{◌≡◌, ◌<◌, ℕ, ◌≤◌, List, Result, length, true, if◌then◌else◌, nat_lt}
+use Rattle.std.specs.Prelude.{◌≡◌, ◌<◌, ℕ, ◌≤◌, List, Result, length, true}
 use Rattle.rs_attr.specs.Calls.{KeepsTable}
 use Rattle.rs_attr.specs.Tables.{AreOn, HoldsTable, IndexState, all_of}
 use Rattle.rs_cell_versions.specs.Version.{HaveDiedBy}
@@ -14,11 +14,6 @@ use Rattle.rs_pages.specs.declared.pages.Pages.{Ghosts}
 use Rattle.rs_refusal.specs.declared.refusal.Refusal.{Refusal}
 use Rattle.rs_value.specs.declared.column.ColumnType.{ColumnType}
 use Rattle.rs_versioned.specs.Events.{Event}
-use Rattle.rs_event_changes.specs.declared.moment.Moment.{Moment}
-
--- the version at which events end: that of the change where an older one is to see them, and else 0, since they are taken out
-abbrev pub end_at : Moment → ℕ
-end_at moment = if nat_lt moment.oldest moment.version then moment.version else 0
 
 -- no table with its indexes, dated up to the version at the latest, lies there so, with pages that are shared with other owners and a
 -- free list

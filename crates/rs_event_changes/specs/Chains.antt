@@ -26,6 +26,6 @@ pub record GivesWayAt (types : List ColumnType) (at version route : ℕ) (gone :
   pub ended : EndAll types at gone old between
   pub came : ComeAll route version come between now
 
--- at the version from which on the spans are seen
+-- the same, where the events end at the version from which on the spans are seen
 abbrev pub GivesWay : List ColumnType → ℕ → ℕ → List Event → List Stretch → List Event → List Event → Type 0
 GivesWay types version = GivesWayAt types version version

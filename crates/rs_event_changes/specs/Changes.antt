@@ -45,7 +45,7 @@ pub record Removes (accepted version route lo hi : ℕ) (goes : Option Condition
   pub within : (start finish : ℕ) → AllLieWithin start finish (spans_at accepted route old) → AllLieWithin start finish (spans_at version route now)
   pub counted : (kind : Kind) → AreRunsAt kind accepted route old → count ≡ going lo hi (goes_by goes) (facts_at accepted route old)
 
--- Events have changed so, and then some are gone that no version from this one on sees.
+-- Events have changed so, and then some are gone that no version from the level on sees, whichever of them these are.
 pub record ThenCleared (level : ℕ) (types : List ColumnType) (change : List Event → List Event → Type 0) (old now : List Event) : Type 0 where
   pub between : List Event
   pub changed : change old between

@@ -1,5 +1,5 @@
 -- What the functions of this crate that change pages hand to one another. No clause of another crate speaks of it.
-use Rattle.std.specs.Prelude.{◌≡◌, ◌≤◌, ℕ, IsPermutation, List, ◌++◌, Result}
+use Rattle.std.specs.Prelude.{◌≡◌, ◌≤◌, ◌⊎◌, ℕ, IsPermutation, List, ◌++◌, Result}
 use Rattle.std.specs.List.{AllByRecursion, AllZip}
 use Rattle.rs_attr.specs.Tables.{ChangesTable, HoldsTable, IndexState, all_of}
 use Rattle.rs_cell_versions.specs.Versioned.{Standing}
@@ -16,6 +16,10 @@ use Rattle.rs_value.specs.declared.column.ColumnType.{ColumnType}
 use Rattle.rs_versioned.specs.Events.{Event, SaysEvent, kept_events}
 use Rattle.rs_versioned.specs.Records.{HasEnded}
 use Rattle.rs_event_changes.specs.Chains.{EndAll, GivesWayAt}
+
+-- Events end at the version, or at 0, which takes them out: that may be where no version before it is to see them.
+abbrev pub EndsSo : ℕ → ℕ → ℕ → Type 0
+EndsSo at version oldest = (at ≡ version) ⊎ ((at ≡ 0) × (version ≤ oldest))
 
 -- living events of these cells are among those of the table
 pub record HasThese (types : List ColumnType) (cells : List (List ℕ)) (events : List Event) : Type 0 where
@@ -40,15 +44,15 @@ module _ (old new : PageMap) (was is : OpenedTable) (version : ℕ) where
   abbrev pub ChangesNow : (List Event → List Event → Type 0) → Type 0
   ChangesNow = ChangesTable was.records.types old new was.records.working is.records.working was.indexes.items is.indexes.items version version
 
-  -- the event of the cell has ended at a version up to that one
+  -- the event of the cell has ended, at this version or, where it is 0, so that it is gone
   abbrev pub EndedOne : ℕ → List ℕ → Type 0
   EndedOne at cell = (one : Event) → SaysEvent was.records.types cell one → ChangesNow (HasEnded (kept_events was.records.types) at one)
 
-  -- the events of the cells have
+  -- so have the events of these cells
   abbrev pub Ended : ℕ → List (List ℕ) → Type 0
   Ended at cells = (gone : List Event) → AllZip (SaysEvent was.records.types) cells gone → ChangesNow (EndAll was.records.types at gone)
 
-  -- the events of the cells have ended, and the spans have come
+  -- the events of the cells have ended so, and the spans have come
   abbrev pub Made : ℕ → ℕ → List (List ℕ) → List Stretch → Type 0
   Made at route cells come = (gone : List Event) → AllZip (SaysEvent was.records.types) cells gone
       → ChangesNow (GivesWayAt was.records.types at version route gone come)

@@ -1,12 +1,12 @@
 //! The steps of a change: events end, and others come.
 
-ghost use Rattle.std.specs.Prelude.{◌≡◌, ◌∷◌, [], OnOk, length, map, true};
+ghost use Rattle.std.specs.Prelude.{◌≡◌, ◌⊎◌, ◌∷◌, [], ℕ, OnOk, length, map, true};
 ghost use Rattle.std.specs.List.{AllByRecursion};
 ghost use Rattle.rs_attr.specs.Calls.{KeepsTable};
 ghost use Rattle.rs_attr.specs.Tables.{AreOn};
-ghost use Rattle.rs_event_changes.specs.Calls.{KeepsAt, Leaves, MayEdit, end_at};
+ghost use Rattle.rs_event_changes.specs.Calls.{KeepsAt, Leaves, MayEdit};
 ghost use Rattle.rs_event_changes.specs.Chains.{ComeAll};
-ghost use Rattle.rs_event_changes.specs.Inner.{ChangesNow, Ended, EndedOne, LeavesWith, Made};
+ghost use Rattle.rs_event_changes.specs.Inner.{ChangesNow, Ended, EndedOne, EndsSo, LeavesWith, Made};
 ghost use Rattle.rs_facts.specs.Spans.{seen};
 ghost use Rattle.rs_records.specs.Listed.{listed, record_width};
 ghost use Rattle.rs_value.specs.Values.{IsRowOf};
@@ -37,50 +37,56 @@ pub(crate) fn make<P: Pages>(
     requires width { record_width edit.now.gone ≡ event_width table.old.records.types }
     requires rows { AllByRecursion (λ span. IsRowOf table.old.records.types span.row) (map seen edit.now.come.items) }
     ensures leaves { LeavesWith P.Pages table.old moment.version (listed edit.now.gone) result pages.old pages.new }
-    ensures made { P.is_tied pages.old → OnOk result (Made (P.store pages.old).map (P.store pages.new).map table.old table.new moment.version
-        (end_at moment) route (listed edit.now.gone) (map seen edit.now.come.items)) }
+    ensures made { P.is_tied pages.old → OnOk result ((at : ℕ) × EndsSo at moment.version moment.oldest
+        × Made (P.store pages.old).map (P.store pages.new).map table.old table.new moment.version at route (listed edit.now.gone)
+        (map seen edit.now.come.items)) }
     ensures keeps { KeepsAt moment.version table.old table.new }
 {
-    end_each(alloc, pages, table, moment, &edit.gone)?;
+    let at = moment.end();
+    end_each(alloc, pages, table, moment.version, at, &edit.gone)?;
     add_each(alloc, pages, table, moment.version, route, &edit.come)?;
     Ok(())
 }
 
-/// Ends the events of the cells. It is refused as `make` is.
+/// Ends the events of the cells at the version, or at 0, which takes them out. It is refused as `make` is.
 fn end_each<P: Pages>(
     alloc: Global,
     pages: &mut P,
     table: &mut OpenedTable,
-    moment: Moment,
+    version: u64,
+    at: u64,
     cells: &Cells,
 ) -> Result<(), Refusal>
-    requires may { MayEdit P.Pages table.old moment.version pages.old }
+    requires may { MayEdit P.Pages table.old version pages.old }
+    requires ends { (at ≡ version) ⊎ (at ≡ 0) }
     requires width { record_width cells.now ≡ event_width table.old.records.types }
-    ensures leaves { LeavesWith P.Pages table.old moment.version (listed cells.now) result pages.old pages.new }
-    ensures ended { P.is_tied pages.old → OnOk result (Ended (P.store pages.old).map (P.store pages.new).map table.old table.new moment.version
-        (end_at moment) (listed cells.now)) }
-    ensures keeps { KeepsAt moment.version table.old table.new }
+    ensures leaves { LeavesWith P.Pages table.old version (listed cells.now) result pages.old pages.new }
+    ensures ended { P.is_tied pages.old → OnOk result (Ended (P.store pages.old).map (P.store pages.new).map table.old table.new version
+        at (listed cells.now)) }
+    ensures keeps { KeepsAt version table.old table.new }
 {
     for place in 0..cells.len() {
-        end_one(alloc, pages, table, moment, cells.get(place))?;
+        end_one(alloc, pages, table, version, at, cells.get(place))?;
     }
     Ok(())
 }
 
-/// Ends the event of a cell. It is refused as `make` is.
+/// Ends the event of a cell, as `end_each` does. It is refused as `make` is.
 fn end_one<P: Pages>(
     alloc: Global,
     pages: &mut P,
     table: &mut OpenedTable,
-    moment: Moment,
+    version: u64,
+    at: u64,
     cell: &[u8],
 ) -> Result<(), Refusal>
-    requires may { MayEdit P.Pages table.old moment.version pages.old }
+    requires may { MayEdit P.Pages table.old version pages.old }
+    requires ends { (at ≡ version) ⊎ (at ≡ 0) }
     requires width { length cell.now ≡ event_width table.old.records.types }
-    ensures leaves { LeavesWith P.Pages table.old moment.version (cell.now ∷ []) result pages.old pages.new }
-    ensures ended { P.is_tied pages.old → OnOk result (EndedOne (P.store pages.old).map (P.store pages.new).map table.old table.new moment.version
-        (end_at moment) cell.now) }
-    ensures keeps { KeepsAt moment.version table.old table.new }
+    ensures leaves { LeavesWith P.Pages table.old version (cell.now ∷ []) result pages.old pages.new }
+    ensures ended { P.is_tied pages.old → OnOk result (EndedOne (P.store pages.old).map (P.store pages.new).map table.old table.new version
+        at cell.now) }
+    ensures keeps { KeepsAt version table.old table.new }
 {
     if !is_living(cell) {
         return Err(Refusal::DamagedFile);
@@ -90,7 +96,7 @@ fn end_one<P: Pages>(
         pages,
         &mut table.records,
         &mut table.indexes,
-        moment.end(),
+        at,
         cell,
     )?;
     if !found {

@@ -22,7 +22,8 @@ use rs_value::Kind;
 use std::alloc::Global;
 
 /// Puts the row along the span, in thousandths, on the route, as versions from that of the change on see it, and answers how many facts are
-/// new: at how many thousandths of the span the row did not hold. Where it held at all of them, nothing changes.
+/// new: at how many thousandths of the span the row did not hold. Where it held at all of them, nothing changes. Events that end in it may
+/// be gone where no version from `moment.oldest` on sees them.
 ///
 /// It is refused with 90, with 91, with 92 where the file is full, and with 94 only where no such table with its indexes, dated up to
 /// that version, lies there with pages of its own; the table, its indexes and the working pages are to be abandoned then.

@@ -1,7 +1,6 @@
 //! When a change is made.
 
-ghost use Rattle.std.specs.Prelude.{◌≡◌};
-ghost use Rattle.rs_event_changes.specs.Calls.{end_at};
+ghost use Rattle.rs_event_changes.specs.Inner.{EndsSo};
 
 /// When a change is made: the version that shows it first, and the oldest version that is to see what it saw.
 #[derive(Clone, Copy)]
@@ -15,7 +14,7 @@ pub struct Moment {
 impl Moment {
     /// The version at which events end. It is 0 where no version before the change is live: they are taken out then.
     pub(crate) fn end(self) -> u64
-        ensures { result ≡ end_at self }
+        ensures { EndsSo result self.version self.oldest }
     {
         if self.oldest < self.version {
             self.version

@@ -28,9 +28,9 @@ pub struct RouteStretch {
     pub hi: u32,
 }
 
-/// Takes the rows that meet the condition, or all rows where there is none, away from the stretch, as versions from that of the change on see
-/// it,
-/// and answers how many facts went. Where the stretch has no thousandth, nothing does.
+/// Takes the rows that meet the condition, or all rows where there is none, away from the stretch, as versions from that of the change on
+/// see it, and answers how many facts went. Where the stretch has no thousandth, nothing does. Events that end in it may be gone where no
+/// version from `moment.oldest` on sees them.
 ///
 /// It is refused with 90, with 91, with 92 where the file is full, and with 94 only where no such table with its indexes, dated up to
 /// that version, lies there with pages of its own; the table, its indexes and the working pages are to be abandoned then.

@@ -7,7 +7,7 @@ use Rattle.rs_file_changes.specs.Parts.{Makes}
 use Rattle.rs_pages.specs.PageMap.{PageMap}
 use Rattle.rs_versioned.specs.Events.{Event}
 
--- the events of the table at this place have changed so, then some are gone that no version from this one on sees, and all else stays
+-- the events of the table at this place have changed so, then some are gone that no version from the level on sees, and all else stays
 pub record ChangesThenCleared (place level : ℕ) (change : List Event → List Event → Type 0) (old now : Contents) : Type 0 where
   pub before : List TableContents
   pub table : TableContents

@@ -18,7 +18,7 @@ use std::alloc::Global;
 pub(crate) const LEAST_CLEARED: u64 = 64;
 
 /// Clears records that no version from `oldest` on sees, and writes the slots of the directory with the next version as the one
-/// that was accepted last. `before` is how many records were dead before the change: as many more may go as the change has ended. The tables take turns
+/// that was accepted last. `before` is how many records were dead before the change: as many more may go as the change has left dead. The tables take turns
 /// in being first. It is refused with 90, with 91, and with 94 only where no contents lie there with what is open.
 pub(crate) fn complete<P: Pages>(
     alloc: Global,

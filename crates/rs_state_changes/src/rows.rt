@@ -71,8 +71,8 @@ pub fn insert<P: Pages>(
     Ok(count)
 }
 
-/// Puts the row into its table, as versions after the one that was accepted last see it. What ends in that and no version from `oldest`
-/// on is to see is gone.
+/// Puts the row into its table, as versions after the one that was accepted last see it. Events that this ends may be taken out where no
+/// version from `oldest` on sees them.
 fn insert_in_place<P: Pages>(
     alloc: Global,
     pages: &mut P,
@@ -126,8 +126,8 @@ pub fn remove<P: Pages>(
     Ok(count)
 }
 
-/// Takes the rows out of their table, as versions after the one that was accepted last see it. What ends in that and no version from
-/// `oldest` on is to see is gone.
+/// Takes the rows out of their table, as versions after the one that was accepted last see it. Events that this ends may be taken out
+/// where no version from `oldest` on sees them.
 fn remove_in_place<P: Pages>(
     alloc: Global,
     pages: &mut P,

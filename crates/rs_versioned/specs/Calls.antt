@@ -35,8 +35,8 @@ pub record IsAdded {R T : Type 0} (kept : Kept R) (old new : PageMap) (was is : 
   pub tells : TellsNew kept old was one is_new
   pub rests : is_new ≡ false → SamePages new old × (now ≡ table)
 
--- the record of the cell has ended at the version, as the cell has, whichever versions from there on are accepted first and last, and it
--- is told whether it was there
+-- the record of the cell has ended at the version, as the cell has, whichever version was accepted, and whichever from that one and this one on is accepted
+-- last, and it is told whether it was there
 pub record IsEnded {R : Type 0} (kept : Kept R) (old new : PageMap) (was is : Standing) (version : ℕ) (cell : List ℕ) (found : Bool) : Type 0 where
   pub changes : (accepted last : ℕ) (one : R) → accepted ≤ last → version ≤ last → kept.says cell one
       → ChangesRecords kept old new was is accepted last (HasEnded kept version one)

@@ -24,6 +24,6 @@ pub trait RecordKind: Drop {
     /// The version of its end.
     ghost died: { Record → ℕ };
 
-    /// The record, where it ended at a version.
+    /// The record, once it has ended at a version.
     ghost ended: { ℕ → Record → Record };
 }

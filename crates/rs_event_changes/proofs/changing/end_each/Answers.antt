@@ -11,7 +11,6 @@ use Rattle.rs_records.specs.Listed.{listed}
 use Rattle.rs_versioned.specs.Events.{Event, SaysEvent, event_width, kept_events}
 use Rattle.rs_versioned.specs.Records.{HasEnded}
 use Rattle.rs_versioned.proofs.CellsWide.{cell_wide}
-use Rattle.rs_event_changes.specs.Calls.{end_at}
 use Rattle.rs_event_changes.specs.Inner.{Ended, HoldsNoTableWith}
 use Rattle.rs_event_changes.proofs.Tables.{ended_next, ended_none, none_with}
 use Rattle.rs_event_changes.proofs.changing.end_each.Goals as goal
@@ -27,7 +26,7 @@ loop-place-init g c =
       table = record { types = refl; committed = refl; kept = refl };
       order = c.requires.may.order;
       more = omega arith;
-      ended = λ tied gone say. ended_none table.records.types c.args.moment.version (end_at c.args.moment) first.map table.records.working table.indexes.items gone say (SamePages-refl first.map);
+      ended = λ tied gone say. ended_none table.records.types c.args.version c.args.at first.map table.records.working table.indexes.items gone say (SamePages-refl first.map);
     }
 
 pub end_one-requires-clause-width : goal.end_one-requires-clause-width
@@ -54,13 +53,13 @@ returns-in_err-end_one-clause-leaves g c =
     let p = err_from_is_err_and c.from_residual.result c.from_residual.ensures.1 in
     record {
       keeps = g.met.P.Pages.keeps_trans c.args.pages.now c.loop-place.pages c.end_one.new.pages c.loop-place.invariant.keeps c.in_err-end_one.ensures.leaves.keeps;
-      works = rw (p.1, p.2) (works_err (g.P.Pages.is_tied c.args.pages.now → HoldsNoTableWith c.args.moment.version cells was.records.types first.map was.records.working was.indexes.items)
-          (g.P.Pages.is_tied c.loop-place.pages → HoldsNoTableWith c.args.moment.version (cell ∷ []) next.records.types last.map next.records.working next.indexes.items) c.in_err-end_one.field-0.0
+      works = rw (p.1, p.2) (works_err (g.P.Pages.is_tied c.args.pages.now → HoldsNoTableWith c.args.version cells was.records.types first.map was.records.working was.indexes.items)
+          (g.P.Pages.is_tied c.loop-place.pages → HoldsNoTableWith c.args.version (cell ∷ []) next.records.types last.map next.records.working next.indexes.items) c.in_err-end_one.field-0.0
           first last (g.P.Pages.store c.end_one.new.pages) c.loop-place.invariant.works c.loop-place.invariant.nothing
           (λ none tied.
-          none_with was.records.types c.args.moment.version (end_at c.args.moment) first.map last.map last.map was.records.working next.records.working next.records.working was.indexes.items next.indexes.items next.indexes.items
+          none_with was.records.types c.args.version c.args.at first.map last.map last.map was.records.working next.records.working next.records.working was.indexes.items next.indexes.items next.indexes.items
           cells c.loop-place.place cell c.get.ensures (c.loop-place.invariant.ended tied)
-          (subst (λ types. HoldsNoTableWith c.args.moment.version (cell ∷ []) types last.map next.records.working next.indexes.items) c.loop-place.invariant.table.types
+          (subst (λ types. HoldsNoTableWith c.args.version (cell ∷ []) types last.map next.records.working next.indexes.items) c.loop-place.invariant.table.types
           (none (g.met.P.Pages.keeps_tied c.args.pages.now c.loop-place.pages c.loop-place.invariant.keeps tied))))
           c.in_err-end_one.ensures.leaves.works);
     }
@@ -86,8 +85,8 @@ loop-place-preserved g c =
     let now = g.P.Pages.store c.end_one.new.pages in
     let cells = listed c.args.cells.now in
     let cell = c.get.result.now in
-    let version = c.args.moment.version in
-    let at = end_at c.args.moment in
+    let version = c.args.version in
+    let at = c.args.at in
     record {
       keeps = g.met.P.Pages.keeps_trans c.args.pages.now c.loop-place.pages c.end_one.new.pages c.loop-place.invariant.keeps c.in_ok-end_one.ensures.leaves.keeps;
       works = Works-trans first last now c.loop-place.invariant.works c.in_ok-end_one.ensures.leaves.works.works;
@@ -117,7 +116,7 @@ pub returns-clause-ended : goal.returns-clause-ended
 returns-clause-ended g c = λ tied.
     let cells = listed c.args.cells.now in
     let whole : take c.loop-place.place cells ≡ cells = take_all c.loop-place.place cells (omega (arith, c.len-place-end.ensures)) in
-    subst (Ended (g.P.Pages.store c.args.pages.now).map (g.P.Pages.store c.loop-place.pages).map c.args.table.now c.loop-place.table c.args.moment.version (end_at c.args.moment)) whole (c.loop-place.invariant.ended tied)
+    subst (Ended (g.P.Pages.store c.args.pages.now).map (g.P.Pages.store c.loop-place.pages).map c.args.table.now c.loop-place.table c.args.version c.args.at) whole (c.loop-place.invariant.ended tied)
 
 pub returns-clause-keeps : goal.returns-clause-keeps
 returns-clause-keeps g c = record { table = c.loop-place.invariant.table; order = c.loop-place.invariant.order; more = c.loop-place.invariant.more }

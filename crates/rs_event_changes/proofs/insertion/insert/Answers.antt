@@ -12,12 +12,11 @@ use Rattle.rs_records.specs.Listed.{listed}
 use Rattle.rs_refusal.specs.declared.refusal.Refusal.{Refusal}
 use Rattle.rs_value.specs.Values.{IsRowOf}
 use Rattle.rs_versioned.specs.Events.{is_visible}
-use Rattle.rs_event_changes.specs.Calls.{HoldsNoTableBy, end_at}
+use Rattle.rs_event_changes.specs.Calls.{HoldsNoTableBy}
 use Rattle.rs_event_changes.specs.Inner.{HoldsNoTableWith}
 use Rattle.rs_event_changes.specs.Picked.{Joins, SayNone}
 use Rattle.rs_event_changes.proofs.Finding.{none_said, none_with_these, none_without_tree}
 use Rattle.rs_event_changes.proofs.Inserted.{are_there, inserted}
-use Rattle.rs_event_changes.proofs.Moments.{ends_so}
 use Rattle.rs_event_changes.proofs.insertion.insert.Goals as goal
 
 pub returns-in_err-found-clause-leaves : goal.returns-in_err-found-clause-leaves
@@ -116,8 +115,9 @@ returns-clause-inserts g c = λ tied accepted before.
     let edit = c.in_ok-joined.joined.edit in
     let rests = c.in_ok-found.ensures.rests in
     let joins = subst (λ types. Joins types (seen c.args.span.now) (listed found) (listed edit.gone) (map seen edit.come.items) c.in_ok-joined.joined.count) c.schema.ensures c.in_ok-joined.ensures.joins in
+    let made = c.in_ok-make.ensures.made (g.met.P.Pages.keeps_tied c.args.pages.now c.visible.new.pages rests.below tied) in
     inserted was.records.types c.args.kind c.args.moment.version c.args.route c.requires.may.mortal (seen c.args.span.now) c.requires.placed c.reach-from.result.0 c.reach-from.result.1 c.reach-from.ensures.from c.reach-from.ensures.upto
     first.map was.records.working (listed found) (listed edit.gone) (map seen edit.come.items) c.in_ok-joined.joined.count (c.in_ok-found.ensures.found tied) joins
     mid.map last.map (rests.rests.keeps.pages tied) is.records.working was.indexes.items is.indexes.items c.what_gave_way_is_still_seen.ensures
-    c.args.moment.oldest (end_at c.args.moment) (ends_so c.args.moment)
-    (c.in_ok-make.ensures.made (g.met.P.Pages.keeps_tied c.args.pages.now c.visible.new.pages rests.below tied)) accepted before
+    c.args.moment.oldest made.0 made.1
+    made.2 accepted before

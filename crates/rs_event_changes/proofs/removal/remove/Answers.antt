@@ -14,11 +14,10 @@ use Rattle.rs_records.specs.Listed.{listed}
 use Rattle.rs_refusal.specs.declared.refusal.Refusal.{Refusal}
 use Rattle.rs_value.specs.Values.{IsRowOf}
 use Rattle.rs_versioned.specs.Events.{is_visible}
-use Rattle.rs_event_changes.specs.Calls.{HoldsNoTableBy, end_at}
+use Rattle.rs_event_changes.specs.Calls.{HoldsNoTableBy}
 use Rattle.rs_event_changes.specs.Inner.{HoldsNoTableWith}
 use Rattle.rs_event_changes.specs.Picked.{SayNone, Takes}
 use Rattle.rs_event_changes.proofs.Finding.{none_said, none_with_these, none_without_tree}
-use Rattle.rs_event_changes.proofs.Moments.{ends_so}
 use Rattle.rs_event_changes.proofs.Removed.{are_there, none_removed, removed_in_pages}
 use Rattle.rs_event_changes.proofs.removal.remove.Goals as goal
 
@@ -124,8 +123,9 @@ returns-clause-removes g c = λ tied accepted before.
     let edit = c.in_ok-left.left.edit in
     let rests = c.in_ok-found.ensures.rests in
     let takes = subst (λ types. Takes types c.args.stretch.lo c.args.stretch.hi (goes_by (option_copied c.args.goes)) (listed found) (listed edit.gone) (map seen edit.come.items) c.in_ok-left.left.count) c.schema.ensures c.in_ok-left.ensures.takes in
+    let made = c.in_ok-make.ensures.made (g.met.P.Pages.keeps_tied c.args.pages.now c.visible.new.pages rests.below tied) in
     removed_in_pages was.records.types c.args.moment.version c.args.stretch.route c.requires.may.mortal c.args.stretch.lo c.args.stretch.hi (option_copied c.args.goes) first.map was.records.working
     (listed found) (listed edit.gone) (map seen edit.come.items) c.in_ok-left.left.count (c.in_ok-found.ensures.found tied) takes
     (omega (arith, c.if-hi-lo.false)) mid.map last.map (rests.rests.keeps.pages tied) is.records.working was.indexes.items is.indexes.items c.what_gave_way_is_still_seen.ensures
-    c.args.moment.oldest (end_at c.args.moment) (ends_so c.args.moment)
-    (c.in_ok-make.ensures.made (g.met.P.Pages.keeps_tied c.args.pages.now c.visible.new.pages rests.below tied)) accepted before
+    c.args.moment.oldest made.0 made.1
+    made.2 accepted before
