@@ -1,13 +1,14 @@
 #!/usr/bin/env python3
 """Times changes beside sqlite3 through C: insertions in order and shuffled, without an index and with one, and the removal of each span.
 
-    bench/changes.py [--program crates/roadseg/out/roadseg] [--spans 100000] [--routes 400] [--rounds 5] [--folder FOLDER] [--instructions]
+    bench/changes.py [--program crates/roadseg/out/roadseg] [--spans 100000] [--routes 400] [--rounds 5] [--folder FOLDER] [--instructions | --pages]
 
 sqlite3 gets what is dearest for us to be compared with: a prepared statement, and values that were read before anything is timed, in
 one transaction with `synchronous=FULL`. The program gets lines, which it reads, answers and saves: what is timed is a whole run of
 `run`, in memory or over a file on the same file system, less a run of the lines before the changes alone. The best of the rounds
 counts. With --instructions it counts, by `valgrind --tool=callgrind` and in memory, what the insertions of 25,000 and of 400,000
-rows take, and prints the exponent of their growth. Figures of one run: nothing of time is promised.
+rows take, and prints the exponent of their growth. With --pages it times in C alone what so many changes have to do with pages
+(`bench/changes/pages.c`), which needs no program. Figures of one run: nothing of time is promised.
 """
 
 import os
@@ -18,7 +19,7 @@ import time
 
 from copies import instructions_of
 from load import inserts, parts_of, setup_for
-from measuring import PROGRAM, built_beside, exponent_of, parser_of
+from measuring import PROGRAM, built_in_c, exponent_of, parser_of
 
 INDEX = ["0 DEFINE INDEX ps ON pave (surf)"]
 SAVE = ["0 SAVE"]
@@ -49,7 +50,7 @@ class Beside:
     """sqlite3 through C, and the rows that it reads."""
 
     def __init__(self, folder, orders):
-        self.program, self.folder = built_beside("changes", folder), folder
+        self.program, self.folder = built_in_c("changes", "beside", folder), folder
         for order, rows in orders.items():
             with open(os.path.join(folder, order), "w", encoding="ascii") as file:
                 file.writelines(map(row_of, rows))
@@ -128,13 +129,21 @@ def count(words, folder):
     print("exponent %.3f" % exponent_of(taken))
 
 
+def time_pages(words, folder):
+    """Prints what searches and copies of pages take in C."""
+    printed = subprocess.run([built_in_c("changes", "pages", folder), str(words.spans)], check=True, stdout=subprocess.PIPE).stdout
+    for copies, nanoseconds in enumerate(map(int, printed.split())):
+        print("%d changes, two searches and %d pages copied each %8.1f ms" % (words.spans, copies, nanoseconds / 1e6), flush=True)
+
+
 def main():
     parser = parser_of(__doc__, program=PROGRAM, spans=100_000, routes=400, rounds=5)
     parser.add_argument("--folder", help="where the files stand (default: a new one under the working directory)")
-    parser.add_argument("--instructions", action="store_true")
+    parser.add_argument("--instructions", dest="job", action="store_const", const=count)
+    parser.add_argument("--pages", dest="job", action="store_const", const=time_pages)
     words = parser.parse_args()
     with tempfile.TemporaryDirectory(dir=words.folder or ".") as folder:
-        (count if words.instructions else measure)(words, os.path.abspath(folder))
+        (words.job or measure)(words, os.path.abspath(folder))
 
 
 if __name__ == "__main__":

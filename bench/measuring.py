@@ -1,4 +1,4 @@
-"""What the benches share: where the program is, the words that they take, sqlite3's side in C, what memory a process has, and how
+"""What the benches share: where the program is, the words that they take, how a program in C is built, what memory a process has, and how
 what is measured grows."""
 
 import argparse
@@ -26,12 +26,12 @@ def parser_of(description, **defaults):
     return parser
 
 
-def built_beside(bench, folder):
-    """The path of sqlite3's side of a bench, which is built into a folder."""
-    program = os.path.join(folder, "beside")
-    source = os.path.join(ROOT, "bench", bench, "beside.c")
+def built_in_c(bench, name, folder):
+    """The path of a bench's program in C, which is built into a folder."""
+    program = os.path.join(folder, name)
+    source = os.path.join(ROOT, "bench", bench, name + ".c")
     if subprocess.run(["cc", "-O2", "-o", program, source, "-lsqlite3"], check=False).returncode != 0:
-        sys.exit("sqlite3's side could not be built")
+        sys.exit("%s could not be built" % source)
     return program
 
 

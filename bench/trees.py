@@ -22,7 +22,7 @@ whatever is in the caches and runs beside it.
 import sys
 
 from copies import Bench, instructions_of, make_repository, parser_of_repository
-from measuring import built_beside, exponent_of
+from measuring import built_in_c, exponent_of
 
 STANDS_ON = ["rs_interval", "rs_tree_insert", "rs_tree", "rs_pager", "rs_page", "rs_disk", "rs_refusal"]
 FILES = ["main.rt", "records.rt", "table.rt"]
@@ -73,7 +73,7 @@ def main():
     words = parser.parse_args()
     with BENCH.folder(words.folder) as folder:
         program = make_repository(folder, BENCH)
-        sides = {"sqlite3": [built_beside("trees", folder)], "trees": BENCH.command(program, not words.unproved)}
+        sides = {"sqlite3": [built_in_c("trees", "beside", folder)], "trees": BENCH.command(program, not words.unproved)}
         if words.instructions:
             tell_instructions(sides, program, words.sizes)
         else:
