@@ -1,5 +1,5 @@
 -- The cell's referent ends.
-use Rattle.std.proofs.Common.{sym}
+use Rattle.std.proofs.Common.{arith, sym}
 use Rattle.std.proofs.lemmas.Result.{err_from_is_err_and}
 use Rattle.rs_cell_versions.specs.Versioned.{HoldsNone}
 use Rattle.rs_page_owners.proofs.Following.{damaged_err, works_err}
@@ -41,3 +41,7 @@ returns-then-not-ended-clause-leaves g c =
       works = damaged_err (g.P.Pages.is_tied c.args.pages.now → SaysNoLiving old.map was c.args.cell.now) old new c.in_ok-ended.ensures.leaves.works.works c.in_ok-ended.ensures.leaves.works.ends
           (λ tied. not_there c.args.version old.map new.map was c.kill.new.self.working c.args.cell.now c.in_ok-ended.ended (c.in_ok-ended.ensures.kills tied) c.if-not-ended.true);
     }
+
+pub returns-clause-ends : goal.returns-clause-ends
+returns-clause-ends g c tied accepted one later says =
+    (c.in_ok-ended.ensures.kills tied).changes accepted c.args.version one later (omega arith) says
