@@ -132,8 +132,8 @@ def count(words, folder):
 def time_pages(words, folder):
     """Prints what searches and copies of pages take in C."""
     printed = subprocess.run([built_in_c("changes", "pages", folder), str(words.spans)], check=True, stdout=subprocess.PIPE).stdout
-    for copies, nanoseconds in enumerate(map(int, printed.split())):
-        print("%d changes, two searches and %d pages copied each %8.1f ms" % (words.spans, copies, nanoseconds / 1e6), flush=True)
+    for order, copies, nanoseconds in map(str.split, printed.decode().splitlines()):
+        print("%d changes, %-8s %s pages copied each %8.1f ms" % (words.spans, order, copies, int(nanoseconds) / 1e6), flush=True)
 
 
 def main():

@@ -2,7 +2,7 @@
    that can be taken back: two searches from the root to a leaf, for what touches the row and for its place; a copy of each page that
    changes (the leaf, page 1 and, with a third, an inner page), into memory of its own, whose page before is given back; and cells of the
    leaf that move up. Nothing is read, checked, encoded, summed, counted or answered. Prints nanoseconds for 0 to 3 copies, the best of
-   seven rounds each. */
+   seven rounds each: of changes that go to one leaf after another, and then of changes that go to any. */
 
 #define _GNU_SOURCE
 #include <inttypes.h>
@@ -47,12 +47,12 @@ static void copy(int number) {
 }
 
 /* The nanoseconds of so many changes. What the searches find is summed, so that they are not left out. */
-static uint64_t spent(long changes, int copies, long *found) {
+static uint64_t spent(long changes, int is_shuffled, int copies, long *found) {
     uint32_t at = 7;
     uint64_t start = now();
     for (long k = 0; k < changes; k++) {
         at = at * 1664525 + 1013904223;
-        int leaf = (int)((at >> 8) % LEAVES), inner = LEAVES + leaf % INNER;
+        int leaf = (int)(is_shuffled ? (at >> 8) % LEAVES : k * LEAVES / changes), inner = LEAVES + leaf * INNER / LEAVES;
         int changed[MOST] = {leaf, FIRST, inner};
         unsigned char cell[CELL] = {0};
         memcpy(cell, &at, sizeof at);
@@ -71,13 +71,14 @@ int main(int argc, char **words) {
         pages[number] = fresh();
         for (int byte = 0; byte < PAGE; byte++) pages[number][byte] = (unsigned char)(byte * 131 + number);
     }
-    for (int copies = 0; copies <= MOST; copies++) {
-        uint64_t best = UINT64_MAX;
-        for (int round = 0; round < ROUNDS; round++) {
-            uint64_t taken = spent(changes, copies, &found);
-            if (taken < best) best = taken;
+    for (int is_shuffled = 0; is_shuffled <= 1; is_shuffled++)
+        for (int copies = 0; copies <= MOST; copies++) {
+            uint64_t best = UINT64_MAX;
+            for (int round = 0; round < ROUNDS; round++) {
+                uint64_t taken = spent(changes, is_shuffled, copies, &found);
+                if (taken < best) best = taken;
+            }
+            printf("%s %d %" PRIu64 "\n", is_shuffled ? "shuffled" : "ordered", copies, best);
         }
-        printf("%" PRIu64 "\n", best);
-    }
     return found < 0;
 }
