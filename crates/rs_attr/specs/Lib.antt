@@ -5,4 +5,5 @@ pub mod IndexCalls
 pub mod Inner
 pub mod Meant
 pub mod Opening
+pub mod OpeningCalls
 pub mod Tables

@@ -6,12 +6,13 @@
 //! so that its pages are read a few times, however many routes there are. Where each cell has its entry in an index, and there are
 //! as many entries as cells, the index is that of just these cells.
 
-ghost use Rattle.std.specs.Prelude.{◌≡◌, ◌⊎◌, ◌<◌, ◌≤◌, ◌+◌, ◌++◌, ◌∷◌, ◌*◌, ◌^◌, [], ℕ, List, Contains, Err, IfErr, IfOk, OnOk, length};
+ghost use Rattle.std.specs.Prelude.{◌≡◌, ◌⊎◌, ◌<◌, ◌≤◌, ◌+◌, ◌++◌, ◌∷◌, ◌*◌, ◌^◌, [], ℕ, List, Contains, IfErr, IfOk, OnOk, length};
 ghost use Rattle.std.specs.List.{AllByRecursion};
 ghost use Rattle.std.specs.Int.{w32, to_be_bytes};
 ghost use Rattle.rs_attr.specs.Calls.{IsOpened, Opens};
-ghost use Rattle.rs_attr.specs.Opening.{AreNotEntered, HasEntries, HaveAllEntries, LacksEntries, ReachesIndexes, ReachesNoIndexes};
+ghost use Rattle.rs_attr.specs.OpeningCalls.{Checks, Gathers, LooksUp, Reaches};
 ghost use Rattle.rs_attr.specs.Tables.{AreOn};
+ghost use Rattle.rs_cell_versions.specs.OpeningCalls.{RefusesLook};
 ghost use Rattle.rs_pages.specs.Calls.{OnlyReads};
 ghost use Rattle.rs_page_marks.specs.Marks.{taken};
 ghost use Rattle.rs_records.specs.Listed.{listed, record_width};
@@ -55,7 +56,7 @@ pub fn open<P: Pages>(
     ensures size { length reached.new ≡ length reached.old }
     ensures table { IfOk result (IsOpened told.schema.items told.records) }
     ensures opens { Opens P.Pages told indexes.now routes.now (taken reached.old) (taken reached.new) result pages.old }
-    ensures refused { IfErr result (λ why. (why ≡ Refusal.OutOfMemory) ⊎ (why ≡ Refusal.Disk) ⊎ (why ≡ Refusal.DamagedFile)) }
+    ensures refused { RefusesLook result }
 {
     let width = row_width(&told.schema) + EVENT_BYTES;
     let mut opening = Opening::<GreatestEnd>::begin(alloc, pages, width, &told.records, reached)?;
@@ -92,11 +93,8 @@ fn reach_indexes<P: Pages>(
 ) -> Result<(), Refusal>
     ensures rests { OnlyReads P.Pages result pages.old pages.new }
     ensures size { length reached.new ≡ length reached.old }
-    ensures reaches { P.is_tied pages.old → OnOk result (ReachesIndexes (P.store pages.old).map indexes.now
-        (told.living + told.garbage) (taken reached.old) (taken reached.new)) }
+    ensures reaches { Reaches P.Pages indexes.now (told.living + told.garbage) (taken reached.old) (taken reached.new) result pages.old }
     ensures refused { IfErr result (λ why. (why ≡ Refusal.Disk) ⊎ (why ≡ Refusal.DamagedFile)) }
-    ensures damaged { P.is_tied pages.old → result ≡ Err Refusal.DamagedFile → ReachesNoIndexes (P.store pages.old).map
-        indexes.now (told.living + told.garbage) (taken reached.old) }
 {
     for index in indexes {
         let entries = index.validate(pages, reached)?;
@@ -108,7 +106,7 @@ fn reach_indexes<P: Pages>(
 }
 
 /// Puts the cells after those that wait. As often as many do, their entries are looked for in each index, and none waits any
-/// longer. It is refused with 90, with 91, and with 94 only where one of them has no entry in an index. No page changes.
+/// longer. It is refused with 90, with 91, and with 94 only where the indexes are not those of cells that these are among. No page changes.
 fn gather<P: Pages>(
     alloc: Global,
     pages: &mut P,
@@ -120,13 +118,10 @@ fn gather<P: Pages>(
     requires indexes { AllByRecursion (λ index. index.field.cell_width ≡ record_width waiting.old) indexes.now }
     ensures rests { OnlyReads P.Pages result pages.old pages.new }
     ensures width { record_width waiting.new ≡ record_width waiting.old }
-    ensures entered { P.is_tied pages.old → OnOk result (HaveAllEntries (P.store pages.old).map indexes.now (listed waiting.new)
-        → HaveAllEntries (P.store pages.old).map indexes.now (listed waiting.old ++ listed cells.now)) }
+    ensures gathers { Gathers P.Pages indexes.now (listed waiting.old) (listed waiting.new) (listed cells.now) result pages.old }
     ensures among { OnOk result ((all : List (List ℕ)) → AllByRecursion (Contains all) (listed waiting.old ++ listed cells.now)
         → AllByRecursion (Contains all) (listed waiting.new)) }
-    ensures refused { IfErr result (λ why. (why ≡ Refusal.OutOfMemory) ⊎ (why ≡ Refusal.Disk) ⊎ (why ≡ Refusal.DamagedFile)) }
-    ensures damaged { P.is_tied pages.old → result ≡ Err Refusal.DamagedFile → AreNotEntered (P.store pages.old).map indexes.now
-        (listed waiting.old ++ listed cells.now) }
+    ensures refused { RefusesLook result }
 {
     if indexes.is_empty() {
         return Ok(());
@@ -149,13 +144,10 @@ fn gather_one<P: Pages>(
     requires indexes { AllByRecursion (λ index. index.field.cell_width ≡ record_width waiting.old) indexes.now }
     ensures rests { OnlyReads P.Pages result pages.old pages.new }
     ensures width { record_width waiting.new ≡ record_width waiting.old }
-    ensures entered { P.is_tied pages.old → OnOk result (HaveAllEntries (P.store pages.old).map indexes.now (listed waiting.new)
-        → HaveAllEntries (P.store pages.old).map indexes.now (listed waiting.old ++ cell.now ∷ [])) }
+    ensures gathers { Gathers P.Pages indexes.now (listed waiting.old) (listed waiting.new) (cell.now ∷ []) result pages.old }
     ensures among { OnOk result ((all : List (List ℕ)) → AllByRecursion (Contains all) (listed waiting.old ++ cell.now ∷ [])
         → AllByRecursion (Contains all) (listed waiting.new)) }
-    ensures refused { IfErr result (λ why. (why ≡ Refusal.OutOfMemory) ⊎ (why ≡ Refusal.Disk) ⊎ (why ≡ Refusal.DamagedFile)) }
-    ensures damaged { P.is_tied pages.old → result ≡ Err Refusal.DamagedFile → AreNotEntered (P.store pages.old).map indexes.now
-        (listed waiting.old ++ cell.now ∷ []) }
+    ensures refused { RefusesLook result }
 {
     waiting.push(cell)?;
     if waiting.len() < MOST_WAITING / waiting.width() {
@@ -177,18 +169,15 @@ fn check_last<P: Pages>(
     requires width { record_width cells.now ≡ record_width waiting }
     requires indexes { AllByRecursion (λ index. index.field.cell_width ≡ record_width waiting) indexes.now }
     ensures rests { OnlyReads P.Pages result pages.old pages.new }
-    ensures entered { P.is_tied pages.old → OnOk result (HaveAllEntries (P.store pages.old).map indexes.now
-        (listed waiting ++ listed cells.now)) }
-    ensures refused { IfErr result (λ why. (why ≡ Refusal.OutOfMemory) ⊎ (why ≡ Refusal.Disk) ⊎ (why ≡ Refusal.DamagedFile)) }
-    ensures damaged { P.is_tied pages.old → result ≡ Err Refusal.DamagedFile → AreNotEntered (P.store pages.old).map indexes.now
-        (listed waiting ++ listed cells.now) }
+    ensures checks { Checks P.Pages indexes.now (listed waiting ++ listed cells.now) result pages.old }
+    ensures refused { RefusesLook result }
 {
     gather(alloc, pages, indexes, cells, &mut waiting)?;
     check_all(alloc, pages, indexes, &waiting)
 }
 
-/// Ok where each of the cells has its entry in each index. It is refused with 90, with 91, and with 94 only where one of them has
-/// none in one of these. No page changes.
+/// Ok where each of the cells has its entry in each index. It is refused with 90, with 91, and with 94 only where the indexes are not
+/// those of cells that these are among. No page changes.
 fn check_all<P: Pages>(
     alloc: Global,
     pages: &mut P,
@@ -197,10 +186,8 @@ fn check_all<P: Pages>(
 ) -> Result<(), Refusal>
     requires indexes { AllByRecursion (λ index. index.field.cell_width ≡ record_width cells.now) indexes.now }
     ensures rests { OnlyReads P.Pages result pages.old pages.new }
-    ensures entered { P.is_tied pages.old → OnOk result (HaveAllEntries (P.store pages.old).map indexes.now (listed cells.now)) }
-    ensures refused { IfErr result (λ why. (why ≡ Refusal.OutOfMemory) ⊎ (why ≡ Refusal.Disk) ⊎ (why ≡ Refusal.DamagedFile)) }
-    ensures damaged { P.is_tied pages.old → result ≡ Err Refusal.DamagedFile → AreNotEntered (P.store pages.old).map indexes.now
-        (listed cells.now) }
+    ensures checks { Checks P.Pages indexes.now (listed cells.now) result pages.old }
+    ensures refused { RefusesLook result }
 {
     for index in indexes {
         index.check_entries(alloc, pages, cells)?;
@@ -219,11 +206,8 @@ impl AttrIndex {
     ) -> Result<(), Refusal>
         requires width { record_width cells.now ≡ self.now.field.cell_width }
         ensures rests { OnlyReads P.Pages result pages.old pages.new }
-        ensures entered { P.is_tied pages.old → OnOk result (HasEntries self.now.field (P.store pages.old).map self.now.working
-            (listed cells.now)) }
-        ensures refused { IfErr result (λ why. (why ≡ Refusal.OutOfMemory) ⊎ (why ≡ Refusal.Disk) ⊎ (why ≡ Refusal.DamagedFile)) }
-        ensures damaged { P.is_tied pages.old → result ≡ Err Refusal.DamagedFile → LacksEntries self.now.field
-            (P.store pages.old).map self.now.working (listed cells.now) }
+        ensures looks_up { LooksUp P.Pages self.now (listed cells.now) result pages.old }
+        ensures refused { RefusesLook result }
     {
         let ordered = self.in_order(alloc, cells)?;
         self.check_each(alloc, pages, &ordered)
@@ -238,11 +222,8 @@ impl AttrIndex {
     ) -> Result<(), Refusal>
         requires width { record_width cells.now ≡ self.now.field.cell_width }
         ensures rests { OnlyReads P.Pages result pages.old pages.new }
-        ensures entered { P.is_tied pages.old → OnOk result (HasEntries self.now.field (P.store pages.old).map self.now.working
-            (listed cells.now)) }
-        ensures refused { IfErr result (λ why. (why ≡ Refusal.OutOfMemory) ⊎ (why ≡ Refusal.Disk) ⊎ (why ≡ Refusal.DamagedFile)) }
-        ensures damaged { P.is_tied pages.old → result ≡ Err Refusal.DamagedFile → LacksEntries self.now.field
-            (P.store pages.old).map self.now.working (listed cells.now) }
+        ensures looks_up { LooksUp P.Pages self.now (listed cells.now) result pages.old }
+        ensures refused { RefusesLook result }
     {
         let mut buffer = Vec::new(alloc);
         for place in 0..cells.len() {

@@ -23,3 +23,8 @@ module _ {S : Type 0} (is_tied : S → Type 0) (store : S → Store) (keeps : S 
   pub rests_made : {T U : Type 0} (x : T) (r : Result U Refusal) (a b : S) → IsOkUnless r refusal.OutOfMemory → RestsAfter is_tied store keeps (Ok x) a b → RestsAfter is_tied store keeps r a b
   rests_made x (Ok y) a b told one = rests_ok x y a b one
   rests_made x (Err why) a b told one = rests_refused x why a b (λ is. cc) one
+
+-- what is refused for want of memory alone finds no damage
+pub never_damaged : {T : Type 0} (r : Result T Refusal) → IsOkUnless r refusal.OutOfMemory → r ≡ Err refusal.DamagedFile → ⊥
+never_damaged (Ok y) told is = absurd (cc)
+never_damaged (Err why) told is = absurd (cc)

@@ -5,6 +5,7 @@ pub mod Dying
 pub mod Inner
 pub mod Looking
 pub mod Opening
+pub mod OpeningCalls
 pub mod Tallies
 pub mod Version
 pub mod Versioned

@@ -2,14 +2,14 @@
 //!
 //! The way to it goes by the last entry of each inner page, so that one page of each level is read.
 
-ghost use Rattle.std.specs.Prelude.{◌≡◌, ◌⊎◌, ◌<◌, ◌≤◌, ◌*◌, ◌-◌, ◌++◌, ℕ, List, [], ◌∷◌, Some, Err, IfOk, IfErr, IsOkUnless, slice_get};
+ghost use Rattle.std.specs.Prelude.{◌≡◌, ◌<◌, ◌≤◌, ◌*◌, ◌-◌, ◌++◌, ℕ, List, [], ◌∷◌, Some, IfOk, IsOkUnless, slice_get};
 ghost use Rattle.rs_page.specs.Number.{number_at};
 ghost use Rattle.rs_records.specs.Records.{records};
 ghost use Rattle.rs_tree.specs.Content.{content};
-ghost use Rattle.rs_tree.specs.Tree.{IsNoTree};
 ghost use Rattle.rs_tree.specs.Layouts.{entry_bytes};
 ghost use Rattle.rs_tree.specs.Forms.{form_in};
-ghost use Rattle.rs_cell_versions.specs.Looking.{IsAbove};
+ghost use Rattle.rs_cell_versions.specs.Looking.{Bounds};
+ghost use Rattle.rs_cell_versions.specs.OpeningCalls.{RefusesLook};
 ghost use Rattle.rs_pages.specs.Calls.{OnlyReads};
 
 use rs_page::{Page, PageNumber};
@@ -30,11 +30,8 @@ pub(crate) fn bound_above<P: Pages, S: Summary>(
     root: PageNumber,
 ) -> Result<Vec<u8>, Refusal>
     ensures rests { OnlyReads P.Pages result pages.old pages.new }
-    ensures above { P.is_tied pages.old → IfOk result (λ bound. IsAbove
-        (form_in S.Summary layout) (P.store pages.old).map root bound.items) }
-    ensures refused { IfErr result (λ why. (why ≡ Refusal.OutOfMemory) ⊎ (why ≡ Refusal.Disk) ⊎ (why ≡ Refusal.DamagedFile)) }
-    ensures damaged { P.is_tied pages.old → result ≡ Err Refusal.DamagedFile → IsNoTree
-        (form_in S.Summary layout) (P.store pages.old).map root }
+    ensures bounds { Bounds P.Pages (form_in S.Summary layout) root result pages.old }
+    ensures refused { RefusesLook result }
 {
     if root.number() == 0 {
         return Ok(Vec::new(alloc));

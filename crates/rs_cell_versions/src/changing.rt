@@ -2,16 +2,12 @@
 //!
 //! A step that is refused may have changed pages, and the tree.
 
-ghost use Rattle.std.specs.Prelude.{◌≡◌, ◌≢◌, ◌<◌, ◌↔◌, ℕ, List, [], ◌∷◌, Contains, IsTrue, IfOk, OnOk, OnErr, true, false, length, Err};
-ghost use Rattle.rs_page_owners.specs.Counts.{◌&◌};
-ghost use Rattle.rs_page_owners.specs.Owners.{Shares};
+ghost use Rattle.std.specs.Prelude.{◌≡◌, ◌≢◌, ◌<◌, [], ◌∷◌, IsTrue, IfOk, OnOk, OnErr, true, length, Err};
 ghost use Rattle.rs_page_owners.specs.Calls.{WorksOn};
-ghost use Rattle.rs_pages.specs.PageMap.{SamePages};
 ghost use Rattle.rs_records.specs.Listed.{listed};
 ghost use Rattle.rs_tree.specs.Calls.{IsNotShared};
-ghost use Rattle.rs_tree.specs.Tree.{IsTree};
 ghost use Rattle.rs_tree.specs.Forms.{form};
-ghost use Rattle.rs_cell_versions.specs.Inner.{Adds, EndsOne, FitsPages, HoldsNoneFirst, TakesOut};
+ghost use Rattle.rs_cell_versions.specs.Inner.{FitsPages, HoldsNoneFirst, PutsOne, TakesOut, TellsEnd};
 ghost use Rattle.rs_cell_versions.specs.Version.{born_of, ended, is_living};
 
 use crate::cell::{LIVING, born_of};
@@ -55,14 +51,8 @@ pub(crate) fn put<P: Pages, S: Summary>(
     ensures keeps { P.keeps pages.old pages.new }
     ensures works { WorksOn P.Pages (IsNotShared
         (form S.Summary tree.old.width) (P.store pages.old).map tree.old.root) result pages.old pages.new }
-    ensures added { P.is_tied pages.old → IfOk result (λ answer. Adds
-        (form S.Summary tree.old.width) (P.store pages.old).map (P.store pages.new).map
-        tree.old.root living tree.new.root answer.1 cell.now) }
-    ensures found { P.is_tied pages.old → IfOk result (λ answer. (cells : List (List ℕ)) (used : ℕ → ℕ)
-        → IsTree (form S.Summary tree.old.width) (P.store pages.old).map tree.old.root cells used
-        → (IsTrue answer.0 ↔ (Contains cells cell.now → ⊥))) }
-    ensures rests { P.is_tied pages.old → IfOk result (λ answer. answer.0 ≡ false
-        → SamePages (P.store pages.new).map (P.store pages.old).map) }
+    ensures puts { P.is_tied pages.old → IfOk result (PutsOne (form S.Summary tree.old.width)
+        (P.store pages.old).map (P.store pages.new).map tree.old.root living tree.new.root cell.now) }
     ensures width { tree.new.width ≡ tree.old.width }
     ensures stays { OnErr result (tree.new ≡ tree.old) }
 {
@@ -94,12 +84,8 @@ pub(crate) fn end<P: Pages, S: Summary>(
     ensures keeps { P.keeps pages.old pages.new }
     ensures works { WorksOn P.Pages (IsNotShared
         (form S.Summary tree.old.width) (P.store pages.old).map tree.old.root) result pages.old pages.new }
-    ensures ended { P.is_tied pages.old → IfOk result (λ answer. EndsOne
-        (form S.Summary tree.old.width) (P.store pages.old).map (P.store pages.new).map
-        tree.old.root living tree.new.root answer.living answer.listed version cell.now) }
-    ensures found { P.is_tied pages.old → IfOk result (λ answer. (cells : List (List ℕ)) (used others : ℕ → ℕ)
-        → IsTree (form S.Summary tree.old.width) (P.store pages.old).map tree.old.root cells used
-        → Shares (P.store pages.old).map (used & others) → (IsTrue answer.found ↔ Contains cells cell.now)) }
+    ensures ends { P.is_tied pages.old → IfOk result (TellsEnd (form S.Summary tree.old.width)
+        (P.store pages.old).map (P.store pages.new).map tree.old.root living tree.new.root version cell.now) }
     ensures late { IfOk result (λ answer. answer.listed ≡ true → born_of cell.now < version) }
     ensures width { tree.new.width ≡ tree.old.width }
 {

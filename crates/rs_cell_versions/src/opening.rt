@@ -3,20 +3,13 @@
 //! The tree is checked first and its pages are marked. The parts are given to the caller, who may have more to ask of them, so
 //! that no more than one part is in memory at a time.
 
-ghost use Rattle.std.specs.Prelude.{◌≡◌, ◌⊎◌, ◌≤◌, ◌*◌, ◌+◌, ℕ, List, [], Err, IfOk, IfErr, OnOk, false, filter, length, not};
-ghost use Rattle.std.specs.List.{AllByRecursion};
-ghost use Rattle.rs_pages.specs.PageMap.{PageMap};
+ghost use Rattle.std.specs.Prelude.{◌≡◌, ◌⊎◌, ◌≤◌, ◌*◌, ◌+◌, IfOk, IfErr, OnOk, false, length};
 ghost use Rattle.rs_pages.specs.Calls.{OnlyReads};
 ghost use Rattle.rs_page_marks.specs.Marks.{taken};
-ghost use Rattle.rs_records.specs.Listed.{listed, record_width};
 ghost use Rattle.rs_records.specs.Order.{is_below};
-ghost use Rattle.rs_tree.specs.Cells.{cells_within};
-ghost use Rattle.rs_tree.specs.Tree.{IsTree};
 ghost use Rattle.rs_tree.specs.Forms.{form};
-ghost use Rattle.rs_tree_whole.specs.Validating.{HasNoFreshTree, Validates};
-ghost use Rattle.rs_cell_versions.specs.Looking.{HasPassedAll};
-ghost use Rattle.rs_cell_versions.specs.Opening.{HasPassed, StandsOtherwise, StandsTold, told_of};
-ghost use Rattle.rs_cell_versions.specs.Version.{HaveDiedBy, IsDated};
+ghost use Rattle.rs_cell_versions.specs.Looking.{GoesToEnd};
+ghost use Rattle.rs_cell_versions.specs.OpeningCalls.{AreDatedCells, AreTold, Begins, Finishes, IsBegun, Parts, RefusesLook};
 
 use crate::bounding::bound_above;
 use crate::dying::by_death;
@@ -84,15 +77,9 @@ impl<S: Summary> Opening<S> {
         requires fits { 3 * (4 + S.WIDTH + width) ≤ 4080 }
         ensures rests { OnlyReads P.Pages result pages.old pages.new }
         ensures size { length reached.new ≡ length reached.old }
-        ensures told { IfOk result (λ opening. opening.told ≡ told_of width told.now) }
-        ensures low { IfOk result (λ opening. opening.low ≡ []) }
-        ensures passed { IfOk result (λ opening. (pages : PageMap)
-            → HasPassed (form S.Summary width) pages opening) }
-        ensures validates { P.is_tied pages.old → OnOk result (Validates
-            (form S.Summary width) (P.store pages.old).map told.now.root (taken reached.old) (taken reached.new)) }
+        ensures begun { IfOk result (IsBegun (form S.Summary width) width told.now) }
+        ensures begins { Begins P.Pages S.Summary width told.now (taken reached.old) (taken reached.new) result pages.old }
         ensures refused { IfErr result (λ why. (why ≡ Refusal.Disk) ⊎ (why ≡ Refusal.DamagedFile)) }
-        ensures damaged { P.is_tied pages.old → result ≡ Err Refusal.DamagedFile → HasNoFreshTree
-            (form S.Summary width) (P.store pages.old).map told.now.root (taken reached.old) }
     {
         let tree = Tree::at(width, told.root);
         let _cells = tree.validate(pages, reached)?;
@@ -122,21 +109,11 @@ impl<S: Summary> Opening<S> {
     ) -> Result<Cells, Refusal>
         requires order { is_below high.now self.old.low ≡ false }
         ensures rests { OnlyReads P.Pages result pages.old pages.new }
-        ensures width { IfOk result (λ found. record_width found ≡ self.old.told.width) }
-        ensures found { P.is_tied pages.old → IfOk result (λ found. (cells : List (List ℕ)) (used : ℕ → ℕ)
-            → IsTree (form S.Summary self.old.told.width) (P.store pages.old).map self.old.told.root cells used
-            → listed found ≡ cells_within self.old.low high.now cells) }
-        ensures dated { IfOk result (λ found. AllByRecursion (IsDated self.old.told.accepted) (listed found)) }
         ensures told { self.new.told ≡ self.old.told }
         ensures low { OnOk result (self.new.low ≡ high.now) }
-        ensures passed { P.is_tied pages.old
-            → HasPassed (form S.Summary self.old.told.width) (P.store pages.old).map self.old
-            → OnOk result (HasPassed (form S.Summary self.old.told.width) (P.store pages.old).map self.new) }
-        ensures refused { IfErr result (λ why. (why ≡ Refusal.OutOfMemory) ⊎ (why ≡ Refusal.Disk) ⊎
-            (why ≡ Refusal.DamagedFile)) }
-        ensures damaged { P.is_tied pages.old → result ≡ Err Refusal.DamagedFile
-            → HasPassed (form S.Summary self.old.told.width) (P.store pages.old).map self.old
-            → StandsOtherwise (form S.Summary self.old.told.width) (P.store pages.old).map self.old.told }
+        ensures part { IfOk result (AreDatedCells self.old.told) }
+        ensures parts { Parts P.Pages S.Summary self.old self.new high.now result pages.old }
+        ensures refused { RefusesLook result }
     {
         let low = copied(alloc, high).map_err(|_| Refusal::OutOfMemory)?;
         let found = self.tree.range(alloc, pages, &self.low, high)?;
@@ -154,28 +131,10 @@ impl<S: Summary> Opening<S> {
         pages: &mut P,
     ) -> Result<(Versions<S>, Cells), Refusal>
         ensures rests { OnlyReads P.Pages result pages.old pages.new }
-        ensures width { IfOk result (λ answer. answer.0.width ≡ self.told.width) }
-        ensures root { IfOk result (λ answer. answer.0.working.root ≡ self.told.root) }
-        ensures living { IfOk result (λ answer. answer.0.working.living ≡ self.told.living) }
-        ensures garbage { IfOk result (λ answer. length answer.0.working.dead ≡ self.told.garbage) }
-        ensures order { IfOk result (λ answer. HaveDiedBy self.told.accepted answer.0.working.dead) }
-        ensures committed { IfOk result (λ answer. answer.0.committed ≡ answer.0.working) }
-        ensures left { P.is_tied pages.old → IfOk result (λ answer. (cells : List (List ℕ)) (used : ℕ → ℕ)
-            → IsTree (form S.Summary self.told.width) (P.store pages.old).map self.told.root cells used
-            → listed answer.1 ≡ filter (λ cell. not (is_below cell self.low)) cells) }
-        ensures left_width { IfOk result (λ answer. record_width answer.1 ≡ self.told.width) }
-        ensures left_dated { IfOk result (λ answer. AllByRecursion (IsDated self.told.accepted) (listed answer.1)) }
-        ensures stands { P.is_tied pages.old
-            → HasPassed (form S.Summary self.told.width) (P.store pages.old).map self
-            → IfOk result (λ answer. (cells : List (List ℕ)) (used : ℕ → ℕ)
-            → IsTree (form S.Summary self.told.width) (P.store pages.old).map self.told.root cells used
-            → StandsTold (form S.Summary self.told.width) (P.store pages.old).map self.told
-            answer.0.working.dead cells used) }
-        ensures refused { IfErr result (λ why. (why ≡ Refusal.OutOfMemory) ⊎ (why ≡ Refusal.Disk) ⊎
-            (why ≡ Refusal.DamagedFile)) }
-        ensures damaged { P.is_tied pages.old → result ≡ Err Refusal.DamagedFile
-            → HasPassed (form S.Summary self.told.width) (P.store pages.old).map self
-            → StandsOtherwise (form S.Summary self.told.width) (P.store pages.old).map self.told }
+        ensures cells { IfOk result (λ answer. AreTold self.told answer.0) }
+        ensures left { IfOk result (λ answer. AreDatedCells self.told answer.1) }
+        ensures finishes { Finishes P.Pages S.Summary self result pages.old }
+        ensures refused { RefusesLook result }
     {
         let left = self.rest(alloc, pages)?;
         if !self.tally.is_whole() {
@@ -189,19 +148,9 @@ impl<S: Summary> Opening<S> {
     fn rest<P: Pages>(&mut self, alloc: Global, pages: &mut P) -> Result<Cells, Refusal>
         ensures rests { OnlyReads P.Pages result pages.old pages.new }
         ensures told { self.new.told ≡ self.old.told }
-        ensures left { P.is_tied pages.old → IfOk result (λ left. (cells : List (List ℕ)) (used : ℕ → ℕ)
-            → IsTree (form S.Summary self.old.told.width) (P.store pages.old).map self.old.told.root cells used
-            → listed left ≡ filter (λ cell. not (is_below cell self.old.low)) cells) }
-        ensures width { IfOk result (λ left. record_width left ≡ self.old.told.width) }
-        ensures dated { IfOk result (λ left. AllByRecursion (IsDated self.old.told.accepted) (listed left)) }
-        ensures passed { P.is_tied pages.old
-            → HasPassed (form S.Summary self.old.told.width) (P.store pages.old).map self.old
-            → OnOk result (HasPassedAll (form S.Summary self.old.told.width) (P.store pages.old).map self.new) }
-        ensures refused { IfErr result (λ why. (why ≡ Refusal.OutOfMemory) ⊎ (why ≡ Refusal.Disk) ⊎
-            (why ≡ Refusal.DamagedFile)) }
-        ensures damaged { P.is_tied pages.old → result ≡ Err Refusal.DamagedFile
-            → HasPassed (form S.Summary self.old.told.width) (P.store pages.old).map self.old
-            → StandsOtherwise (form S.Summary self.old.told.width) (P.store pages.old).map self.old.told }
+        ensures left { IfOk result (AreDatedCells self.old.told) }
+        ensures ends { GoesToEnd P.Pages S.Summary self.old self.new result pages.old }
+        ensures refused { RefusesLook result }
     {
         let width = self.tally.dead.width();
         let layout = Layout::new(width, S::WIDTH);

@@ -4,4 +4,5 @@ pub mod Creating
 pub mod FreePages
 pub mod Meant
 pub mod Opening
+pub mod OpeningCalls
 pub mod Slots

@@ -7,7 +7,8 @@ ghost use Rattle.rs_catalog_pages.specs.Said.{said_catalogue, said_directory};
 ghost use Rattle.rs_catalog_pages.specs.Said.{said_route};
 ghost use Rattle.rs_contents.specs.Calls.{Loads, RefusesToLoad};
 ghost use Rattle.rs_contents.specs.Meant.{span_of_route};
-ghost use Rattle.rs_contents.specs.Opening.{AreSound, IsFile, LoadsNothingSaid, LoadsSaid};
+ghost use Rattle.rs_contents.specs.Opening.{AreSound, IsFile};
+ghost use Rattle.rs_contents.specs.OpeningCalls.{Says};
 ghost use Rattle.rs_page_owners.specs.Counts.{◌&◌, one_at, times};
 ghost use Rattle.rs_versioned.specs.Meant.{AreRising};
 ghost use Rattle.rs_pages.specs.Calls.{OnlyReads};
@@ -87,12 +88,9 @@ fn load_said<P: Pages>(
     reached: &mut Reached,
 ) -> Result<FileCatalogue, Refusal>
     ensures rests { OnlyReads P.Pages result pages.old pages.new }
-    ensures loads { P.is_tied pages.old → IfOk result (λ said. LoadsSaid (P.store pages.old).map said.pages.items
-        (said_catalogue said.definitions) (said_directory said.directory) (taken reached.old) (taken reached.new)) }
+    ensures says { Says P.Pages (taken reached.old) (taken reached.new) result pages.old }
     ensures sound { IfOk result (λ said. AreSound (said_catalogue said.definitions) (said_directory said.directory)) }
     ensures refused { RefusesToLoad result }
-    ensures damaged { P.is_tied pages.old → result ≡ Err Refusal.DamagedFile → LoadsNothingSaid (P.store pages.old).map
-        (taken reached.old) }
 {
     let directory = load_directory(alloc, pages)?;
     let (numbers, definitions) = rs_catalog_pages::load(alloc, pages, reached)?;

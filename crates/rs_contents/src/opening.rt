@@ -1,15 +1,16 @@
 //! This module opens the tables of a file, its referents and its free pages, as the definitions and the directory say them.
 
-ghost use Rattle.std.specs.Prelude.{◌≡◌, ◌≤◌, ◌↔◌, Err, IfOk, IsTrue, OnOk, length};
-ghost use Rattle.std.specs.List.{AllByRecursion, AllZip};
+ghost use Rattle.std.specs.Prelude.{◌≡◌, ◌↔◌, IfOk, IsTrue, OnOk, length};
+ghost use Rattle.std.specs.List.{AllZip};
 ghost use Rattle.rs_catalog_pages.specs.Items.{kind_of};
 ghost use Rattle.rs_catalog_pages.specs.Said.{said_catalogue, said_directory, said_table, said_tree};
 ghost use Rattle.rs_contents.specs.Calls.{RefusesToLoad};
-ghost use Rattle.rs_contents.specs.Opening.{IsTableOf, OpensNoParts, OpensNoTables, OpensNotOne, OpensOne, OpensParts, OpensTables, told_of};
+ghost use Rattle.rs_contents.specs.Opening.{IsTableOf, told_of};
+ghost use Rattle.rs_contents.specs.OpeningCalls.{OpensAll, OpensEach, OpensItem};
 ghost use Rattle.rs_pages.specs.Calls.{OnlyReads};
 ghost use Rattle.rs_versioned.specs.Meant.{AreRising};
+ghost use Rattle.rs_versioned.specs.ReferentCalls as referents;
 ghost use Rattle.rs_page_marks.specs.Marks.{taken, unmarked};
-ghost use Rattle.rs_cell_versions.specs.Version.{died_of};
 
 use crate::definitions::{indexes_of, schema_of};
 use crate::free_pages::reach_free;
@@ -36,16 +37,13 @@ pub(crate) fn open_parts<P: Pages>(
 ) -> Result<(Vec<OpenedTable>, ReferentTable), Refusal>
     requires rising { AreRising routes.now }
     ensures rests { OnlyReads P.Pages result pages.old pages.new }
-    ensures opens { P.is_tied pages.old → IfOk result (λ parts. OpensParts routes.now (P.store pages.old).map (said_directory directory.now)
-        (said_catalogue definitions.now) parts.0.items parts.1 (taken reached.old) (taken reached.new)) }
+    ensures opens { OpensAll P.Pages routes.now (said_directory directory.now) (said_catalogue definitions.now)
+        (taken reached.old) (taken reached.new) result pages.old }
     ensures tables { IfOk result (λ parts. AllZip (IsTableOf (said_directory directory.now) (said_catalogue definitions.now))
         (said_catalogue definitions.now).tables parts.0.items) }
     ensures whole { OnOk result (unmarked reached.new ≡ 0) }
-    ensures committed { IfOk result (λ parts. parts.1.committed ≡ parts.1.working) }
-    ensures order { IfOk result (λ parts. AllByRecursion (λ dead. died_of dead ≤ directory.now.accepted) parts.1.working.dead) }
+    ensures referents { IfOk result (λ parts. referents.IsOpened (told_of (said_tree directory.now.referents) directory.now.accepted) parts.1) }
     ensures refused { RefusesToLoad result }
-    ensures damaged { P.is_tied pages.old → result ≡ Err Refusal.DamagedFile → OpensNoParts routes.now (P.store pages.old).map
-        (said_directory directory.now) (said_catalogue definitions.now) (taken reached.old) }
 {
     let tables = open_tables(alloc, pages, definitions, directory, routes, reached)?;
     let told = told_of(&directory.referents, directory.accepted);
@@ -90,13 +88,11 @@ fn open_tables<P: Pages>(
     requires rising { AreRising routes.now }
     ensures rests { OnlyReads P.Pages result pages.old pages.new }
     ensures size { length reached.new ≡ length reached.old }
-    ensures opens { P.is_tied pages.old → IfOk result (λ tables. OpensTables routes.now (P.store pages.old).map (said_directory directory.now)
-        (said_catalogue definitions.now) (said_catalogue definitions.now).tables tables.items (taken reached.old) (taken reached.new)) }
+    ensures opens { OpensEach P.Pages routes.now (said_directory directory.now) (said_catalogue definitions.now)
+        (taken reached.old) (taken reached.new) result pages.old }
     ensures tables { IfOk result (λ tables. AllZip (IsTableOf (said_directory directory.now) (said_catalogue definitions.now))
         (said_catalogue definitions.now).tables tables.items) }
     ensures refused { RefusesToLoad result }
-    ensures damaged { P.is_tied pages.old → result ≡ Err Refusal.DamagedFile → OpensNoTables routes.now (P.store pages.old).map
-        (said_directory directory.now) (said_catalogue definitions.now) (taken reached.old) }
 {
     let mut tables = Vec::new(alloc);
     for item in definitions.tables.as_slice() {
@@ -121,12 +117,10 @@ fn open_table<P: Pages>(
     requires rising { AreRising routes.now }
     ensures rests { OnlyReads P.Pages result pages.old pages.new }
     ensures size { length reached.new ≡ length reached.old }
-    ensures opens { P.is_tied pages.old → IfOk result (λ table. OpensOne routes.now (P.store pages.old).map (said_directory directory.now)
-        (said_catalogue definitions.now) (said_table item.now) table (taken reached.old) (taken reached.new)) }
+    ensures opens { OpensItem P.Pages routes.now (said_directory directory.now) (said_catalogue definitions.now) (said_table item.now)
+        (taken reached.old) (taken reached.new) result pages.old }
     ensures table { IfOk result (IsTableOf (said_directory directory.now) (said_catalogue definitions.now) (said_table item.now)) }
     ensures refused { RefusesToLoad result }
-    ensures damaged { P.is_tied pages.old → result ≡ Err Refusal.DamagedFile → OpensNotOne routes.now (P.store pages.old).map
-        (said_directory directory.now) (said_catalogue definitions.now) (said_table item.now) (taken reached.old) }
 {
     let Some(schema) = schema_of(item) else {
         return Err(Refusal::DamagedFile);

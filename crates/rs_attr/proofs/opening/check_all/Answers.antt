@@ -23,15 +23,19 @@ returns-in_err-check_entries-clause-rests g c =
     rw (p.1, p.2) (rests_then g.P.Pages.is_tied g.P.Pages.store g.P.Pages.keeps tt (Err c.in_err-check_entries.field-0.0) c.args.pages.now c.loop-index.pages c.check_entries.new.pages g.met.P.Pages.keeps_trans
     g.met.P.Pages.keeps_tied c.loop-index.invariant.rests c.in_err-check_entries.ensures.rests)
 
-pub returns-in_err-check_entries-clause-damaged : goal.returns-in_err-check_entries-clause-damaged
-returns-in_err-check_entries-clause-damaged g c = λ tied is.
+pub returns-in_err-check_entries-clause-checks : goal.returns-in_err-check_entries-clause-checks
+returns-in_err-check_entries-clause-checks g c = λ tied.
     let later = g.met.P.Pages.keeps_tied c.args.pages.now c.loop-index.pages c.loop-index.invariant.rests.below tied in
     let same = c.loop-index.invariant.rests.rests.keeps.pages tied in
     let p = err_from_is_err_and c.from_residual.result c.from_residual.ensures.1 in
-    let why : c.in_err-check_entries.field-0.0 ≡ refusal.DamagedFile = cc (p.1, p.2, is) in
-    not_entered_at (g.P.Pages.store c.args.pages.now).map (g.P.Pages.store c.loop-index.pages).map same c.args.indexes.now c.loop-index.index-index c.index-item.result
-    (slice_get_read c.args.indexes.now (length c.args.indexes.now) c.loop-index.index-index c.index-item.result refl c.loop-index-test.true c.index-item.is) (listed c.args.cells.now)
-    (c.in_err-check_entries.ensures.damaged later (ap Err why))
+    record {
+      entered = rw (p.1) tt;
+      damaged = λ is.
+          let why : c.in_err-check_entries.field-0.0 ≡ refusal.DamagedFile = cc (p.1, p.2, is) in
+          not_entered_at (g.P.Pages.store c.args.pages.now).map (g.P.Pages.store c.loop-index.pages).map same c.args.indexes.now c.loop-index.index-index c.index-item.result
+          (slice_get_read c.args.indexes.now (length c.args.indexes.now) c.loop-index.index-index c.index-item.result refl c.loop-index-test.true c.index-item.is) (listed c.args.cells.now)
+          ((c.in_err-check_entries.ensures.looks_up later).damaged (ap Err why));
+    }
 
 pub loop-index-preserved : goal.loop-index-preserved
 loop-index-preserved g c = record {
@@ -44,13 +48,15 @@ loop-index-preserved g c = record {
       subst (λ (n : ℕ). HaveAllEntries (g.P.Pages.store c.args.pages.now).map (take n c.args.indexes.now) (listed c.args.cells.now)) next
       (entered_next (g.P.Pages.store c.args.pages.now).map (g.P.Pages.store c.loop-index.pages).map same c.args.indexes.now c.loop-index.index-index c.index-item.result
       (slice_get_read c.args.indexes.now (length c.args.indexes.now) c.loop-index.index-index c.index-item.result refl c.loop-index-test.true c.index-item.is) (listed c.args.cells.now)
-      (c.loop-index.invariant.entered tied) (c.in_ok-check_entries.ensures.entered later));
+      (c.loop-index.invariant.entered tied) (c.in_ok-check_entries.ensures.looks_up later).entered);
 }
 
 pub returns-clause-rests : goal.returns-clause-rests
 returns-clause-rests g c = c.loop-index.invariant.rests
 
-pub returns-clause-entered : goal.returns-clause-entered
-returns-clause-entered g c = λ tied.
-    subst (λ (xs : List IndexState). HaveAllEntries (g.P.Pages.store c.args.pages.now).map xs (listed c.args.cells.now)) (take_all c.loop-index.index-index c.args.indexes.now (omega arith))
-    (c.loop-index.invariant.entered tied)
+pub returns-clause-checks : goal.returns-clause-checks
+returns-clause-checks g c = λ tied. record {
+  entered = subst (λ (xs : List IndexState). HaveAllEntries (g.P.Pages.store c.args.pages.now).map xs (listed c.args.cells.now)) (take_all c.loop-index.index-index c.args.indexes.now (omega arith))
+      (c.loop-index.invariant.entered tied);
+  damaged = λ is. absurd (cc);
+}

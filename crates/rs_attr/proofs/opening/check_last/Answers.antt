@@ -19,19 +19,16 @@ returns-clause-rests g c =
     rests_then g.P.Pages.is_tied g.P.Pages.store g.P.Pages.keeps tt c.check_all.result c.args.pages.now c.gather.new.pages c.check_all.new.pages g.met.P.Pages.keeps_trans g.met.P.Pages.keeps_tied
     c.in_ok-gather.ensures.rests c.check_all.ensures.rests
 
-pub returns-clause-entered : goal.returns-clause-entered
-returns-clause-entered g c = λ tied.
+pub returns-clause-checks : goal.returns-clause-checks
+returns-clause-checks g c = λ tied.
     let old = (g.P.Pages.store c.args.pages.now).map in
     let mid = (g.P.Pages.store c.gather.new.pages).map in
     let later = g.met.P.Pages.keeps_tied c.args.pages.now c.gather.new.pages c.in_ok-gather.ensures.rests.below tied in
-    on_ok c.check_all.result (HaveAllEntries mid c.args.indexes.now (listed c.gather.new.waiting)) (HaveAllEntries old c.args.indexes.now (listed c.args.waiting ++ listed c.args.cells.now))
-    (λ have. c.in_ok-gather.ensures.entered tied (all_entries_back old mid (c.in_ok-gather.ensures.rests.rests.keeps.pages tied) c.args.indexes.now (listed c.gather.new.waiting) have))
-    (c.check_all.ensures.entered later)
-
-pub returns-clause-damaged : goal.returns-clause-damaged
-returns-clause-damaged g c = λ tied is.
-    let old = (g.P.Pages.store c.args.pages.now).map in
-    let mid = (g.P.Pages.store c.gather.new.pages).map in
-    let later = g.met.P.Pages.keeps_tied c.args.pages.now c.gather.new.pages c.in_ok-gather.ensures.rests.below tied in
-    not_entered_waiting old mid (c.in_ok-gather.ensures.rests.rests.keeps.pages tied) c.args.indexes.now (listed c.args.waiting ++ listed c.args.cells.now) (listed c.gather.new.waiting)
-    c.in_ok-gather.ensures.among (c.check_all.ensures.damaged later is)
+    let same = c.in_ok-gather.ensures.rests.rests.keeps.pages tied in
+    let checks = c.check_all.ensures.checks later in
+    record {
+      entered = on_ok c.check_all.result (HaveAllEntries mid c.args.indexes.now (listed c.gather.new.waiting)) (HaveAllEntries old c.args.indexes.now (listed c.args.waiting ++ listed c.args.cells.now))
+          (λ have. (c.in_ok-gather.ensures.gathers tied).entered (all_entries_back old mid same c.args.indexes.now (listed c.gather.new.waiting) have)) checks.entered;
+      damaged = λ is.
+          not_entered_waiting old mid same c.args.indexes.now (listed c.args.waiting ++ listed c.args.cells.now) (listed c.gather.new.waiting) c.in_ok-gather.ensures.among (checks.damaged is);
+    }

@@ -39,15 +39,19 @@ returns-in_err-gather_one-clause-rests g c =
 pub returns-in_err-gather_one-clause-width : goal.returns-in_err-gather_one-clause-width
 returns-in_err-gather_one-clause-width g c = c.in_err-gather_one.ensures.width ∙ c.loop-place.invariant.wide
 
-pub returns-in_err-gather_one-clause-damaged : goal.returns-in_err-gather_one-clause-damaged
-returns-in_err-gather_one-clause-damaged g c = λ tied is.
+pub returns-in_err-gather_one-clause-gathers : goal.returns-in_err-gather_one-clause-gathers
+returns-in_err-gather_one-clause-gathers g c = λ tied.
     let old = (g.P.Pages.store c.args.pages.now).map in
     let mid = (g.P.Pages.store c.loop-place.pages).map in
     let later = g.met.P.Pages.keeps_tied c.args.pages.now c.loop-place.pages c.loop-place.invariant.rests.below tied in
     let p = err_from_is_err_and c.from_residual.result c.from_residual.ensures.1 in
-    let why : c.in_err-gather_one.field-0.0 ≡ refusal.DamagedFile = cc (p.1, p.2, is) in
-    not_entered_here old mid (c.loop-place.invariant.rests.rests.keeps.pages tied) c.args.indexes.now (listed c.args.waiting.now) (listed c.loop-place.waiting) (listed c.args.cells.now) c.loop-place.place
-    c.get.result.now c.get.ensures c.loop-place.invariant.among (c.in_err-gather_one.ensures.damaged later (ap Err why))
+    record {
+      entered = rw (p.1) tt;
+      damaged = λ is.
+          let why : c.in_err-gather_one.field-0.0 ≡ refusal.DamagedFile = cc (p.1, p.2, is) in
+          not_entered_here old mid (c.loop-place.invariant.rests.rests.keeps.pages tied) c.args.indexes.now (listed c.args.waiting.now) (listed c.loop-place.waiting) (listed c.args.cells.now)
+          c.loop-place.place c.get.result.now c.get.ensures c.loop-place.invariant.among ((c.in_err-gather_one.ensures.gathers later).damaged (ap Err why));
+    }
 
 pub loop-place-preserved : goal.loop-place-preserved
 loop-place-preserved g c =
@@ -64,7 +68,7 @@ loop-place-preserved g c =
           let later = g.met.P.Pages.keeps_tied c.args.pages.now c.loop-place.pages c.loop-place.invariant.rests.below tied in
           subst (λ (n : ℕ). HaveAllEntries old c.args.indexes.now (listed c.args.waiting.now ++ take n cells)) next
           (entered_more old mid (c.loop-place.invariant.rests.rests.keeps.pages tied) c.args.indexes.now (listed c.args.waiting.now) (listed c.loop-place.waiting) (listed c.gather_one.new.waiting) cells i
-          c.get.result.now c.get.ensures (c.loop-place.invariant.entered tied) (c.in_ok-gather_one.ensures.entered later) have);
+          c.get.result.now c.get.ensures (c.loop-place.invariant.entered tied) (c.in_ok-gather_one.ensures.gathers later).entered have);
       among = λ all both.
           c.in_ok-gather_one.ensures.among all
           (among_next all (listed c.args.waiting.now) (listed c.loop-place.waiting) cells i c.get.result.now c.get.ensures (c.loop-place.invariant.among all)
@@ -77,10 +81,13 @@ returns-clause-rests g c = c.loop-place.invariant.rests
 pub returns-clause-width : goal.returns-clause-width
 returns-clause-width g c = c.loop-place.invariant.wide
 
-pub returns-clause-entered : goal.returns-clause-entered
-returns-clause-entered g c = λ tied have.
-    subst (λ (l : List (List ℕ)). HaveAllEntries (g.P.Pages.store c.args.pages.now).map c.args.indexes.now (listed c.args.waiting.now ++ l)) (take_all c.loop-place.place (listed c.args.cells.now) (omega arith))
-    (c.loop-place.invariant.entered tied have)
+pub returns-clause-gathers : goal.returns-clause-gathers
+returns-clause-gathers g c = λ tied. record {
+  entered = λ have.
+      subst (λ (l : List (List ℕ)). HaveAllEntries (g.P.Pages.store c.args.pages.now).map c.args.indexes.now (listed c.args.waiting.now ++ l)) (take_all c.loop-place.place (listed c.args.cells.now) (omega arith))
+      (c.loop-place.invariant.entered tied have);
+  damaged = λ is. absurd (cc);
+}
 
 pub returns-clause-among : goal.returns-clause-among
 returns-clause-among g c = λ all both.

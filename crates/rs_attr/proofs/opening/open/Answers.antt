@@ -60,7 +60,7 @@ returns-in_err-opening-clause-opens g c = λ tied.
     refused_open c.from_residual.result p.0 p.1 (λ is.
     let why : c.in_err-opening.field-0.0 ≡ refusal.DamagedFile = cc (p.1, p.2, is) in
     no_fresh_table old c.args.indexes.now c.args.told c.args.routes.now (taken c.args.reached.now)
-    (subst (λ (w : ℕ). HasNoFreshTree (event_form w) old c.args.told.records.root (taken c.args.reached.now)) width (c.in_err-opening.ensures.damaged tied (ap Err why))))
+    (subst (λ (w : ℕ). HasNoFreshTree (event_form w) old c.args.told.records.root (taken c.args.reached.now)) width ((c.in_err-opening.ensures.begins tied).damaged (ap Err why))))
 
 pub returns-in_err-reach_indexes-clause-opens : goal.returns-in_err-reach_indexes-clause-opens
 returns-in_err-reach_indexes-clause-opens g c = λ tied.
@@ -73,8 +73,8 @@ returns-in_err-reach_indexes-clause-opens g c = λ tied.
     refused_open c.from_residual-in_err-reach_indexes.result p.0 p.1 (λ is.
     let why : c.in_err-reach_indexes.field-0.0 ≡ refusal.DamagedFile = cc (p.1, p.2, is) in
     no_indexes_table old c.args.indexes.now c.args.told c.args.routes.now (taken c.args.reached.now) mid same (taken c.begin.new.reached)
-    (subst (λ (w : ℕ). Validates (event_form w) old c.args.told.records.root (taken c.args.reached.now) (taken c.begin.new.reached)) width (c.in_ok-opening.ensures.validates tied))
-    (c.in_err-reach_indexes.ensures.damaged later (ap Err why)))
+    (subst (λ (w : ℕ). Validates (event_form w) old c.args.told.records.root (taken c.args.reached.now) (taken c.begin.new.reached)) width (c.in_ok-opening.ensures.begins tied).validates)
+    ((c.in_err-reach_indexes.ensures.reaches later).damaged (ap Err why)))
 
 pub loop-next-init : goal.loop-next-init
 loop-next-init g c =
@@ -82,13 +82,13 @@ loop-next-init g c =
     record {
       rests = rests_then g.P.Pages.is_tied g.P.Pages.store g.P.Pages.keeps c.in_ok-opening.opening (Ok tt) c.args.pages.now c.begin.new.pages c.reach_indexes.new.pages g.met.P.Pages.keeps_trans g.met.P.Pages.keeps_tied
           c.in_ok-opening.ensures.rests c.in_ok-reach_indexes.ensures.rests;
-      told = told_so c.args.told.schema.items c.args.told.records (c.row_width-width.result + 28) c.in_ok-opening.opening.told c.in_ok-opening.ensures.told (ap (λ (n : ℕ). n + 28) c.row_width-width.ensures);
-      passed = λ tied. passed_as old (record (told_of (event_width c.args.told.schema.items) c.args.told.records) { width = c.row_width-width.result + 28 }) c.in_ok-opening.opening c.in_ok-opening.ensures.told (c.in_ok-opening.ensures.passed old);
+      told = told_so c.args.told.schema.items c.args.told.records (c.row_width-width.result + 28) c.in_ok-opening.opening.told c.in_ok-opening.ensures.begun.told (ap (λ (n : ℕ). n + 28) c.row_width-width.ensures);
+      passed = λ tied. passed_as old (record (told_of (event_width c.args.told.schema.items) c.args.told.records) { width = c.row_width-width.result + 28 }) c.in_ok-opening.opening c.in_ok-opening.ensures.begun.told (c.in_ok-opening.ensures.begun.passed old);
       wide = c.new-waiting.ensures.width ∙ ap (λ (n : ℕ). n + 28) c.row_width-width.ensures;
       among = λ tied. record { each = λ cells used tree. subst (AllByRecursion (Contains cells)) (sym c.new-waiting.ensures.none) tt };
-      below = λ tied have. below_none old c.args.indexes.now c.args.told c.args.routes.now c.in_ok-opening.opening.low c.in_ok-opening.ensures.low;
-      at = (refl, c.in_ok-opening.ensures.low);
-      meant = λ tied. meant_none c.args.told c.args.routes.now old c.in_ok-opening.opening.low c.in_ok-opening.ensures.low;
+      below = λ tied have. below_none old c.args.indexes.now c.args.told c.args.routes.now c.in_ok-opening.opening.low c.in_ok-opening.ensures.begun.low;
+      at = (refl, c.in_ok-opening.ensures.begun.low);
+      meant = λ tied. meant_none c.args.told c.args.routes.now old c.in_ok-opening.opening.low c.in_ok-opening.ensures.begun.low;
     }
 
 pub returns-in_err-cells-clause-rests : goal.returns-in_err-cells-clause-rests
@@ -110,10 +110,10 @@ returns-in_err-cells-clause-opens g c = λ tied.
     let why : c.in_err-cells.field-0.0 ≡ refusal.DamagedFile = cc (p.1, p.2, is) in
     no_told_table old c.args.indexes.now c.args.told c.args.routes.now (taken c.args.reached.now)
     (otherwise_as old mid same opening.told (told_of (event_width c.args.told.schema.items) c.args.told.records) c.loop-next.invariant.told
-    (c.in_err-cells.ensures.damaged later (ap Err why) (passed_same (event_form opening.told.width) old mid same opening (c.loop-next.invariant.passed tied)))))
+    ((c.in_err-cells.ensures.parts later).damaged (ap Err why) (passed_same (event_form opening.told.width) old mid same opening (c.loop-next.invariant.passed tied)))))
 
 pub check_events-requires : goal.check_events-requires
-check_events-requires g c = record { width = c.in_ok-cells.ensures.width ∙ ap (λ (t : Told). t.width) c.loop-next.invariant.told }
+check_events-requires g c = record { width = c.in_ok-cells.ensures.part.width ∙ ap (λ (t : Told). t.width) c.loop-next.invariant.told }
 
 pub returns-in_err-check_events-clause-rests : goal.returns-in_err-check_events-clause-rests
 returns-in_err-check_events-clause-rests g c =
@@ -138,12 +138,12 @@ returns-in_err-check_events-clause-opens g c = λ tied.
     let why : c.in_err-check_events.field-0.0 ≡ refusal.DamagedFile = cc (p.1, p.2, is) in
     no_meant_table old c.args.indexes.now c.args.told c.args.routes.now (taken c.args.reached.now) c.loop-next.route (is_within opening.low high) (listed c.in_ok-cells.cells)
     (part_within c.args.told.schema.items c.args.routes.now c.requires.rising c.loop-next.next-index next there c.beginning.ensures.fits high c.beginning.ensures.bytes c.loop-next.route opening.low c.loop-next.invariant.at)
-    (found_back old mid same opening.told (told_of (event_width c.args.told.schema.items) c.args.told.records) c.loop-next.invariant.told (cells_within opening.low high) (listed c.in_ok-cells.cells) (c.in_ok-cells.ensures.found later))
+    (found_back old mid same opening.told (told_of (event_width c.args.told.schema.items) c.args.told.records) c.loop-next.invariant.told (cells_within opening.low high) (listed c.in_ok-cells.cells) (c.in_ok-cells.ensures.parts later).found)
     (not_meant c.in_err-check_events.field-0.0 why c.in_err-check_events.ensures.refused))
 
 pub gather-requires : goal.gather-requires
 gather-requires g c = record {
-  width = c.in_ok-cells.ensures.width ∙ ap (λ (t : Told). t.width) c.loop-next.invariant.told ∙ sym c.loop-next.invariant.wide;
+  width = c.in_ok-cells.ensures.part.width ∙ ap (λ (t : Told). t.width) c.loop-next.invariant.told ∙ sym c.loop-next.invariant.wide;
   indexes = subst (λ (w : ℕ). AllByRecursion (λ (index : IndexState). index.field.cell_width ≡ w) c.args.indexes.now) (sym c.loop-next.invariant.wide) c.requires.indexes;
 }
 
@@ -173,9 +173,9 @@ returns-in_err-gather-clause-opens g c = λ tied.
     let why : c.in_err-gather.field-0.0 ≡ refusal.DamagedFile = cc (p.1, p.2, is) in
     no_entered_table old c.args.indexes.now told c.args.routes.now (taken c.args.reached.now) (listed c.loop-next.waiting ++ listed c.in_ok-cells.cells)
     (both_among told.schema.items old told.records (is_within opening.low high) (listed c.loop-next.waiting) (listed c.in_ok-cells.cells) (c.loop-next.invariant.among tied)
-    (found_back old mid same opening.told (told_of (event_width told.schema.items) told.records) c.loop-next.invariant.told (cells_within opening.low high) (listed c.in_ok-cells.cells) (c.in_ok-cells.ensures.found later)))
+    (found_back old mid same opening.told (told_of (event_width told.schema.items) told.records) c.loop-next.invariant.told (cells_within opening.low high) (listed c.in_ok-cells.cells) (c.in_ok-cells.ensures.parts later).found))
     (not_entered_back old last (upto.rests.keeps.pages tied) c.args.indexes.now (listed c.loop-next.waiting ++ listed c.in_ok-cells.cells)
-    (c.in_err-gather.ensures.damaged (g.met.P.Pages.keeps_tied c.args.pages.now c.part.new.pages upto.below tied) (ap Err why))))
+    ((c.in_err-gather.ensures.gathers (g.met.P.Pages.keeps_tied c.args.pages.now c.part.new.pages upto.below tied)).damaged (ap Err why))))
 
 pub part-requires : goal.part-requires
 part-requires g c =
@@ -206,14 +206,14 @@ loop-next-preserved g c =
           let later = g.met.P.Pages.keeps_tied c.args.pages.now c.loop-next.pages c.loop-next.invariant.rests.below tied in
           let same = c.loop-next.invariant.rests.rests.keeps.pages tied in
           passed_then old mid same opening.told c.part.new.self c.in_ok-cells.ensures.told
-          (c.in_ok-cells.ensures.passed later (passed_same (event_form opening.told.width) old mid same opening (c.loop-next.invariant.passed tied)));
+          ((c.in_ok-cells.ensures.parts later).passed (passed_same (event_form opening.told.width) old mid same opening (c.loop-next.invariant.passed tied)));
       at = record { before = c.loop-next.next-index; next = omega arith; there = there; fits = c.beginning.ensures.fits; bytes = c.in_ok-cells.ensures.low ∙ c.beginning.ensures.bytes };
       wide = c.in_ok-gather.ensures.width ∙ c.loop-next.invariant.wide;
       among = λ tied.
           let later = g.met.P.Pages.keeps_tied c.args.pages.now c.loop-next.pages c.loop-next.invariant.rests.below tied in
           let same = c.loop-next.invariant.rests.rests.keeps.pages tied in
           let both = both_among told.schema.items old told.records (is_within opening.low high) (listed c.loop-next.waiting) (listed c.in_ok-cells.cells) (c.loop-next.invariant.among tied)
-          (found_back old mid same opening.told (told_of (event_width told.schema.items) told.records) c.loop-next.invariant.told (cells_within opening.low high) (listed c.in_ok-cells.cells) (c.in_ok-cells.ensures.found later)) in
+          (found_back old mid same opening.told (told_of (event_width told.schema.items) told.records) c.loop-next.invariant.told (cells_within opening.low high) (listed c.in_ok-cells.cells) (c.in_ok-cells.ensures.parts later).found) in
           record { each = λ cells used tree. c.in_ok-gather.ensures.among cells (both.each cells used tree) };
       below = λ tied have.
           let later = g.met.P.Pages.keeps_tied c.args.pages.now c.loop-next.pages c.loop-next.invariant.rests.below tied in
@@ -221,18 +221,18 @@ loop-next-preserved g c =
           let last = (g.P.Pages.store c.part.new.pages).map in
           let now = upto.rests.keeps.pages tied in
           let entered = all_entries_back old last now c.args.indexes.now (listed c.loop-next.waiting ++ listed c.in_ok-cells.cells)
-          (c.in_ok-gather.ensures.entered (g.met.P.Pages.keeps_tied c.args.pages.now c.part.new.pages upto.below tied)
+          ((c.in_ok-gather.ensures.gathers (g.met.P.Pages.keeps_tied c.args.pages.now c.part.new.pages upto.below tied)).entered
           (all_entries_back last old (same_back last old now) c.args.indexes.now (listed c.gather.new.waiting) have)) in
           below_next old c.args.indexes.now told routes opening.low high c.part.new.self.low (listed c.in_ok-cells.cells) order
           (c.loop-next.invariant.below tied (first_entered old c.args.indexes.now (listed c.loop-next.waiting) (listed c.in_ok-cells.cells) entered))
-          (found_back old mid same opening.told (told_of (event_width told.schema.items) told.records) c.loop-next.invariant.told (cells_within opening.low high) (listed c.in_ok-cells.cells) (c.in_ok-cells.ensures.found later))
+          (found_back old mid same opening.told (told_of (event_width told.schema.items) told.records) c.loop-next.invariant.told (cells_within opening.low high) (listed c.in_ok-cells.cells) (c.in_ok-cells.ensures.parts later).found)
           (second_entered old c.args.indexes.now (listed c.loop-next.waiting) (listed c.in_ok-cells.cells) entered)
           c.in_ok-cells.ensures.low;
       meant = λ tied.
           let later = g.met.P.Pages.keeps_tied c.args.pages.now c.loop-next.pages c.loop-next.invariant.rests.below tied in
           let same = c.loop-next.invariant.rests.rests.keeps.pages tied in
           meant_next told routes old c.loop-next.next-index c.loop-next.route opening.low c.loop-next.invariant.at (c.loop-next.invariant.meant tied) high c.part.new.self.low (listed c.in_ok-cells.cells) order
-          (found_back old mid same opening.told (told_of (event_width told.schema.items) told.records) c.loop-next.invariant.told (cells_within opening.low high) (listed c.in_ok-cells.cells) (c.in_ok-cells.ensures.found later))
+          (found_back old mid same opening.told (told_of (event_width told.schema.items) told.records) c.loop-next.invariant.told (cells_within opening.low high) (listed c.in_ok-cells.cells) (c.in_ok-cells.ensures.parts later).found)
           c.in_ok-check_events.ensures.meant c.in_ok-cells.ensures.low;
     }
 
@@ -255,10 +255,10 @@ returns-in_err-versions-clause-opens g c = λ tied.
     let why : c.in_err-versions.field-0.0 ≡ refusal.DamagedFile = cc (p.1, p.2, is) in
     no_told_table old c.args.indexes.now c.args.told c.args.routes.now (taken c.args.reached.now)
     (otherwise_as old mid same opening.told (told_of (event_width c.args.told.schema.items) c.args.told.records) c.loop-next.invariant.told
-    (c.in_err-versions.ensures.damaged later (ap Err why) (passed_same (event_form opening.told.width) old mid same opening (c.loop-next.invariant.passed tied)))))
+    ((c.in_err-versions.ensures.finishes later).damaged (ap Err why) (passed_same (event_form opening.told.width) old mid same opening (c.loop-next.invariant.passed tied)))))
 
 pub check_events-requires-2 : goal.check_events-requires-2
-check_events-requires-2 g c = record { width = c.in_ok-versions.ensures.left_width ∙ ap (λ (t : Told). t.width) c.loop-next.invariant.told }
+check_events-requires-2 g c = record { width = c.in_ok-versions.ensures.left.width ∙ ap (λ (t : Told). t.width) c.loop-next.invariant.told }
 
 pub returns-in_err-check_events-2-clause-rests : goal.returns-in_err-check_events-2-clause-rests
 returns-in_err-check_events-2-clause-rests g c =
@@ -280,12 +280,12 @@ returns-in_err-check_events-2-clause-opens g c = λ tied.
     let why : c.in_err-check_events-2.field-0.0 ≡ refusal.DamagedFile = cc (p.1, p.2, is) in
     no_meant_table old c.args.indexes.now c.args.told c.args.routes.now (taken c.args.reached.now) c.loop-next.route (λ (cell : List ℕ). not (is_below cell opening.low)) (listed c.in_ok-versions.left)
     (part_left c.args.told.schema.items c.args.routes.now c.requires.rising c.loop-next.next-index c.loop-next.route opening.low (omega arith) c.loop-next.invariant.at)
-    (found_back old mid same opening.told (told_of (event_width c.args.told.schema.items) c.args.told.records) c.loop-next.invariant.told (cells_from opening.low) (listed c.in_ok-versions.left) (c.in_ok-versions.ensures.left later))
+    (found_back old mid same opening.told (told_of (event_width c.args.told.schema.items) c.args.told.records) c.loop-next.invariant.told (cells_from opening.low) (listed c.in_ok-versions.left) (c.in_ok-versions.ensures.finishes later).left)
     (not_meant c.in_err-check_events-2.field-0.0 why c.in_err-check_events-2.ensures.refused))
 
 pub check_last-requires : goal.check_last-requires
 check_last-requires g c = record {
-  width = c.in_ok-versions.ensures.left_width ∙ ap (λ (t : Told). t.width) c.loop-next.invariant.told ∙ sym c.loop-next.invariant.wide;
+  width = c.in_ok-versions.ensures.left.width ∙ ap (λ (t : Told). t.width) c.loop-next.invariant.told ∙ sym c.loop-next.invariant.wide;
   indexes = subst (λ (w : ℕ). AllByRecursion (λ (index : IndexState). index.field.cell_width ≡ w) c.args.indexes.now) (sym c.loop-next.invariant.wide) c.requires.indexes;
 }
 
@@ -314,12 +314,12 @@ returns-in_err-check_last-clause-opens g c = λ tied.
     let why : c.in_err-check_last.field-0.0 ≡ refusal.DamagedFile = cc (p.1, p.2, is) in
     no_entered_table old c.args.indexes.now told c.args.routes.now (taken c.args.reached.now) (listed c.loop-next.waiting ++ listed c.in_ok-versions.left)
     (both_among told.schema.items old told.records (λ (cell : List ℕ). not (is_below cell opening.low)) (listed c.loop-next.waiting) (listed c.in_ok-versions.left) (c.loop-next.invariant.among tied)
-    (found_back old mid same opening.told (told_of (event_width told.schema.items) told.records) c.loop-next.invariant.told (cells_from opening.low) (listed c.in_ok-versions.left) (c.in_ok-versions.ensures.left later)))
+    (found_back old mid same opening.told (told_of (event_width told.schema.items) told.records) c.loop-next.invariant.told (cells_from opening.low) (listed c.in_ok-versions.left) (c.in_ok-versions.ensures.finishes later).left))
     (not_entered_back old last (upto.rests.keeps.pages tied) c.args.indexes.now (listed c.loop-next.waiting ++ listed c.in_ok-versions.left)
-    (c.in_err-check_last.ensures.damaged (g.met.P.Pages.keeps_tied c.args.pages.now c.finish.new.pages upto.below tied) (ap Err why))))
+    ((c.in_err-check_last.ensures.checks (g.met.P.Pages.keeps_tied c.args.pages.now c.finish.new.pages upto.below tied)).damaged (ap Err why))))
 
 pub with-requires : goal.with-requires
-with-requires g c = record { width = c.in_ok-versions.ensures.width ∙ ap (λ (t : Told). t.width) c.loop-next.invariant.told }
+with-requires g c = record { width = c.in_ok-versions.ensures.cells.width ∙ ap (λ (t : Told). t.width) c.loop-next.invariant.told }
 
 pub returns-clause-rests : goal.returns-clause-rests
 returns-clause-rests g c =
@@ -332,9 +332,9 @@ returns-clause-rests g c =
 pub returns-clause-table : goal.returns-clause-table
 returns-clause-table g c = record {
   types = c.with.ensures.types;
-  committed = c.with.ensures.committed ∙ c.in_ok-versions.ensures.committed ∙ sym c.with.ensures.working;
+  committed = c.with.ensures.committed ∙ c.in_ok-versions.ensures.cells.committed ∙ sym c.with.ensures.working;
   order = subst (λ (s : Standing). AllByRecursion (λ dead. died_of dead ≤ c.args.told.records.accepted) s.dead) (sym c.with.ensures.working)
-      (subst (λ (t : Told). AllByRecursion (λ dead. died_of dead ≤ t.accepted) c.in_ok-versions.versions.working.dead) c.loop-next.invariant.told c.in_ok-versions.ensures.order);
+      (subst (λ (t : Told). AllByRecursion (λ dead. died_of dead ≤ t.accepted) c.in_ok-versions.versions.working.dead) c.loop-next.invariant.told c.in_ok-versions.ensures.cells.order);
 }
 
 pub returns-clause-opens : goal.returns-clause-opens
@@ -354,21 +354,21 @@ returns-clause-opens g c = λ tied.
     let upto = rests_then g.P.Pages.is_tied g.P.Pages.store g.P.Pages.keeps tt (Ok (c.in_ok-versions.versions, c.in_ok-versions.left)) c.args.pages.now c.loop-next.pages c.finish.new.pages g.met.P.Pages.keeps_trans
     g.met.P.Pages.keeps_tied c.loop-next.invariant.rests c.in_ok-versions.ensures.rests in
     let versions = c.in_ok-versions.versions in
-    let finds = found_back old mid same opening.told (told_of (event_width types) told.records) said (cells_from opening.low) (listed c.in_ok-versions.left) (c.in_ok-versions.ensures.left later) in
-    let entered = (all_entries_back old last (upto.rests.keeps.pages tied) c.args.indexes.now (listed c.loop-next.waiting ++ listed c.in_ok-versions.left) (c.in_ok-check_last.ensures.entered (g.met.P.Pages.keeps_tied c.args.pages.now c.finish.new.pages upto.below tied))) in
+    let finds = found_back old mid same opening.told (told_of (event_width types) told.records) said (cells_from opening.low) (listed c.in_ok-versions.left) (c.in_ok-versions.ensures.finishes later).left in
+    let entered = (all_entries_back old last (upto.rests.keeps.pages tied) c.args.indexes.now (listed c.loop-next.waiting ++ listed c.in_ok-versions.left) (c.in_ok-check_last.ensures.checks (g.met.P.Pages.keeps_tied c.args.pages.now c.finish.new.pages upto.below tied)).entered) in
     record {
       opens = subst (λ (s : Standing). OpensTable old told s c.args.indexes.now c.args.routes.now (taken c.args.reached.now) (taken c.reach_indexes.new.reached)) (sym c.with.ensures.working)
           (opens_table old c.args.indexes.now told c.args.routes.now (taken c.args.reached.now) first (c.in_ok-opening.ensures.rests.rests.keeps.pages tied) (taken c.begin.new.reached)
-          (subst (λ (w : ℕ). Validates (event_form w) old told.records.root (taken c.args.reached.now) (taken c.begin.new.reached)) width (c.in_ok-opening.ensures.validates tied))
+          (subst (λ (w : ℕ). Validates (event_form w) old told.records.root (taken c.args.reached.now) (taken c.begin.new.reached)) width (c.in_ok-opening.ensures.begins tied).validates)
           versions.working (taken c.reach_indexes.new.reached) c.requires.indexes
           (record {
-            root = c.in_ok-versions.ensures.root ∙ ap (λ (t : Told). t.root) said;
-            living = c.in_ok-versions.ensures.living ∙ ap (λ (t : Told). t.living) said;
-            garbage = c.in_ok-versions.ensures.garbage ∙ ap (λ (t : Told). t.garbage) said;
+            root = c.in_ok-versions.ensures.cells.root ∙ ap (λ (t : Told). t.root) said;
+            living = c.in_ok-versions.ensures.cells.living ∙ ap (λ (t : Told). t.living) said;
+            garbage = c.in_ok-versions.ensures.cells.garbage ∙ ap (λ (t : Told). t.garbage) said;
           })
-          (c.in_ok-reach_indexes.ensures.reaches begun)
+          (c.in_ok-reach_indexes.ensures.reaches begun).reaches
           (stands_back old mid same opening.told (told_of (event_width types) told.records) said versions.working.dead
-          (c.in_ok-versions.ensures.stands later (passed_same (event_form opening.told.width) old mid same opening (c.loop-next.invariant.passed tied))))
+          ((c.in_ok-versions.ensures.finishes later).stands (passed_same (event_form opening.told.width) old mid same opening (c.loop-next.invariant.passed tied))))
           (below_all old c.args.indexes.now told c.args.routes.now opening.low (listed c.in_ok-versions.left) (c.loop-next.invariant.below tied (first_entered old c.args.indexes.now (listed c.loop-next.waiting) (listed c.in_ok-versions.left) entered)) finds
           (second_entered old c.args.indexes.now (listed c.loop-next.waiting) (listed c.in_ok-versions.left) entered))
           (meant_all told c.args.routes.now old c.loop-next.next-index c.loop-next.route opening.low c.loop-next.invariant.at (c.loop-next.invariant.meant tied) (listed c.in_ok-versions.left) finds

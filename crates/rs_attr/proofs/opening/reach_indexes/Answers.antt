@@ -32,15 +32,19 @@ returns-in_err-entries-clause-rests g c =
 pub returns-in_err-entries-clause-size : goal.returns-in_err-entries-clause-size
 returns-in_err-entries-clause-size g c = c.in_err-entries.ensures.size ∙ c.loop-index.invariant.size
 
-pub returns-in_err-entries-clause-damaged : goal.returns-in_err-entries-clause-damaged
-returns-in_err-entries-clause-damaged g c = λ tied is.
+pub returns-in_err-entries-clause-reaches : goal.returns-in_err-entries-clause-reaches
+returns-in_err-entries-clause-reaches g c = λ tied.
     let later = g.met.P.Pages.keeps_tied c.args.pages.now c.loop-index.pages c.loop-index.invariant.rests.below tied in
     let same = c.loop-index.invariant.rests.rests.keeps.pages tied in
     let p = err_from_is_err_and c.from_residual.result c.from_residual.ensures.1 in
-    let why : c.in_err-entries.field-0.0 ≡ refusal.DamagedFile = cc (p.1, p.2, is) in
-    reaches_missing (g.P.Pages.store c.args.pages.now).map (g.P.Pages.store c.loop-index.pages).map same c.args.indexes.now (c.args.told.living + c.args.told.garbage) c.loop-index.index-index c.index-item.result
-    (slice_get_read c.args.indexes.now (length c.args.indexes.now) c.loop-index.index-index c.index-item.result refl c.loop-index-test.true c.index-item.is)
-    (taken c.args.reached.now) (taken c.loop-index.reached) (c.loop-index.invariant.reaches tied) ((c.in_err-entries.ensures.checks later).damaged (ap Err why))
+    record {
+      reaches = rw (p.1) tt;
+      damaged = λ is.
+          let why : c.in_err-entries.field-0.0 ≡ refusal.DamagedFile = cc (p.1, p.2, is) in
+          reaches_missing (g.P.Pages.store c.args.pages.now).map (g.P.Pages.store c.loop-index.pages).map same c.args.indexes.now (c.args.told.living + c.args.told.garbage) c.loop-index.index-index c.index-item.result
+          (slice_get_read c.args.indexes.now (length c.args.indexes.now) c.loop-index.index-index c.index-item.result refl c.loop-index-test.true c.index-item.is)
+          (taken c.args.reached.now) (taken c.loop-index.reached) (c.loop-index.invariant.reaches tied) ((c.in_err-entries.ensures.checks later).damaged (ap Err why));
+    }
 
 pub returns-then-ne-clause-rests : goal.returns-then-ne-clause-rests
 returns-then-ne-clause-rests g c =
@@ -51,15 +55,19 @@ returns-then-ne-clause-rests g c =
 pub returns-then-ne-clause-size : goal.returns-then-ne-clause-size
 returns-then-ne-clause-size g c = c.in_ok-entries.ensures.size ∙ c.loop-index.invariant.size
 
-pub returns-then-ne-clause-damaged : goal.returns-then-ne-clause-damaged
-returns-then-ne-clause-damaged g c = λ tied is.
+pub returns-then-ne-clause-reaches : goal.returns-then-ne-clause-reaches
+returns-then-ne-clause-reaches g c = λ tied.
     let later = g.met.P.Pages.keeps_tied c.args.pages.now c.loop-index.pages c.loop-index.invariant.rests.below tied in
     let same = c.loop-index.invariant.rests.rests.keeps.pages tied in
     let other : c.in_ok-entries.entries ≡ c.args.told.living + c.args.told.garbage → ⊥ =
     sum_isnt c.checked_add.result (c.args.told.living + c.args.told.garbage) c.in_ok-entries.entries c.checked_add.ensures (omega arith) (not-true (option_eq eqb c.checked_add.result (Some c.in_ok-entries.entries)) (sym c.ne.ensures ∙ c.if-ne.true)) in
-    reaches_other (g.P.Pages.store c.args.pages.now).map (g.P.Pages.store c.loop-index.pages).map same c.args.indexes.now (c.args.told.living + c.args.told.garbage) c.loop-index.index-index c.index-item.result
-    (slice_get_read c.args.indexes.now (length c.args.indexes.now) c.loop-index.index-index c.index-item.result refl c.loop-index-test.true c.index-item.is)
-    (taken c.args.reached.now) c.in_ok-entries.entries (record { each = (c.in_ok-entries.ensures.checks later).counted }) other
+    record {
+      reaches = tt;
+      damaged = λ is.
+          reaches_other (g.P.Pages.store c.args.pages.now).map (g.P.Pages.store c.loop-index.pages).map same c.args.indexes.now (c.args.told.living + c.args.told.garbage) c.loop-index.index-index c.index-item.result
+          (slice_get_read c.args.indexes.now (length c.args.indexes.now) c.loop-index.index-index c.index-item.result refl c.loop-index-test.true c.index-item.is)
+          (taken c.args.reached.now) c.in_ok-entries.entries (record { each = (c.in_ok-entries.ensures.checks later).counted }) other;
+    }
 
 pub loop-index-preserved : goal.loop-index-preserved
 loop-index-preserved g c = record {
@@ -87,6 +95,8 @@ pub returns-clause-size : goal.returns-clause-size
 returns-clause-size g c = c.loop-index.invariant.size
 
 pub returns-clause-reaches : goal.returns-clause-reaches
-returns-clause-reaches g c = λ tied.
-    subst (λ (xs : List IndexState). ReachesIndexes (g.P.Pages.store c.args.pages.now).map xs (c.args.told.living + c.args.told.garbage) (taken c.args.reached.now) (taken c.loop-index.reached))
-    (take_all c.loop-index.index-index c.args.indexes.now (omega arith)) (c.loop-index.invariant.reaches tied)
+returns-clause-reaches g c = λ tied. record {
+  reaches = subst (λ (xs : List IndexState). ReachesIndexes (g.P.Pages.store c.args.pages.now).map xs (c.args.told.living + c.args.told.garbage) (taken c.args.reached.now) (taken c.loop-index.reached))
+      (take_all c.loop-index.index-index c.args.indexes.now (omega arith)) (c.loop-index.invariant.reaches tied);
+  damaged = λ is. absurd (cc);
+}

@@ -15,12 +15,14 @@ use Rattle.rs_tree.proofs.Entering.{records_fit}
 use Rattle.rs_pages.proofs.Resting.{rests_none, rests_then}
 use Rattle.rs_cell_versions.specs.Looking.{IsAbove}
 use Rattle.rs_cell_versions.proofs.LastCells.{LeadsTo, above_none, leads_first, leads_inner, leads_leaf, leads_nowhere, no_node_before}
-use Rattle.rs_cell_versions.proofs.Refusing.{rests_err, rests_made, rests_ok}
+use Rattle.rs_cell_versions.proofs.Refusing.{never_damaged, rests_err, rests_made, rests_ok}
 use Rattle.rs_cell_versions.proofs.bounding.bound_above.Goals as goal
 
-pub returns-then-number-eq0-clause-above : goal.returns-then-number-eq0-clause-above
-returns-then-number-eq0-clause-above g c = λ tied.
-    above_none (form_of g.S.Summary.says g.S.Summary.unit g.S.Summary.join g.S.Summary.of c.args.layout.summary c.args.layout.width) (g.P.Pages.store c.args.pages.now).map c.args.root c.new.result.items (omega (arith, c.number.ensures))
+pub returns-then-number-eq0-clause-bounds : goal.returns-then-number-eq0-clause-bounds
+returns-then-number-eq0-clause-bounds g c = λ tied. record {
+  above = above_none (form_of g.S.Summary.says g.S.Summary.unit g.S.Summary.join g.S.Summary.of c.args.layout.summary c.args.layout.width) (g.P.Pages.store c.args.pages.now).map c.args.root c.new.result.items (omega (arith, c.number.ensures));
+  damaged = λ is. absurd (cc);
+}
 
 pub down-init : goal.down-init
 down-init g c = record {
@@ -35,14 +37,18 @@ returns-in_err-node-clause-rests g c =
     rw (p.1, p.2) (rests_then g.P.Pages.is_tied g.P.Pages.store g.P.Pages.keeps {U = Vec ℕ Global} tt (Err c.in_err-node.field-0.0) c.args.pages.now c.down.pages c.load.new.pages g.met.P.Pages.keeps_trans g.met.P.Pages.keeps_tied
     c.down.invariant.rests (rests_err g.P.Pages.is_tied g.P.Pages.store g.P.Pages.keeps c.in_err-node.field-0.0 c.down.pages c.load.new.pages c.in_err-node.ensures.rests))
 
-pub returns-in_err-node-clause-damaged : goal.returns-in_err-node-clause-damaged
-returns-in_err-node-clause-damaged g c = λ tied is.
+pub returns-in_err-node-clause-bounds : goal.returns-in_err-node-clause-bounds
+returns-in_err-node-clause-bounds g c = λ tied.
     let p = err_from_is_err_and c.from_residual.result c.from_residual.ensures.1 in
-    let why : c.in_err-node.field-0.0 ≡ refusal.DamagedFile = cc (p.1, p.2, is) in
-    let later = g.met.P.Pages.keeps_tied c.args.pages.now c.down.pages c.down.invariant.rests.below tied in
-    let same = c.down.invariant.rests.rests.keeps.pages tied in
-    leads_nowhere (λ bytes cells. g.S.Summary.says bytes (joined g.S.Summary.unit g.S.Summary.join g.S.Summary.of cells)) c.args.layout (g.P.Pages.store c.args.pages.now).map c.args.root c.down.number c.down.left (c.down.invariant.leads tied)
-    (λ some. no_node_before (g.P.Pages.store c.args.pages.now).map (g.P.Pages.store c.down.pages).map c.down.number c.args.layout same (c.in_err-node.ensures.refused.damaged later why some))
+    record {
+      above = rw p.1 tt;
+      damaged = λ is.
+          let why : c.in_err-node.field-0.0 ≡ refusal.DamagedFile = cc (p.1, p.2, is) in
+          let later = g.met.P.Pages.keeps_tied c.args.pages.now c.down.pages c.down.invariant.rests.below tied in
+          let same = c.down.invariant.rests.rests.keeps.pages tied in
+          leads_nowhere (λ bytes cells. g.S.Summary.says bytes (joined g.S.Summary.unit g.S.Summary.join g.S.Summary.of cells)) c.args.layout (g.P.Pages.store c.args.pages.now).map c.args.root c.down.number c.down.left (c.down.invariant.leads tied)
+          (λ some. no_node_before (g.P.Pages.store c.args.pages.now).map (g.P.Pages.store c.down.pages).map c.down.number c.args.layout same (c.in_err-node.ensures.refused.damaged later why some));
+    }
 
 pub after_last-requires-clause-fit : goal.after_last-requires-clause-fit
 after_last-requires-clause-fit g c =
@@ -56,19 +62,22 @@ returns-in-Leaf-clause-rests g c =
     (rests_then g.P.Pages.is_tied g.P.Pages.store g.P.Pages.keeps {U = Unit {0}} tt (Ok tt) c.args.pages.now c.down.pages c.load.new.pages g.met.P.Pages.keeps_trans g.met.P.Pages.keeps_tied
     c.down.invariant.rests (rests_ok g.P.Pages.is_tied g.P.Pages.store g.P.Pages.keeps c.in_ok-node.node tt c.down.pages c.load.new.pages c.in_ok-node.ensures.rests))
 
-pub returns-in-Leaf-clause-above : goal.returns-in-Leaf-clause-above
-returns-in-Leaf-clause-above g c = λ tied.
+pub returns-in-Leaf-clause-bounds : goal.returns-in-Leaf-clause-bounds
+returns-in-Leaf-clause-bounds g c = λ tied.
     let node : IsNode c.load.new.copy.bytes c.down.number c.args.layout (Leaf c.in-Leaf.count) =
     subst (IsNode c.load.new.copy.bytes c.down.number c.args.layout) c.in-Leaf.is c.in_ok-node.ensures.loaded.node in
     let later = g.met.P.Pages.keeps_tied c.args.pages.now c.down.pages c.down.invariant.rests.below tied in
     let lent = sym ((c.down.invariant.rests.rests.keeps.pages tied).pages c.down.number) ∙ c.in_ok-node.ensures.loaded.bytes later in
     let bytes : List ℕ = content c.load.new.copy.bytes in
     let last = inside_has (records c.in-Leaf.count c.args.layout.width bytes) (c.in-Leaf.count - 1) (omega (arith, length-records c.in-Leaf.count c.args.layout.width bytes, node.1)) in
-    IfOk-weaker c.after_last.result (λ bound. (cell : List ℕ) → slice_get (records c.in-Leaf.count c.args.layout.width bytes) (c.in-Leaf.count - 1) ≡ Some cell → bound.items ≡ cell ++ 0 ∷ [])
-    (λ bound. IsAbove (form_of g.S.Summary.says g.S.Summary.unit g.S.Summary.join g.S.Summary.of c.args.layout.summary c.args.layout.width) (g.P.Pages.store c.args.pages.now).map c.args.root bound.items)
-    (λ bound after. subst (IsAbove (form_of g.S.Summary.says g.S.Summary.unit g.S.Summary.join g.S.Summary.of c.args.layout.summary c.args.layout.width) (g.P.Pages.store c.args.pages.now).map c.args.root) (sym (after last.0 last.1))
-    (leads_leaf (λ bytes cells. g.S.Summary.says bytes (joined g.S.Summary.unit g.S.Summary.join g.S.Summary.of cells)) c.args.layout (g.P.Pages.store c.args.pages.now).map c.args.root c.down.number c.down.left (c.down.invariant.leads tied) c.load.new.copy.bytes lent c.in-Leaf.count node last.0 0 last.1))
-    c.after_last.ensures.after
+    record {
+      above = IfOk-weaker c.after_last.result (λ bound. (cell : List ℕ) → slice_get (records c.in-Leaf.count c.args.layout.width bytes) (c.in-Leaf.count - 1) ≡ Some cell → bound.items ≡ cell ++ 0 ∷ [])
+          (λ bound. IsAbove (form_of g.S.Summary.says g.S.Summary.unit g.S.Summary.join g.S.Summary.of c.args.layout.summary c.args.layout.width) (g.P.Pages.store c.args.pages.now).map c.args.root bound.items)
+          (λ bound after. subst (IsAbove (form_of g.S.Summary.says g.S.Summary.unit g.S.Summary.join g.S.Summary.of c.args.layout.summary c.args.layout.width) (g.P.Pages.store c.args.pages.now).map c.args.root) (sym (after last.0 last.1))
+          (leads_leaf (λ bytes cells. g.S.Summary.says bytes (joined g.S.Summary.unit g.S.Summary.join g.S.Summary.of cells)) c.args.layout (g.P.Pages.store c.args.pages.now).map c.args.root c.down.number c.down.left (c.down.invariant.leads tied) c.load.new.copy.bytes lent c.in-Leaf.count node last.0 0 last.1))
+          c.after_last.ensures.after;
+      damaged = λ is. absurd (never_damaged c.after_last.result c.after_last.ensures.refused is);
+    }
 
 pub last_child-number-requires-clause-fit : goal.last_child-number-requires-clause-fit
 last_child-number-requires-clause-fit g c =

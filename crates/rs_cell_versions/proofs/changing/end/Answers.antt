@@ -10,19 +10,27 @@ use Rattle.rs_cell_versions.proofs.Ending.{length-ended}
 use Rattle.rs_cell_versions.proofs.Steps.{TellsNew, ends_gone, ends_last, ends_missing}
 use Rattle.rs_cell_versions.proofs.changing.end.Goals as goal
 
-pub returns-then-not-found-clause-ended : goal.returns-then-not-found-clause-ended
-returns-then-not-found-clause-ended g c = λ tied.
+pub returns-then-not-found-clause-ends : goal.returns-then-not-found-clause-ends
+returns-then-not-found-clause-ends g c = λ tied.
     let form : Form = form_of g.S.Summary.says g.S.Summary.unit g.S.Summary.join g.S.Summary.of g.S.Summary.WIDTH c.args.tree.now.width in
     let old = (g.P.Pages.store c.args.pages.now).map in
-    ends_missing form old (g.P.Pages.store c.remove.new.pages).map c.args.tree.now.root c.remove.new.self.root c.args.cell.now c.requires.living c.args.living c.args.version c.in_ok-found.found c.if-not-found.true
-    (c.in_ok-found.ensures.removes tied).changes (c.in_ok-found.ensures.removes tied).tells.each
+    let removes = c.in_ok-found.ensures.removes tied in
+    record {
+      ends = ends_missing form old (g.P.Pages.store c.remove.new.pages).map c.args.tree.now.root c.remove.new.self.root c.args.cell.now c.requires.living c.args.living c.args.version c.in_ok-found.found c.if-not-found.true
+          removes.changes removes.tells.each;
+      tells = removes.tells.each;
+    }
 
-pub returns-then-version-born_of-clause-ended : goal.returns-then-version-born_of-clause-ended
-returns-then-version-born_of-clause-ended g c = λ tied.
+pub returns-then-version-born_of-clause-ends : goal.returns-then-version-born_of-clause-ends
+returns-then-version-born_of-clause-ends g c = λ tied.
     let form : Form = form_of g.S.Summary.says g.S.Summary.unit g.S.Summary.join g.S.Summary.of g.S.Summary.WIDTH c.args.tree.now.width in
     let old = (g.P.Pages.store c.args.pages.now).map in
-    ends_gone form old (g.P.Pages.store c.remove.new.pages).map c.args.tree.now.root c.remove.new.self.root c.args.cell.now c.requires.living c.args.living c.args.version c.saturating_sub-living.result
-    c.in_ok-found.found c.if-not-found.false (omega (arith, c.if-version-born_of.true, c.born_of.ensures)) c.saturating_sub-living.ensures (c.in_ok-found.ensures.removes tied).changes (c.in_ok-found.ensures.removes tied).tells.each
+    let removes = c.in_ok-found.ensures.removes tied in
+    record {
+      ends = ends_gone form old (g.P.Pages.store c.remove.new.pages).map c.args.tree.now.root c.remove.new.self.root c.args.cell.now c.requires.living c.args.living c.args.version c.saturating_sub-living.result
+          c.in_ok-found.found c.if-not-found.false (omega (arith, c.if-version-born_of.true, c.born_of.ensures)) c.saturating_sub-living.ensures removes.changes removes.tells.each;
+      tells = removes.tells.each;
+    }
 
 pub insert-requires-clause-cell : goal.insert-requires-clause-cell
 insert-requires-clause-cell g c =
@@ -45,25 +53,20 @@ returns-in_err-new-clause-works g c =
     (subst (λ (w : ℕ). IsNotShared (form_of g.S.Summary.says g.S.Summary.unit g.S.Summary.join g.S.Summary.of g.S.Summary.WIDTH w) mid below) c.in_ok-found.ensures.tree.width (none later)))
     c.in_err-new.ensures.leaves.works)
 
-pub returns-clause-ended : goal.returns-clause-ended
-returns-clause-ended g c = λ tied.
+pub returns-clause-ends : goal.returns-clause-ends
+returns-clause-ends g c = λ tied.
     let form : Form = form_of g.S.Summary.says g.S.Summary.unit g.S.Summary.join g.S.Summary.of g.S.Summary.WIDTH c.args.tree.now.width in
     let old = (g.P.Pages.store c.args.pages.now).map in
     let mid = (g.P.Pages.store c.remove.new.pages).map in
     let new = (g.P.Pages.store c.insert.new.pages).map in
     let below = c.remove.new.self.root in
     let later = g.met.P.Pages.keeps_tied c.args.pages.now c.remove.new.pages c.in_ok-found.ensures.leaves.keeps tied in
-    ends_last form old mid new c.args.tree.now.root below c.insert.new.self.root c.args.cell.now c.args.last.now c.requires.living c.args.living c.args.version c.saturating_sub-living.result
-    c.in_ok-found.found c.in_ok-new.new c.if-not-found.false (omega (arith, c.if-version-born_of.false, c.born_of.ensures)) c.requires.version c.saturating_sub-living.ensures c.requires.last
-    (c.in_ok-found.ensures.removes tied).changes (c.in_ok-found.ensures.removes tied).tells.each
-    (subst (λ (w : ℕ). Changes (form_of g.S.Summary.says g.S.Summary.unit g.S.Summary.join g.S.Summary.of g.S.Summary.WIDTH w) mid new below c.insert.new.self.root (with_cell c.args.last.now)) c.in_ok-found.ensures.tree.width (c.in_ok-new.ensures.inserts later).changes)
-    (subst (λ (w : ℕ). TellsNew (form_of g.S.Summary.says g.S.Summary.unit g.S.Summary.join g.S.Summary.of g.S.Summary.WIDTH w) mid below c.args.last.now c.in_ok-new.new) c.in_ok-found.ensures.tree.width (c.in_ok-new.ensures.inserts later).found)
-
-pub returns-then-not-found-clause-found : goal.returns-then-not-found-clause-found
-returns-then-not-found-clause-found g c = λ tied. (c.in_ok-found.ensures.removes tied).tells.each
-
-pub returns-then-version-born_of-clause-found : goal.returns-then-version-born_of-clause-found
-returns-then-version-born_of-clause-found g c = λ tied. (c.in_ok-found.ensures.removes tied).tells.each
-
-pub returns-clause-found : goal.returns-clause-found
-returns-clause-found g c = λ tied. (c.in_ok-found.ensures.removes tied).tells.each
+    let removes = c.in_ok-found.ensures.removes tied in
+    record {
+      ends = ends_last form old mid new c.args.tree.now.root below c.insert.new.self.root c.args.cell.now c.args.last.now c.requires.living c.args.living c.args.version c.saturating_sub-living.result
+          c.in_ok-found.found c.in_ok-new.new c.if-not-found.false (omega (arith, c.if-version-born_of.false, c.born_of.ensures)) c.requires.version c.saturating_sub-living.ensures c.requires.last
+          removes.changes removes.tells.each
+          (subst (λ (w : ℕ). Changes (form_of g.S.Summary.says g.S.Summary.unit g.S.Summary.join g.S.Summary.of g.S.Summary.WIDTH w) mid new below c.insert.new.self.root (with_cell c.args.last.now)) c.in_ok-found.ensures.tree.width (c.in_ok-new.ensures.inserts later).changes)
+          (subst (λ (w : ℕ). TellsNew (form_of g.S.Summary.says g.S.Summary.unit g.S.Summary.join g.S.Summary.of g.S.Summary.WIDTH w) mid below c.args.last.now c.in_ok-new.new) c.in_ok-found.ensures.tree.width (c.in_ok-new.ensures.inserts later).found);
+      tells = removes.tells.each;
+    }

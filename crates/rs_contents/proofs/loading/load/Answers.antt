@@ -24,7 +24,7 @@ returns-in_err-said-clause-loads g c = λ tied. record {
       let p = err_from_is_err_and c.from_residual-in_err-said.result c.from_residual-in_err-said.ensures.1 in
       let why : c.in_err-said.field-0.0 ≡ refusal.DamagedFile = cc (p.1, p.2, is) in
       nothing_said old (taken c.in_ok-reached.reached) (λ n. c.in_ok-reached.ensures.reached n ∙ ap (λ k. (unreached k & (one_at 0 & one_at 1)) n) c.count.ensures.count)
-      (c.in_err-said.ensures.damaged tied (ap Err why));
+      ((c.in_err-said.ensures.says tied).damaged (ap Err why));
 }
 
 pub returns-in_err-routes-clause-rests : goal.returns-in_err-routes-clause-rests
@@ -40,7 +40,7 @@ returns-in_err-routes-clause-loads g c = λ tied. record {
       let p = err_from_is_err_and c.from_residual-in_err-routes.result c.from_residual-in_err-routes.ensures.1 in
       let why : c.in_err-routes.field-0.0 ≡ refusal.DamagedFile = cc (p.1, p.2, is) in
       not_once (g.P.Pages.store c.args.pages.now).map c.in_ok-said.said.pages.items (said_catalogue c.in_ok-said.said.definitions) (said_directory c.in_ok-said.said.directory)
-      (taken c.in_ok-reached.reached) (taken c.load_said.new.reached) (c.in_ok-said.ensures.loads tied)
+      (taken c.in_ok-reached.reached) (taken c.load_said.new.reached) (c.in_ok-said.ensures.says tied).loads
       (subst (λ (rs : List StoredRoute). ((number : ℕ) → times (map (λ route. route.number) (map said_route rs)) number ≤ 1) → ⊥) c.as_slice.ensures.value (c.in_err-routes.ensures.twice (ap Err why)));
 }
 
@@ -66,9 +66,9 @@ returns-in_err-tables-clause-loads g c = λ tied. record {
       no_parts old c.in_ok-routes.routes.items c.in_ok-said.said.pages.items definitions directory (taken c.in_ok-reached.reached) (taken c.load_said.new.reached)
       (λ n. c.in_ok-reached.ensures.reached n ∙ ap (λ k. (unreached k & (one_at 0 & one_at 1)) n) c.count.ensures.count)
       (subst (λ (rs : List StoredRoute). IsPermutation (map span_of_route (map said_route rs)) c.in_ok-routes.routes.items) c.as_slice.ensures.value c.in_ok-routes.ensures.all)
-      (c.in_ok-said.ensures.loads tied)
+      (c.in_ok-said.ensures.says tied).loads
       (subst (λ (rs : List RouteSpan). OpensNoParts rs old directory definitions (taken c.load_said.new.reached)) c.as_slice-2.ensures.value
-      (subst (λ m. OpensNoParts c.as_slice-2.result.now m directory definitions (taken c.load_said.new.reached)) same (c.in_err-tables.ensures.damaged later (ap Err why))));
+      (subst (λ m. OpensNoParts c.as_slice-2.result.now m directory definitions (taken c.load_said.new.reached)) same ((c.in_err-tables.ensures.opens later).damaged (ap Err why))));
 }
 
 pub returns-clause-rests : goal.returns-clause-rests
@@ -87,11 +87,11 @@ returns-clause-loads g c = λ tied.
     let directory = said_directory c.in_ok-said.said.directory in
     let there = are_there old c.in_ok-routes.routes.items c.in_ok-said.said.pages.items definitions directory c.in_ok-tables.tables.items c.in_ok-tables.referents (taken c.in_ok-reached.reached) (taken c.load_said.new.reached) c.open_parts.new.reached
     (λ n. c.in_ok-reached.ensures.reached n ∙ ap (λ k. (unreached k & (one_at 0 & one_at 1)) n) c.count.ensures.count)
-    (c.in_ok-said.ensures.loads tied) c.in_ok-said.ensures.sound
+    (c.in_ok-said.ensures.says tied).loads c.in_ok-said.ensures.sound
     (subst (λ (rs : List StoredRoute). IsPermutation (map span_of_route (map said_route rs)) c.in_ok-routes.routes.items) c.as_slice.ensures.value c.in_ok-routes.ensures.all)
     c.in_ok-routes.ensures.rising
     (subst (λ (rs : List RouteSpan). OpensParts rs old directory definitions c.in_ok-tables.tables.items c.in_ok-tables.referents (taken c.load_said.new.reached) (taken c.open_parts.new.reached)) c.as_slice-2.ensures.value
-    (subst (λ m. OpensParts c.as_slice-2.result.now m directory definitions c.in_ok-tables.tables.items c.in_ok-tables.referents (taken c.load_said.new.reached) (taken c.open_parts.new.reached)) same (c.in_ok-tables.ensures.opens later)))
+    (subst (λ m. OpensParts c.as_slice-2.result.now m directory definitions c.in_ok-tables.tables.items c.in_ok-tables.referents (taken c.load_said.new.reached) (taken c.open_parts.new.reached)) same (c.in_ok-tables.ensures.opens later).opens))
     c.in_ok-tables.ensures.whole in
     record {
       loads = record {

@@ -18,16 +18,20 @@ use Rattle.rs_cell_versions.specs.declared.told.ToldRecords.{ToldRecords}
 use Rattle.rs_cell_versions.specs.Version.{died_of}
 use Rattle.rs_contents.proofs.opening.open_table.Goals as goal
 
-pub returns-in_err-indexes-clause-damaged : goal.returns-in_err-indexes-clause-damaged
-returns-in_err-indexes-clause-damaged g c = λ tied is.
+pub returns-in_err-indexes-clause-opens : goal.returns-in_err-indexes-clause-opens
+returns-in_err-indexes-clause-opens g c = λ tied.
     let p = err_from_is_err_and c.from_residual.result c.from_residual.ensures.1 in
-    let why : c.in_err-indexes.field-0.0 ≡ refusal.DamagedFile = cc (p.1, p.2, is) in
-    let items = c.as_slice-items.result.now in
-    let directory = said_directory c.args.directory.now in
-    none_of_indexes c.args.routes.now (g.P.Pages.store c.args.pages.now).map directory (said_catalogue c.args.definitions.now) (said_table c.args.item.now) (taken c.args.reached.now)
-    c.in-Some.schema.items c.in-Some.ensures.columns
-    (λ states all. c.in_err-indexes.ensures.none (ap Err why) states
-    (subst (λ xs. AllZip (IsIndex c.in-Some.schema.items directory) (filter (λ (index : IndexItem). index.table == c.args.item.now.number) (map said_index xs)) states) (sym c.as_slice-items.ensures.value) all))
+    record {
+      opens = rw (p.1) tt;
+      damaged = λ is.
+          let why : c.in_err-indexes.field-0.0 ≡ refusal.DamagedFile = cc (p.1, p.2, is) in
+          let items = c.as_slice-items.result.now in
+          let directory = said_directory c.args.directory.now in
+          none_of_indexes c.args.routes.now (g.P.Pages.store c.args.pages.now).map directory (said_catalogue c.args.definitions.now) (said_table c.args.item.now) (taken c.args.reached.now)
+          c.in-Some.schema.items c.in-Some.ensures.columns
+          (λ states all. c.in_err-indexes.ensures.none (ap Err why) states
+          (subst (λ xs. AllZip (IsIndex c.in-Some.schema.items directory) (filter (λ (index : IndexItem). index.table == c.args.item.now.number) (map said_index xs)) states) (sym c.as_slice-items.ensures.value) all));
+    }
 
 pub open-requires-clause-indexes : goal.open-requires-clause-indexes
 open-requires-clause-indexes g c =
@@ -36,23 +40,27 @@ open-requires-clause-indexes g c =
     (subst (AreOn c.in-Some.schema.items) (sym c.as_slice-2.ensures.value)
     (are_on c.in-Some.schema.items (said_directory c.args.directory.now) items c.in_ok-indexes.indexes.items c.in_ok-indexes.ensures.indexes))
 
-pub returns-in_err-records-clause-damaged : goal.returns-in_err-records-clause-damaged
-returns-in_err-records-clause-damaged g c = λ tied is.
+pub returns-in_err-records-clause-opens : goal.returns-in_err-records-clause-opens
+returns-in_err-records-clause-opens g c = λ tied.
     let p = err_from_is_err_and c.from_residual-in_err-records.result c.from_residual-in_err-records.ensures.1 in
-    let why : c.in_err-records.field-0.0 ≡ refusal.DamagedFile = cc (p.1, p.2, is) in
-    let file = (g.P.Pages.store c.args.pages.now).map in
-    let before = taken c.args.reached.now in
-    let types = c.in-Some.schema.items in
-    let directory = said_directory c.args.directory.now in
-    let tree = c.in-Some-get.tree.now in
-    let slot = subst (λ (xs : List StoredTree). slice_get (map said_tree xs) c.args.item.now.number ≡ Some (said_tree tree)) c.as_slice.ensures.value
-    (said_at said_tree c.as_slice.result.now c.args.item.now.number tree c.in-Some-get.ensures.lookup.3.0 c.in-Some-get.ensures.lookup.1) in
-    let missing = (c.in_err-records.ensures.opens tied).damaged (ap Err why) in
-    none_of_pages c.args.routes.now file directory (said_catalogue c.args.definitions.now) (said_table c.args.item.now) before types c.in-Some.ensures.columns (said_tree tree) c.told_table-told.result c.in_ok-indexes.indexes.items slot
-    c.told_table-told.ensures.columns c.told_table-told.ensures.kind (c.told_table-told.ensures.records ∙ c.told_of.ensures)
-    (subst (λ xs. AllZip (IsIndex types directory) (filter (λ (index : IndexItem). index.table == c.args.item.now.number) (map said_index xs)) c.in_ok-indexes.indexes.items)
-    c.as_slice-items.ensures.value c.in_ok-indexes.ensures.indexes)
-    (subst (λ (indexes : List IndexState). OpensNoTable file c.told_table-told.result indexes c.args.routes.now before) c.as_slice-2.ensures.value missing)
+    record {
+      opens = rw (p.1) tt;
+      damaged = λ is.
+          let why : c.in_err-records.field-0.0 ≡ refusal.DamagedFile = cc (p.1, p.2, is) in
+          let file = (g.P.Pages.store c.args.pages.now).map in
+          let before = taken c.args.reached.now in
+          let types = c.in-Some.schema.items in
+          let directory = said_directory c.args.directory.now in
+          let tree = c.in-Some-get.tree.now in
+          let slot = subst (λ (xs : List StoredTree). slice_get (map said_tree xs) c.args.item.now.number ≡ Some (said_tree tree)) c.as_slice.ensures.value
+          (said_at said_tree c.as_slice.result.now c.args.item.now.number tree c.in-Some-get.ensures.lookup.3.0 c.in-Some-get.ensures.lookup.1) in
+          let missing = (c.in_err-records.ensures.opens tied).damaged (ap Err why) in
+          none_of_pages c.args.routes.now file directory (said_catalogue c.args.definitions.now) (said_table c.args.item.now) before types c.in-Some.ensures.columns (said_tree tree) c.told_table-told.result c.in_ok-indexes.indexes.items slot
+          c.told_table-told.ensures.columns c.told_table-told.ensures.kind (c.told_table-told.ensures.records ∙ c.told_of.ensures)
+          (subst (λ xs. AllZip (IsIndex types directory) (filter (λ (index : IndexItem). index.table == c.args.item.now.number) (map said_index xs)) c.in_ok-indexes.indexes.items)
+          c.as_slice-items.ensures.value c.in_ok-indexes.ensures.indexes)
+          (subst (λ (indexes : List IndexState). OpensNoTable file c.told_table-told.result indexes c.args.routes.now before) c.as_slice-2.ensures.value missing);
+    }
 
 pub returns-clause-table : goal.returns-clause-table
 returns-clause-table g c =
@@ -81,6 +89,10 @@ returns-clause-opens g c = λ tied.
     let tree = c.in-Some-get.tree.now in
     let slot = subst (λ (xs : List StoredTree). slice_get (map said_tree xs) c.args.item.now.number ≡ Some (said_tree tree)) c.as_slice.ensures.value
     (said_at said_tree c.as_slice.result.now c.args.item.now.number tree c.in-Some-get.ensures.lookup.3.0 c.in-Some-get.ensures.lookup.1) in
-    one_of_pages c.args.routes.now file (said_directory c.args.directory.now) (said_catalogue c.args.definitions.now) (said_table c.args.item.now) before (said_tree tree) c.told_table-told.result slot
-    (record { records = records; indexes = c.in_ok-indexes.indexes }) after (returns-clause-table g c) c.in_ok-records.ensures.table.types c.told_table-told.ensures.kind (c.told_table-told.ensures.records ∙ c.told_of.ensures)
-    (subst (λ (is : List IndexState). OpensTable file c.told_table-told.result records.working is c.args.routes.now before after) c.as_slice-2.ensures.value (c.in_ok-records.ensures.opens tied).opens)
+    record {
+      opens =
+          one_of_pages c.args.routes.now file (said_directory c.args.directory.now) (said_catalogue c.args.definitions.now) (said_table c.args.item.now) before (said_tree tree) c.told_table-told.result slot
+          (record { records = records; indexes = c.in_ok-indexes.indexes }) after (returns-clause-table g c) c.in_ok-records.ensures.table.types c.told_table-told.ensures.kind (c.told_table-told.ensures.records ∙ c.told_of.ensures)
+          (subst (λ (is : List IndexState). OpensTable file c.told_table-told.result records.working is c.args.routes.now before after) c.as_slice-2.ensures.value (c.in_ok-records.ensures.opens tied).opens);
+      damaged = λ is. absurd (cc);
+    }

@@ -22,23 +22,27 @@ returns-in_err-table-clause-rests g c =
     (rests_then g.P.Pages.is_tied g.P.Pages.store g.P.Pages.keeps tt (Err c.in_err-table.field-0.0) c.args.pages.now c.loop-item.pages c.open_table.new.pages g.met.P.Pages.keeps_trans g.met.P.Pages.keeps_tied
     c.loop-item.invariant.rests c.in_err-table.ensures.rests))
 
-pub returns-in_err-table-clause-damaged : goal.returns-in_err-table-clause-damaged
-returns-in_err-table-clause-damaged g c = λ tied is.
-    let old = (g.P.Pages.store c.args.pages.now).map in
-    let mid = (g.P.Pages.store c.loop-item.pages).map in
-    let directory = said_directory c.args.directory.now in
-    let definitions = said_catalogue c.args.definitions.now in
-    let k = c.loop-item.item-index in
-    let item = said_table c.item-item.result in
-    let between = taken c.loop-item.reached in
-    let later = g.met.P.Pages.keeps_tied c.args.pages.now c.loop-item.pages c.loop-item.invariant.rests.below tied in
-    let same = c.loop-item.invariant.rests.rests.keeps.pages tied in
+pub returns-in_err-table-clause-opens : goal.returns-in_err-table-clause-opens
+returns-in_err-table-clause-opens g c = λ tied.
     let p = err_from_is_err_and c.from_residual.result c.from_residual.ensures.1 in
-    let why : c.in_err-table.field-0.0 ≡ refusal.DamagedFile = cc (p.1, p.2, is) in
-    let there = subst (λ (xs : List StoredTable). slice_get (map said_table xs) k ≡ Some item) c.as_slice-item-items.ensures.value
-    (said_at said_table c.as_slice-item-items.result.now k c.item-item.result c.loop-item-test.true c.item-item.is) in
-    opens_missing c.args.routes.now old directory definitions k item there c.loop-item.tables.items (taken c.args.reached.now) between (c.loop-item.invariant.opens tied)
-    (subst (λ (file : PageMap). OpensNotOne c.args.routes.now file directory definitions item between) (same_map mid old same) (c.in_err-table.ensures.damaged later (ap Err why)))
+    record {
+      opens = rw (p.1) tt;
+      damaged = λ is.
+          let old = (g.P.Pages.store c.args.pages.now).map in
+          let mid = (g.P.Pages.store c.loop-item.pages).map in
+          let directory = said_directory c.args.directory.now in
+          let definitions = said_catalogue c.args.definitions.now in
+          let k = c.loop-item.item-index in
+          let item = said_table c.item-item.result in
+          let between = taken c.loop-item.reached in
+          let later = g.met.P.Pages.keeps_tied c.args.pages.now c.loop-item.pages c.loop-item.invariant.rests.below tied in
+          let same = c.loop-item.invariant.rests.rests.keeps.pages tied in
+          let why : c.in_err-table.field-0.0 ≡ refusal.DamagedFile = cc (p.1, p.2, is) in
+          let there = subst (λ (xs : List StoredTable). slice_get (map said_table xs) k ≡ Some item) c.as_slice-item-items.ensures.value
+          (said_at said_table c.as_slice-item-items.result.now k c.item-item.result c.loop-item-test.true c.item-item.is) in
+          opens_missing c.args.routes.now old directory definitions k item there c.loop-item.tables.items (taken c.args.reached.now) between (c.loop-item.invariant.opens tied)
+          (subst (λ (file : PageMap). OpensNotOne c.args.routes.now file directory definitions item between) (same_map mid old same) ((c.in_err-table.ensures.opens later).damaged (ap Err why)));
+    }
 
 pub returns-in_err-push-clause-rests : goal.returns-in_err-push-clause-rests
 returns-in_err-push-clause-rests g c =
@@ -72,7 +76,7 @@ loop-item-preserved g c =
           let same = c.loop-item.invariant.rests.rests.keeps.pages tied in
           subst (λ (opened : List OpenedTable). OpensTables c.args.routes.now old directory definitions (take (k + 1) definitions.tables) opened (taken c.args.reached.now) after) (sym more)
           (opens_next c.args.routes.now old directory definitions k item there found (taken c.args.reached.now) between (c.loop-item.invariant.opens tied) table after
-          (subst (λ (file : PageMap). OpensOne c.args.routes.now file directory definitions item table between after) (same_map mid old same) (c.in_ok-table.ensures.opens later)));
+          (subst (λ (file : PageMap). OpensOne c.args.routes.now file directory definitions item table between after) (same_map mid old same) (c.in_ok-table.ensures.opens later).opens));
       are = subst (λ (opened : List OpenedTable). AllZip (IsTableOf directory definitions) (take (k + 1) definitions.tables) opened) (sym more)
           (zip_next (IsTableOf directory definitions) definitions.tables k item found table there c.loop-item.invariant.are c.in_ok-table.ensures.table);
     }

@@ -13,31 +13,39 @@ use Rattle.rs_attr.proofs.attr_index.AttrIndex.check_each.Goals as goal
 pub has_entry-requires : goal.has_entry-requires
 has_entry-requires g c = record { width = cell_wide c.args.cells.now c.loop-place.place c.get.result.now c.get.ensures ∙ c.requires.width }
 
-pub returns-in_err-has_entry-clause-damaged : goal.returns-in_err-has_entry-clause-damaged
-returns-in_err-has_entry-clause-damaged g c = λ tied is.
+pub returns-in_err-has_entry-clause-looks_up : goal.returns-in_err-has_entry-clause-looks_up
+returns-in_err-has_entry-clause-looks_up g c = λ tied.
     let index = c.args.self.now in
     let old = (g.P.Pages.store c.args.pages.now).map in
     let mid = (g.P.Pages.store c.loop-place.pages).map in
     let later = g.met.P.Pages.keeps_tied c.args.pages.now c.loop-place.pages c.loop-place.invariant.rests.below tied in
     let same = c.loop-place.invariant.rests.rests.keeps.pages tied in
     let p = err_from_is_err_and c.from_residual.result c.from_residual.ensures.1 in
-    let why : c.in_err-has_entry.field-0.0 ≡ refusal.DamagedFile = cc (p.1, p.2, is) in
-    elim c.in_err-has_entry.ensures.refused.cause [
-      | inl other ↦ let clash : refusal.OutOfMemory ≡ refusal.DamagedFile = sym other ∙ why in absurd (cc)
-      | inr (inl other) ↦ let clash : refusal.Disk ≡ refusal.DamagedFile = sym other ∙ why in absurd (cc)
-      | inr (inr none) ↦ no_tree_lacks index.field old mid index.working same (listed c.args.cells.now) (none.1 later)
-    ]
+    record {
+      entered = rw (p.1) tt;
+      damaged = λ is.
+          let why : c.in_err-has_entry.field-0.0 ≡ refusal.DamagedFile = cc (p.1, p.2, is) in
+          elim c.in_err-has_entry.ensures.refused.cause [
+            | inl other ↦ let clash : refusal.OutOfMemory ≡ refusal.DamagedFile = sym other ∙ why in absurd (cc)
+            | inr (inl other) ↦ let clash : refusal.Disk ≡ refusal.DamagedFile = sym other ∙ why in absurd (cc)
+            | inr (inr none) ↦ no_tree_lacks index.field old mid index.working same (listed c.args.cells.now) (none.1 later)
+          ];
+    }
 
-pub returns-then-not-branch-clause-damaged : goal.returns-then-not-branch-clause-damaged
-returns-then-not-branch-clause-damaged g c = λ tied is.
+pub returns-then-not-branch-clause-looks_up : goal.returns-then-not-branch-clause-looks_up
+returns-then-not-branch-clause-looks_up g c = λ tied.
     let index = c.args.self.now in
     let old = (g.P.Pages.store c.args.pages.now).map in
     let mid = (g.P.Pages.store c.loop-place.pages).map in
     let later = g.met.P.Pages.keeps_tied c.args.pages.now c.loop-place.pages c.loop-place.invariant.rests.below tied in
     let same = c.loop-place.invariant.rests.rests.keeps.pages tied in
     let isnt : c.in_ok-has_entry.field-0 ≡ false = search rules in
-    entries_lack index.field old mid index.working same (listed c.args.cells.now) c.loop-place.place c.get.result.now c.get.ensures
-    (subst (λ (b : Bool). Tells index.field mid index.working c.get.result.now b) isnt (c.in_ok-has_entry.ensures.found later))
+    record {
+      entered = tt;
+      damaged = λ is.
+          entries_lack index.field old mid index.working same (listed c.args.cells.now) c.loop-place.place c.get.result.now c.get.ensures
+          (subst (λ (b : Bool). Tells index.field mid index.working c.get.result.now b) isnt (c.in_ok-has_entry.ensures.found later));
+    }
 
 pub loop-place-preserved : goal.loop-place-preserved
 loop-place-preserved g c = record {

@@ -14,19 +14,24 @@ use Rattle.rs_cell_versions.proofs.Looks.{FindsWithin, above_at, all_left, cells
 use Rattle.rs_cell_versions.proofs.Staying.{tree_same}
 use Rattle.rs_cell_versions.proofs.opening.Opening.rest.Goals as goal
 
-pub returns-in_err-high-clause-damaged : goal.returns-in_err-high-clause-damaged
-returns-in_err-high-clause-damaged g c = λ tied is passed.
+pub returns-in_err-high-clause-ends : goal.returns-in_err-high-clause-ends
+returns-in_err-high-clause-ends g c = λ tied.
     let v = c.args.self.now in
     let old = (g.P.Pages.store c.args.pages.now).map in
     let summary : c.new-layout.result.summary ≡ g.S.Summary.WIDTH = c.new-layout.ensures.summary ∙ c.WIDTH.ensures in
     let width : c.new-layout.result.width ≡ v.told.width = c.new-layout.ensures.width ∙ c.width-width.ensures.width ∙ c.self.invariant.0 ∙ ap (λ (l : Looked). l.told.width) c.self.view_is in
     let root : c.root.result ≡ v.told.root = c.root.ensures ∙ ap (λ (l : Looked). l.told.root) c.self.view_is in
     let p = err_from_is_err_and c.from_residual.result c.from_residual.ensures.1 in
-    let why : c.in_err-high.field-0.0 ≡ refusal.DamagedFile = cc (p.1, p.2, is) in
-    no_tree_otherwise (form_of g.S.Summary.says g.S.Summary.unit g.S.Summary.join g.S.Summary.of g.S.Summary.WIDTH c.args.self.now.told.width) old v.told (no_tree_at (form_of g.S.Summary.says g.S.Summary.unit g.S.Summary.join g.S.Summary.of) old c.new-layout.result.summary g.S.Summary.WIDTH c.new-layout.result.width v.told.width c.root.result v.told.root summary width root (c.in_err-high.ensures.damaged tied (ap Err why)))
+    record {
+      left = rw p.1 tt;
+      passed = λ passed. rw p.1 tt;
+      damaged = λ is passed.
+          let why : c.in_err-high.field-0.0 ≡ refusal.DamagedFile = cc (p.1, p.2, is) in
+          no_tree_otherwise (form_of g.S.Summary.says g.S.Summary.unit g.S.Summary.join g.S.Summary.of g.S.Summary.WIDTH c.args.self.now.told.width) old v.told (no_tree_at (form_of g.S.Summary.says g.S.Summary.unit g.S.Summary.join g.S.Summary.of) old c.new-layout.result.summary g.S.Summary.WIDTH c.new-layout.result.width v.told.width c.root.result v.told.root summary width root ((c.in_err-high.ensures.bounds tied).damaged (ap Err why)));
+    }
 
-pub returns-then-not-is_below-clause-left : goal.returns-then-not-is_below-clause-left
-returns-then-not-is_below-clause-left g c = λ tied cells used tree.
+pub returns-then-not-is_below-clause-ends : goal.returns-then-not-is_below-clause-ends
+returns-then-not-is_below-clause-ends g c = λ tied.
     let v = c.args.self.now in
     let old = (g.P.Pages.store c.args.pages.now).map in
     let summary : c.new-layout.result.summary ≡ g.S.Summary.WIDTH = c.new-layout.ensures.summary ∙ c.WIDTH.ensures in
@@ -34,20 +39,14 @@ returns-then-not-is_below-clause-left g c = λ tied cells used tree.
     let root : c.root.result ≡ v.told.root = c.root.ensures ∙ ap (λ (l : Looked). l.told.root) c.self.view_is in
     let low : c.deref.result.now ≡ v.low = c.deref.ensures.value ∙ ap (λ (l : Looked). l.low) c.self.view_is in
     let order = told_below v.low c.in_ok-high.high.items c.deref.result.now c.deref-2.result.now c.is_below.result false low c.deref-2.ensures.value c.is_below.ensures c.if-not-is_below.true in
-    let above = above_at (form_of g.S.Summary.says g.S.Summary.unit g.S.Summary.join g.S.Summary.of) old c.new-layout.result.summary g.S.Summary.WIDTH c.new-layout.result.width v.told.width c.root.result v.told.root summary width root c.in_ok-high.high.items (c.in_ok-high.ensures.above tied) in
-    c.new.ensures.none ∙ sym (none_left v.low c.in_ok-high.high.items cells order (above.each cells used tree))
-
-pub returns-then-not-is_below-clause-passed : goal.returns-then-not-is_below-clause-passed
-returns-then-not-is_below-clause-passed g c = λ tied passed.
-    let v = c.args.self.now in
-    let old = (g.P.Pages.store c.args.pages.now).map in
-    let summary : c.new-layout.result.summary ≡ g.S.Summary.WIDTH = c.new-layout.ensures.summary ∙ c.WIDTH.ensures in
-    let width : c.new-layout.result.width ≡ v.told.width = c.new-layout.ensures.width ∙ c.width-width.ensures.width ∙ c.self.invariant.0 ∙ ap (λ (l : Looked). l.told.width) c.self.view_is in
-    let root : c.root.result ≡ v.told.root = c.root.ensures ∙ ap (λ (l : Looked). l.told.root) c.self.view_is in
-    let low : c.deref.result.now ≡ v.low = c.deref.ensures.value ∙ ap (λ (l : Looked). l.low) c.self.view_is in
-    let order = told_below v.low c.in_ok-high.high.items c.deref.result.now c.deref-2.result.now c.is_below.result false low c.deref-2.ensures.value c.is_below.ensures c.if-not-is_below.true in
-    let above = above_at (form_of g.S.Summary.says g.S.Summary.unit g.S.Summary.join g.S.Summary.of) old c.new-layout.result.summary g.S.Summary.WIDTH c.new-layout.result.width v.told.width c.root.result v.told.root summary width root c.in_ok-high.high.items (c.in_ok-high.ensures.above tied) in
-    passed_all (form_of g.S.Summary.says g.S.Summary.unit g.S.Summary.join g.S.Summary.of g.S.Summary.WIDTH c.args.self.now.told.width) old v c.in_ok-high.high.items above order passed
+    let above = above_at (form_of g.S.Summary.says g.S.Summary.unit g.S.Summary.join g.S.Summary.of) old c.new-layout.result.summary g.S.Summary.WIDTH c.new-layout.result.width v.told.width c.root.result v.told.root summary width root c.in_ok-high.high.items (c.in_ok-high.ensures.bounds tied).above in
+    record {
+      left = λ cells used tree.
+          c.new.ensures.none ∙ sym (none_left v.low c.in_ok-high.high.items cells order (above.each cells used tree));
+      passed = λ passed.
+          passed_all (form_of g.S.Summary.says g.S.Summary.unit g.S.Summary.join g.S.Summary.of g.S.Summary.WIDTH c.args.self.now.told.width) old v c.in_ok-high.high.items above order passed;
+      damaged = λ is. absurd (cc);
+    }
 
 pub part-requires : goal.part-requires
 part-requires g c =
@@ -60,8 +59,8 @@ pub returns-clause-rests : goal.returns-clause-rests
 returns-clause-rests g c =
     rests_then g.P.Pages.is_tied g.P.Pages.store g.P.Pages.keeps c.in_ok-high.high c.part.result c.args.pages.now c.bound_above.new.pages c.part.new.pages g.met.P.Pages.keeps_trans g.met.P.Pages.keeps_tied c.in_ok-high.ensures.rests c.part.ensures.rests
 
-pub returns-clause-left : goal.returns-clause-left
-returns-clause-left g c = λ tied.
+pub returns-clause-ends : goal.returns-clause-ends
+returns-clause-ends g c = λ tied.
     let v = c.args.self.now in
     let old = (g.P.Pages.store c.args.pages.now).map in
     let summary : c.new-layout.result.summary ≡ g.S.Summary.WIDTH = c.new-layout.ensures.summary ∙ c.WIDTH.ensures in
@@ -70,32 +69,17 @@ returns-clause-left g c = λ tied.
     let mid = (g.P.Pages.store c.bound_above.new.pages).map in
     let later = g.met.P.Pages.keeps_tied c.args.pages.now c.bound_above.new.pages c.in_ok-high.ensures.rests.below tied in
     let same = c.in_ok-high.ensures.rests.rests.keeps.pages tied in
-    let above = above_at (form_of g.S.Summary.says g.S.Summary.unit g.S.Summary.join g.S.Summary.of) old c.new-layout.result.summary g.S.Summary.WIDTH c.new-layout.result.width v.told.width c.root.result v.told.root summary width root c.in_ok-high.high.items (c.in_ok-high.ensures.above tied) in
-    IfOk-weaker c.part.result (λ found. FindsWithin (form_of g.S.Summary.says g.S.Summary.unit g.S.Summary.join g.S.Summary.of g.S.Summary.WIDTH c.args.self.now.told.width) mid v.told.root v.low c.deref-3.result.now (listed found))
-    (λ left. (cells : List (List ℕ)) (used : ℕ → ℕ) → IsTree (form_of g.S.Summary.says g.S.Summary.unit g.S.Summary.join g.S.Summary.of g.S.Summary.WIDTH c.args.self.now.told.width) old v.told.root cells used → listed left ≡ cells_from v.low cells)
-    (λ found finds cells used tree. finds cells used (tree_same (form_of g.S.Summary.says g.S.Summary.unit g.S.Summary.join g.S.Summary.of g.S.Summary.WIDTH c.args.self.now.told.width) old mid same v.told.root cells used tree) ∙ ap (λ (h : List ℕ). cells_within v.low h cells) c.deref-3.ensures.value
-    ∙ all_left v.low c.in_ok-high.high.items cells (above.each cells used tree))
-    (c.part.ensures.found later)
-
-pub returns-clause-passed : goal.returns-clause-passed
-returns-clause-passed g c = λ tied passed.
-    let v = c.args.self.now in
-    let old = (g.P.Pages.store c.args.pages.now).map in
-    let summary : c.new-layout.result.summary ≡ g.S.Summary.WIDTH = c.new-layout.ensures.summary ∙ c.WIDTH.ensures in
-    let width : c.new-layout.result.width ≡ v.told.width = c.new-layout.ensures.width ∙ c.width-width.ensures.width ∙ c.self.invariant.0 ∙ ap (λ (l : Looked). l.told.width) c.self.view_is in
-    let root : c.root.result ≡ v.told.root = c.root.ensures ∙ ap (λ (l : Looked). l.told.root) c.self.view_is in
-    let mid = (g.P.Pages.store c.bound_above.new.pages).map in
-    let later = g.met.P.Pages.keeps_tied c.args.pages.now c.bound_above.new.pages c.in_ok-high.ensures.rests.below tied in
-    let same = c.in_ok-high.ensures.rests.rests.keeps.pages tied in
-    let above = above_at (form_of g.S.Summary.says g.S.Summary.unit g.S.Summary.join g.S.Summary.of) old c.new-layout.result.summary g.S.Summary.WIDTH c.new-layout.result.width v.told.width c.root.result v.told.root summary width root c.in_ok-high.high.items (c.in_ok-high.ensures.above tied) in
-    on_both c.part.result c.part.ensures.low (c.part.ensures.passed later (passed_same (form_of g.S.Summary.says g.S.Summary.unit g.S.Summary.join g.S.Summary.of g.S.Summary.WIDTH c.args.self.now.told.width) old mid same v passed))
-    (λ low now. rest_passed (form_of g.S.Summary.says g.S.Summary.unit g.S.Summary.join g.S.Summary.of g.S.Summary.WIDTH c.args.self.now.told.width) old mid same v c.part.new.self c.in_ok-high.high.items c.part.ensures.told (low ∙ c.deref-3.ensures.value) above now)
-
-pub returns-clause-damaged : goal.returns-clause-damaged
-returns-clause-damaged g c = λ tied is passed.
-    let v = c.args.self.now in
-    let old = (g.P.Pages.store c.args.pages.now).map in
-    let mid = (g.P.Pages.store c.bound_above.new.pages).map in
-    let later = g.met.P.Pages.keeps_tied c.args.pages.now c.bound_above.new.pages c.in_ok-high.ensures.rests.below tied in
-    let same = c.in_ok-high.ensures.rests.rests.keeps.pages tied in
-    otherwise_back (form_of g.S.Summary.says g.S.Summary.unit g.S.Summary.join g.S.Summary.of g.S.Summary.WIDTH c.args.self.now.told.width) old mid same v.told (c.part.ensures.damaged later is (passed_same (form_of g.S.Summary.says g.S.Summary.unit g.S.Summary.join g.S.Summary.of g.S.Summary.WIDTH c.args.self.now.told.width) old mid same v passed))
+    let above = above_at (form_of g.S.Summary.says g.S.Summary.unit g.S.Summary.join g.S.Summary.of) old c.new-layout.result.summary g.S.Summary.WIDTH c.new-layout.result.width v.told.width c.root.result v.told.root summary width root c.in_ok-high.high.items (c.in_ok-high.ensures.bounds tied).above in
+    let parts = c.part.ensures.parts later in
+    record {
+      left = IfOk-weaker c.part.result (λ found. FindsWithin (form_of g.S.Summary.says g.S.Summary.unit g.S.Summary.join g.S.Summary.of g.S.Summary.WIDTH c.args.self.now.told.width) mid v.told.root v.low c.deref-3.result.now (listed found))
+          (λ left. (cells : List (List ℕ)) (used : ℕ → ℕ) → IsTree (form_of g.S.Summary.says g.S.Summary.unit g.S.Summary.join g.S.Summary.of g.S.Summary.WIDTH c.args.self.now.told.width) old v.told.root cells used → listed left ≡ cells_from v.low cells)
+          (λ found finds cells used tree. finds cells used (tree_same (form_of g.S.Summary.says g.S.Summary.unit g.S.Summary.join g.S.Summary.of g.S.Summary.WIDTH c.args.self.now.told.width) old mid same v.told.root cells used tree) ∙ ap (λ (h : List ℕ). cells_within v.low h cells) c.deref-3.ensures.value
+          ∙ all_left v.low c.in_ok-high.high.items cells (above.each cells used tree))
+          parts.found;
+      passed = λ passed.
+          on_both c.part.result c.part.ensures.low (parts.passed (passed_same (form_of g.S.Summary.says g.S.Summary.unit g.S.Summary.join g.S.Summary.of g.S.Summary.WIDTH c.args.self.now.told.width) old mid same v passed))
+          (λ low now. rest_passed (form_of g.S.Summary.says g.S.Summary.unit g.S.Summary.join g.S.Summary.of g.S.Summary.WIDTH c.args.self.now.told.width) old mid same v c.part.new.self c.in_ok-high.high.items c.part.ensures.told (low ∙ c.deref-3.ensures.value) above now);
+      damaged = λ is passed.
+          otherwise_back (form_of g.S.Summary.says g.S.Summary.unit g.S.Summary.join g.S.Summary.of g.S.Summary.WIDTH c.args.self.now.told.width) old mid same v.told (parts.damaged is (passed_same (form_of g.S.Summary.says g.S.Summary.unit g.S.Summary.join g.S.Summary.of g.S.Summary.WIDTH c.args.self.now.told.width) old mid same v passed));
+    }

@@ -44,8 +44,8 @@ returns-then-new-clause-adds g c = λ tied.
     let new = (g.P.Pages.store c.put.new.pages).map in
     let was = standing d.tree.root d.living d.dead.working in
     let is = standing c.put.new.tree.root c.in_ok-new.living d.dead.working in
-    let tells = subst (λ (t : Rooted). TellsNew (form g.S.Summary t.width) old t.root c.args.cell.now c.in_ok-new.new) c.copy_of-tree.ensures (c.in_ok-new.ensures.found tied) in
-    let adds = subst (λ (t : Rooted). Adds (form g.S.Summary t.width) old new t.root d.living c.put.new.tree.root c.in_ok-new.living c.args.cell.now) c.copy_of-tree.ensures (c.in_ok-new.ensures.added tied) in
+    let tells = subst (λ (t : Rooted). TellsNew (form g.S.Summary t.width) old t.root c.args.cell.now c.in_ok-new.new) c.copy_of-tree.ensures (c.in_ok-new.ensures.puts tied).tells in
+    let adds = subst (λ (t : Rooted). Adds (form g.S.Summary t.width) old new t.root d.living c.put.new.tree.root c.in_ok-new.living c.args.cell.now) c.copy_of-tree.ensures (c.in_ok-new.ensures.puts tied).adds in
     record {
       changes = subst (λ (v : Versioned). ChangesCells (form g.S.Summary v.width) old new v.working is (with_cell c.args.cell.now)) c.self.view_is (adds.each d.dead.working);
       tells = subst (λ (v : Versioned). cells.TellsNew (form g.S.Summary v.width) old v.working c.args.cell.now c.in_ok-new.new) c.self.view_is
@@ -59,11 +59,11 @@ returns-else-new-clause-adds g c = λ tied.
     let old = (g.P.Pages.store c.args.pages.now).map in
     let new = (g.P.Pages.store c.put.new.pages).map in
     let was = standing d.tree.root d.living d.dead.working in
-    let tells = subst (λ (t : Rooted). TellsNew (form g.S.Summary t.width) old t.root c.args.cell.now c.in_ok-new.new) c.copy_of-tree.ensures (c.in_ok-new.ensures.found tied) in
+    let tells = subst (λ (t : Rooted). TellsNew (form g.S.Summary t.width) old t.root c.args.cell.now c.in_ok-new.new) c.copy_of-tree.ensures (c.in_ok-new.ensures.puts tied).tells in
     record {
       changes = subst (λ (v : Versioned). ChangesCells (form g.S.Summary v.width) old new v.working v.working (with_cell c.args.cell.now)) c.self.view_is
-          (stays_held (form g.S.Summary d.tree.width) old new was c.args.cell.now c.in_ok-new.new c.if-new.false (c.in_ok-new.ensures.rests tied c.if-new.false) tells);
+          (stays_held (form g.S.Summary d.tree.width) old new was c.args.cell.now c.in_ok-new.new c.if-new.false ((c.in_ok-new.ensures.puts tied).rests c.if-new.false) tells);
       tells = subst (λ (v : Versioned). cells.TellsNew (form g.S.Summary v.width) old v.working c.args.cell.now c.in_ok-new.new) c.self.view_is
           (tells_of (form g.S.Summary d.tree.width) old was c.args.cell.now c.in_ok-new.new tells);
-      rests = λ isnt. (c.in_ok-new.ensures.rests tied isnt, refl);
+      rests = λ isnt. ((c.in_ok-new.ensures.puts tied).rests isnt, refl);
     }

@@ -74,8 +74,8 @@ returns-then-ended-clause-kills g c = λ tied.
     c.list_written.ensures.working ∙ ap (λ xs. xs ++ c.write.new.self.written ∷ []) c.write.ensures.working ∙ ap (λ x. d.dead.working ++ x ∷ []) written
     ∙ ap (λ (b : Bool). with_last b (ended c.args.version c.args.cell.now) d.dead.working) (sym c.if-ended.true) in
     let ends = subst (λ (t : Rooted). EndsOne (form g.S.Summary t.width) old new t.root d.living c.end.new.tree.root c.in_ok-ended.ended.living c.in_ok-ended.ended.listed c.args.version c.args.cell.now) c.copy_of-tree.ensures
-    (c.in_ok-ended.ensures.ended tied) in
-    let tells = subst (λ (t : Rooted). Tells (form g.S.Summary t.width) old t.root c.args.cell.now c.in_ok-ended.ended.found) c.copy_of-tree.ensures (c.in_ok-ended.ensures.found tied) in
+    (c.in_ok-ended.ensures.ends tied).ends in
+    let tells = subst (λ (t : Rooted). Tells (form g.S.Summary t.width) old t.root c.args.cell.now c.in_ok-ended.ended.found) c.copy_of-tree.ensures (c.in_ok-ended.ensures.ends tied).tells in
     record {
       ends = subst (λ (v : Versioned). Ends (form g.S.Summary v.width) old new v.working (standing c.end.new.tree.root c.in_ok-ended.ended.living c.list_written.new.self.working) c.args.version c.args.cell.now) c.self.view_is
           (subst (λ (dead : List (List ℕ)). Ends (form g.S.Summary d.tree.width) old new (standing d.tree.root d.living d.dead.working) (standing c.end.new.tree.root c.in_ok-ended.ended.living dead) c.args.version c.args.cell.now) (sym last)
@@ -92,8 +92,8 @@ returns-else-ended-clause-kills g c = λ tied.
     let last : c.write.new.self.working ≡ with_last c.in_ok-ended.ended.listed (ended c.args.version c.args.cell.now) d.dead.working =
     c.write.ensures.working ∙ ap (λ (b : Bool). with_last b (ended c.args.version c.args.cell.now) d.dead.working) (sym c.if-ended.false) in
     let ends = subst (λ (t : Rooted). EndsOne (form g.S.Summary t.width) old new t.root d.living c.end.new.tree.root c.in_ok-ended.ended.living c.in_ok-ended.ended.listed c.args.version c.args.cell.now) c.copy_of-tree.ensures
-    (c.in_ok-ended.ensures.ended tied) in
-    let tells = subst (λ (t : Rooted). Tells (form g.S.Summary t.width) old t.root c.args.cell.now c.in_ok-ended.ended.found) c.copy_of-tree.ensures (c.in_ok-ended.ensures.found tied) in
+    (c.in_ok-ended.ensures.ends tied).ends in
+    let tells = subst (λ (t : Rooted). Tells (form g.S.Summary t.width) old t.root c.args.cell.now c.in_ok-ended.ended.found) c.copy_of-tree.ensures (c.in_ok-ended.ensures.ends tied).tells in
     record {
       ends = subst (λ (v : Versioned). Ends (form g.S.Summary v.width) old new v.working (standing c.end.new.tree.root c.in_ok-ended.ended.living c.write.new.self.working) c.args.version c.args.cell.now) c.self.view_is
           (subst (λ (dead : List (List ℕ)). Ends (form g.S.Summary d.tree.width) old new (standing d.tree.root d.living d.dead.working) (standing c.end.new.tree.root c.in_ok-ended.ended.living dead) c.args.version c.args.cell.now) (sym last)

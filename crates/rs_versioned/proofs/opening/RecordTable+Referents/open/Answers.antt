@@ -29,7 +29,7 @@ returns-in_err-opening-clause-refused g c =
       damaged = λ tied is.
           let why : c.in_err-opening.field-0.0 ≡ refusal.DamagedFile = cc (p.1, p.2, is) in
           none_fresh kept_referents (g.P.Pages.store c.args.pages.now).map c.args.told (AreReferentsMeant c.args.routes.now c.args.told.accepted) (taken c.args.reached.now)
-          (c.in_err-opening.ensures.damaged tied (ap Err why));
+          ((c.in_err-opening.ensures.begins tied).damaged (ap Err why));
     }
 
 pub loop-route-init : goal.loop-route-init
@@ -37,11 +37,11 @@ loop-route-init g c =
     let old = (g.P.Pages.store c.args.pages.now).map in
     record {
       rests = rests_ok g.P.Pages.is_tied g.P.Pages.store g.P.Pages.keeps c.in_ok-opening.opening tt c.args.pages.now c.begin.new.pages c.in_ok-opening.ensures.rests;
-      told = c.in_ok-opening.ensures.told;
-      passed = λ tied. c.in_ok-opening.ensures.passed old;
-      say = λ tied. says_none SaysReferent referent_form old c.args.told.root c.in_ok-opening.opening.low c.in_ok-opening.ensures.low;
+      told = c.in_ok-opening.ensures.begun.told;
+      passed = λ tied. c.in_ok-opening.ensures.begun.passed old;
+      say = λ tied. says_none SaysReferent referent_form old c.args.told.root c.in_ok-opening.opening.low c.in_ok-opening.ensures.begun.low;
       on = refl;
-      low = c.in_ok-opening.ensures.low;
+      low = c.in_ok-opening.ensures.begun.low;
       fits = omega arith;
       meant = λ tied. meant_none c.args.routes.now c.args.told.accepted old c.args.told.root;
     }
@@ -75,7 +75,7 @@ returns-in_err-cells-clause-refused g c =
           let later = g.met.P.Pages.keeps_tied c.args.pages.now c.loop-route.pages c.loop-route.invariant.rests.below tied in
           let same = c.loop-route.invariant.rests.rests.keeps.pages tied in
           let why : c.in_err-cells.field-0.0 ≡ refusal.DamagedFile = cc (p.1, p.2, is) in
-          let other = subst (λ (t : Told). HasPassed (plain_form t.width) mid c.loop-route.opening → StandsOtherwise (plain_form t.width) mid t) c.loop-route.invariant.told (c.in_err-cells.ensures.damaged later (ap Err why)) in
+          let other = subst (λ (t : Told). HasPassed (plain_form t.width) mid c.loop-route.opening → StandsOtherwise (plain_form t.width) mid t) c.loop-route.invariant.told ((c.in_err-cells.ensures.parts later).damaged (ap Err why)) in
           none_otherwise kept_referents old c.args.told (AreReferentsMeant c.args.routes.now c.args.told.accepted) (taken c.args.reached.now) referent_width
           (otherwise_back referent_form old mid same (told_of referent_width c.args.told) (other (passed_same referent_form old mid same c.loop-route.opening (c.loop-route.invariant.passed tied))));
     }
@@ -102,7 +102,7 @@ returns-then-not-are_part_meant-clause-refused g c = record {
       let was = c.loop-route.invariant in
       let test = is_within c.loop-route.opening.low c.start_of.result in
       let found = listed c.in_ok-cells.cells in
-      let finds = subst (λ (t : Told). FindsWhere (plain_form t.width) mid t.root test found) was.told (c.in_ok-cells.ensures.found later) in
+      let finds = subst (λ (t : Told). FindsWhere (plain_form t.width) mid t.root test found) was.told (c.in_ok-cells.ensures.parts later).found in
       none_so kept_referents old c.args.told (AreReferentsMeant routes c.args.told.accepted) (taken c.args.reached.now)
       (no_part routes c.args.told.accepted old c.args.told.root test (is_between (from_of on) next.number)
       (λ cell referent says. ap (λ (low : List ℕ). is_within low c.start_of.result cell) was.low ∙ within_is cell referent says on c.start_of.result next.number was.fits c.start_of.ensures.fits c.start_of.ensures.bytes)
@@ -131,12 +131,12 @@ loop-route-preserved g c =
       passed = λ tied.
           let later = g.met.P.Pages.keeps_tied c.args.pages.now c.loop-route.pages was.rests.below tied in
           let same = was.rests.rests.keeps.pages tied in
-          let more = subst (λ (t : Told). HasPassed (plain_form t.width) mid c.loop-route.opening → HasPassed (plain_form t.width) mid c.part.new.self) was.told (c.in_ok-cells.ensures.passed later) in
+          let more = subst (λ (t : Told). HasPassed (plain_form t.width) mid c.loop-route.opening → HasPassed (plain_form t.width) mid c.part.new.self) was.told (c.in_ok-cells.ensures.parts later).passed in
           passed_same referent_form mid old (same_back mid old same) c.part.new.self (more (passed_same referent_form old mid same c.loop-route.opening (was.passed tied)));
       say = λ tied.
           let later = g.met.P.Pages.keeps_tied c.args.pages.now c.loop-route.pages was.rests.below tied in
           let same = was.rests.rests.keeps.pages tied in
-          let finds = subst (λ (t : Told). FindsWhere (plain_form t.width) mid t.root (is_within low high) found) was.told (c.in_ok-cells.ensures.found later) in
+          let finds = subst (λ (t : Told). FindsWhere (plain_form t.width) mid t.root (is_within low high) found) was.told (c.in_ok-cells.ensures.parts later).found in
           let order : is_below high low ≡ false = ap (is_below high) was.low ∙ rising_bounds on high next.number was.fits c.start_of.ensures.fits c.start_of.ensures.bytes
           (λ route one. before_below routes k next route c.requires.rising (sym was.on ∙ one) there) in
           subst (SaysBelow SaysReferent referent_form old c.args.told.root) (sym c.in_ok-cells.ensures.low)
@@ -148,7 +148,7 @@ loop-route-preserved g c =
       meant = λ tied.
           let later = g.met.P.Pages.keeps_tied c.args.pages.now c.loop-route.pages was.rests.below tied in
           let same = was.rests.rests.keeps.pages tied in
-          let finds = subst (λ (t : Told). FindsWhere (plain_form t.width) mid t.root (is_within low high) found) was.told (c.in_ok-cells.ensures.found later) in
+          let finds = subst (λ (t : Told). FindsWhere (plain_form t.width) mid t.root (is_within low high) found) was.told (c.in_ok-cells.ensures.parts later).found in
           meant_more routes c.args.told.accepted old c.args.told.root (from_of on) next.number (was.meant tied)
           (part_for routes c.args.told.accepted old c.args.told.root (is_within low high) (is_between (from_of on) next.number)
           (λ cell referent says. ap (λ (bound : List ℕ). is_within bound high cell) was.low ∙ within_is cell referent says on high next.number was.fits c.start_of.ensures.fits c.start_of.ensures.bytes)
@@ -174,7 +174,7 @@ returns-in_err-versions-clause-refused g c =
           let later = g.met.P.Pages.keeps_tied c.args.pages.now c.loop-route.pages c.loop-route.invariant.rests.below tied in
           let same = c.loop-route.invariant.rests.rests.keeps.pages tied in
           let why : c.in_err-versions.field-0.0 ≡ refusal.DamagedFile = cc (p.1, p.2, is) in
-          let other = subst (λ (t : Told). HasPassed (plain_form t.width) mid c.loop-route.opening → StandsOtherwise (plain_form t.width) mid t) c.loop-route.invariant.told (c.in_err-versions.ensures.damaged later (ap Err why)) in
+          let other = subst (λ (t : Told). HasPassed (plain_form t.width) mid c.loop-route.opening → StandsOtherwise (plain_form t.width) mid t) c.loop-route.invariant.told ((c.in_err-versions.ensures.finishes later).damaged (ap Err why)) in
           none_otherwise kept_referents old c.args.told (AreReferentsMeant c.args.routes.now c.args.told.accepted) (taken c.args.reached.now) referent_width
           (otherwise_back referent_form old mid same (told_of referent_width c.args.told) (other (passed_same referent_form old mid same c.loop-route.opening (c.loop-route.invariant.passed tied))));
     }
@@ -200,7 +200,7 @@ returns-then-not-are_part_meant-2-clause-refused g c = record {
       let was = c.loop-route.invariant in
       let low = c.loop-route.opening.low in
       let left = listed c.in_ok-versions.left in
-      let finds = subst (λ (t : Told). FindsWhere (plain_form t.width) mid t.root (λ cell. not (is_below cell low)) left) was.told (c.in_ok-versions.ensures.left later) in
+      let finds = subst (λ (t : Told). FindsWhere (plain_form t.width) mid t.root (λ cell. not (is_below cell low)) left) was.told (c.in_ok-versions.ensures.finishes later).left in
       none_so kept_referents old c.args.told (AreReferentsMeant routes c.args.told.accepted) (taken c.args.reached.now)
       (no_part routes c.args.told.accepted old c.args.told.root (λ cell. not (is_below cell low)) (is_after (from_of on))
       (λ cell referent says. ap (λ (bound : List ℕ). not (is_below cell bound)) was.low ∙ left_is cell referent says on was.fits)
@@ -224,13 +224,13 @@ returns-clause-opens g c = λ tied.
     let left = listed c.in_ok-versions.left in
     let low = c.loop-route.opening.low in
     let dead = c.in_ok-versions.versions.working.dead in
-    let finds = subst (λ (t : Told). FindsWhere (plain_form t.width) mid t.root (λ cell. not (is_below cell low)) left) c.loop-route.invariant.told (c.in_ok-versions.ensures.left later) in
+    let finds = subst (λ (t : Told). FindsWhere (plain_form t.width) mid t.root (λ cell. not (is_below cell low)) left) c.loop-route.invariant.told (c.in_ok-versions.ensures.finishes later).left in
     let stands = subst (λ (t : Told). HasPassed (plain_form t.width) mid c.loop-route.opening → (cells : List (List ℕ)) (used : ℕ → ℕ) → IsTree (plain_form t.width) mid t.root cells used → StandsTold (plain_form t.width) mid t dead cells used)
-    c.loop-route.invariant.told (c.in_ok-versions.ensures.stands later) (passed_same referent_form old mid same c.loop-route.opening (c.loop-route.invariant.passed tied)) in
-    opens_records kept_referents old c.args.told (AreReferentsMeant c.args.routes.now c.args.told.accepted) c.with.result.working (taken c.args.reached.now) (taken c.begin.new.reached) referent_width low left (c.in_ok-opening.ensures.validates tied) (record {
-      root = ap (λ (s : Standing). s.root) c.with.ensures.working ∙ c.in_ok-versions.ensures.root ∙ ap (λ (t : Told). t.root) c.loop-route.invariant.told;
-      living = ap (λ (s : Standing). s.living) c.with.ensures.working ∙ c.in_ok-versions.ensures.living ∙ ap (λ (t : Told). t.living) c.loop-route.invariant.told;
-      garbage = ap (λ (s : Standing). length s.dead) c.with.ensures.working ∙ c.in_ok-versions.ensures.garbage ∙ ap (λ (t : Told). t.garbage) c.loop-route.invariant.told;
+    c.loop-route.invariant.told (c.in_ok-versions.ensures.finishes later).stands (passed_same referent_form old mid same c.loop-route.opening (c.loop-route.invariant.passed tied)) in
+    opens_records kept_referents old c.args.told (AreReferentsMeant c.args.routes.now c.args.told.accepted) c.with.result.working (taken c.args.reached.now) (taken c.begin.new.reached) referent_width low left (c.in_ok-opening.ensures.begins tied).validates (record {
+      root = ap (λ (s : Standing). s.root) c.with.ensures.working ∙ c.in_ok-versions.ensures.cells.root ∙ ap (λ (t : Told). t.root) c.loop-route.invariant.told;
+      living = ap (λ (s : Standing). s.living) c.with.ensures.working ∙ c.in_ok-versions.ensures.cells.living ∙ ap (λ (t : Told). t.living) c.loop-route.invariant.told;
+      garbage = ap (λ (s : Standing). length s.dead) c.with.ensures.working ∙ c.in_ok-versions.ensures.cells.garbage ∙ ap (λ (t : Told). t.garbage) c.loop-route.invariant.told;
     })
     (subst (λ (s : Standing). (cells : List (List ℕ)) (used : ℕ → ℕ) → IsTree referent_form old c.args.told.root cells used → StandsTold referent_form old (told_of referent_width c.args.told) s.dead cells used) (sym c.with.ensures.working)
     (stands_back referent_form old mid same (told_of referent_width c.args.told) dead stands))
