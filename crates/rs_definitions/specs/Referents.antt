@@ -1,9 +1,10 @@
 -- The referents that a version sees, as they are kept in memory, and what the calls that bring them there answer.
-use Rattle.std.specs.Prelude.{◌≡◌, ◌≢◌, ◌<◌, ◌^◌, ℕ, suc, List, Result, Err, IfOk}
+use Rattle.std.specs.Prelude.{◌≡◌, ◌≢◌, ◌<◌, ◌^◌, ℕ, suc, List, Result, Err, IfOk, OnOk, filter, map}
 use Rattle.std.specs.FinMap as names
 use Rattle.std.specs.List.{AllByRecursion}
 use Rattle.std.specs.Option.{option_or}
 use Rattle.rs_facts.specs.Fact.{Name, Names, name_cmp}
+use Rattle.rs_machine.specs.Lawful.{AreDistinct}
 use Rattle.rs_methods.specs.Position.{start_name}
 use Rattle.rs_refusal.specs.declared.refusal.Refusal.{Refusal}
 use Rattle.rs_refusal.specs.declared.refusal.Refusal.TheVariants as refusal
@@ -14,7 +15,7 @@ use Rattle.rs_catalog.specs.Referents.{referents_on}
 use Rattle.rs_catalog.specs.declared.referents.RouteReferents.{RouteReferents}
 use Rattle.rs_versioned.specs.Meant.{AreReferentsMeant}
 use Rattle.rs_versioned.specs.Records.{HoldsRecords}
-use Rattle.rs_versioned.specs.Referents.{ReferentRecord, kept_referents, referents_at}
+use Rattle.rs_versioned.specs.Referents.{ReferentRecord, is_referent_of, kept_referents, referents_at}
 use Rattle.rs_versioned.specs.Tables.{ReferentTableState}
 use Rattle.rs_versioned.specs.declared.route_span.RouteSpan.{RouteSpan}
 
@@ -50,3 +51,15 @@ module _ {P : Type 0} (pages : Ghosts P) (table : ReferentTableState) (routes : 
   abbrev pub FindsDamaged : Result RouteReferents Refusal → P → Type 0
   FindsDamaged result old = pages.is_tied old → result ≡ Err refusal.DamagedFile → AllByRecursion IsSpan routes
       → OfThose (pages.store old).map table (λ referents. AreReferentsMeant routes version referents → ⊥)
+
+module _ {P : Type 0} (pages : Ghosts P) (table : ReferentTableState) (route version : ℕ) where
+  -- on an honest disk the route has those that the version sees on it, where no two of them have one name
+  abbrev pub BringsRoute : RouteReferents → RouteReferents → Result (Unit {0}) Refusal → P → Type 0
+  BringsRoute was is result old = pages.is_tied old → OnOk result (OfThose (pages.store old).map table (λ referents.
+      let seen = referents_at version route referents in
+      AreDistinct (map (λ one. one.0) seen) → HasMore route seen (referents_on was) (referents_on is)))
+
+  -- on an honest disk it is found damaged only where no referents lie there or one that it sees is none, if another number may come
+  abbrev pub FindsRouteDamaged : Result (Unit {0}) Refusal → P → Type 0
+  FindsRouteDamaged result old = pages.is_tied old → result ≡ Err refusal.DamagedFile → suc route < 2 ^ 32
+      → OfThose (pages.store old).map table (λ referents. AllByRecursion IsReferent (filter (is_referent_of version route) referents) → ⊥)

@@ -2,18 +2,18 @@
 //!
 //! Each route has just those, where the file's referents are meant beside its routes. A cell that says no referent is refused.
 
-ghost use Rattle.std.specs.Prelude.{◌≡◌, ◌≢◌, ◌<◌, ◌≤◌, ◌⊎◌, ◌^◌, ℕ, suc, List, Err, IfErr, IfNone, IfSome, OnOk, filter, length, map};
+ghost use Rattle.std.specs.Prelude.{◌≡◌, ◌≢◌, ◌<◌, ◌≤◌, ◌⊎◌, List, Err, IfErr, IfNone, IfSome, OnOk, length, map};
 ghost use Rattle.std.specs.List.{AllByRecursion, AllZip};
 ghost use Rattle.rs_catalog.specs.Referents.{referents_on};
 ghost use Rattle.rs_contents.specs.Calls.{RefusesToLoad};
-ghost use Rattle.rs_definitions.specs.Referents.{Brings, FindsDamaged, HasMore, IsReferent, OfThose};
+ghost use Rattle.rs_definitions.specs.Referents.{Brings, BringsRoute, FindsDamaged, FindsRouteDamaged, HasMore, IsReferent};
 ghost use Rattle.rs_grammar.specs.declared.kind.TheConstants.{NAME_BYTES};
 ghost use Rattle.rs_machine.specs.Lawful.{AreDistinct};
 ghost use Rattle.rs_methods.specs.Position.{start_name};
 ghost use Rattle.rs_pages.specs.Calls.{OnlyReads};
 ghost use Rattle.rs_records.specs.Listed.{listed, record_width};
 ghost use Rattle.rs_syntax.specs.Sound.{IsName, IsMeasure};
-ghost use Rattle.rs_versioned.specs.Referents.{ReferentRecord, SaysReferent, is_referent_of, referent_width, referents_at};
+ghost use Rattle.rs_versioned.specs.Referents.{ReferentRecord, SaysReferent, referent_width};
 
 use rs_catalog::RouteReferents;
 use rs_measure::{GREATEST_MEASURE, Measure};
@@ -59,12 +59,9 @@ pub(crate) fn bring_route<P: Pages>(
     made: &mut RouteReferents,
 ) -> Result<(), Refusal>
     ensures rests { OnlyReads P.Pages result pages.old pages.new }
-    ensures brings { P.is_tied pages.old → OnOk result (OfThose (P.store pages.old).map table.now (λ referents.
-        let seen = referents_at version number referents in
-        AreDistinct (map (λ one. one.0) seen) → HasMore number seen (referents_on made.old) (referents_on made.new))) }
+    ensures brings { BringsRoute P.Pages table.now number version made.old made.new result pages.old }
     ensures refused { RefusesToLoad result }
-    ensures damaged { P.is_tied pages.old → result ≡ Err Refusal.DamagedFile → suc number < 2 ^ 32
-        → OfThose (P.store pages.old).map table.now (λ referents. AllByRecursion IsReferent (filter (is_referent_of version number) referents) → ⊥) }
+    ensures damaged { FindsRouteDamaged P.Pages table.now number version result pages.old }
 {
     if number == u32::MAX {
         return Err(Refusal::DamagedFile);

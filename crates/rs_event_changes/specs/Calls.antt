@@ -1,11 +1,13 @@
 -- What a change of a table at a version needs, and what it leaves of the pages and of what is open.
-use Rattle.std.specs.Prelude.{◌≡◌, ◌<◌, ℕ, ◌≤◌, List, Result, length, true}
+use Rattle.std.specs.Prelude.{◌≡◌, ◌<◌, ℕ, ◌≤◌, IfOk, List, Option, Result, length, true}
 use Rattle.rs_attr.specs.Calls.{KeepsTable}
 use Rattle.rs_attr.specs.Tables.{AreOn, HoldsTable, IndexState, all_of}
 use Rattle.rs_cell_versions.specs.Version.{HaveDiedBy}
 use Rattle.rs_cell_versions.specs.Versioned.{Standing}
 use Rattle.rs_cell_versions.specs.declared.cell.TheConstants.{LIVING}
 use Rattle.rs_contents.specs.declared.opened.OpenedTable.{OpenedTable}
+use Rattle.rs_facts.specs.Runs.{Stretch}
+use Rattle.rs_facts.specs.declared.condition.Condition.{Condition}
 use Rattle.rs_page_owners.specs.Calls as owners
 use Rattle.rs_page_owners.specs.Counts.{◌&◌}
 use Rattle.rs_page_owners.specs.Owners.{Shares}
@@ -13,7 +15,10 @@ use Rattle.rs_pages.specs.PageMap.{PageMap}
 use Rattle.rs_pages.specs.declared.pages.Pages.{Ghosts}
 use Rattle.rs_refusal.specs.declared.refusal.Refusal.{Refusal}
 use Rattle.rs_value.specs.declared.column.ColumnType.{ColumnType}
+use Rattle.rs_value.specs.declared.column.Kind.{Kind}
 use Rattle.rs_versioned.specs.Events.{Event}
+use Rattle.rs_event_changes.specs.Changes.{Inserted, Removed}
+use Rattle.rs_event_changes.specs.declared.moment.Moment.{Moment}
 
 -- no table with its indexes, dated up to the version at the latest, lies there so, with pages that are shared with other owners and a
 -- free list
@@ -40,3 +45,13 @@ pub record KeepsAt (version : ℕ) (was is : OpenedTable) : Type 0 where
   pub table : KeepsTable was.records is.records was.indexes.items is.indexes.items
   pub order : HaveDiedBy version is.records.working.dead
   pub more : length was.records.working.dead ≤ length is.records.working.dead
+
+-- what a change does and answers on the pages of an honest disk
+module _ {P : Type 0} (pages : Ghosts P) (was is : OpenedTable) (moment : Moment) where
+  abbrev pub InsertsSpan : Kind → ℕ → Stretch → Result ℕ Refusal → P → P → Type 0
+  InsertsSpan kind route span result old new = pages.is_tied old
+      → IfOk result (λ count. Inserted (pages.store old).map (pages.store new).map was is moment kind route span count)
+
+  abbrev pub RemovesRows : ℕ → ℕ → ℕ → Option Condition → Result ℕ Refusal → P → P → Type 0
+  RemovesRows route lo hi goes result old new = pages.is_tied old
+      → IfOk result (λ count. Removed (pages.store old).map (pages.store new).map was is moment route lo hi goes count)

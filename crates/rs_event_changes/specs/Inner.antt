@@ -1,5 +1,5 @@
 -- What the functions of this crate that change pages hand to one another. No clause of another crate speaks of it.
-use Rattle.std.specs.Prelude.{◌≡◌, ◌≤◌, ◌⊎◌, ℕ, IsPermutation, List, ◌++◌, Result}
+use Rattle.std.specs.Prelude.{◌≡◌, ◌≤◌, ◌⊎◌, ℕ, IsPermutation, List, ◌++◌, OnOk, Result}
 use Rattle.std.specs.List.{AllByRecursion, AllZip}
 use Rattle.rs_attr.specs.Tables.{ChangesTable, HoldsTable, IndexState, all_of}
 use Rattle.rs_cell_versions.specs.Versioned.{Standing}
@@ -15,7 +15,8 @@ use Rattle.rs_refusal.specs.declared.refusal.Refusal.{Refusal}
 use Rattle.rs_value.specs.declared.column.ColumnType.{ColumnType}
 use Rattle.rs_versioned.specs.Events.{Event, SaysEvent, kept_events}
 use Rattle.rs_versioned.specs.Records.{HasEnded}
-use Rattle.rs_event_changes.specs.Chains.{EndAll, GivesWayAt}
+use Rattle.rs_event_changes.specs.Chains.{ComeAll, EndAll, GivesWayAt}
+use Rattle.rs_event_changes.specs.declared.moment.Moment.{Moment}
 
 -- Events end at the version, or at 0, which takes them out: that may be where no version before it is to see them.
 abbrev pub EndsSo : ℕ → ℕ → ℕ → Type 0
@@ -56,3 +57,20 @@ module _ (old new : PageMap) (was is : OpenedTable) (version : ℕ) where
   abbrev pub Made : ℕ → ℕ → List (List ℕ) → List Stretch → Type 0
   Made at route cells come = (gone : List Event) → AllZip (SaysEvent was.records.types) cells gone
       → ChangesNow (GivesWayAt was.records.types at version route gone come)
+
+-- so it is on the pages of an honest disk
+module _ {P : Type 0} (pages : Ghosts P) (was is : OpenedTable) where
+  abbrev pub EndsOne : ℕ → ℕ → List ℕ → Result (Unit {0}) Refusal → P → P → Type 0
+  EndsOne version at cell result old new = pages.is_tied old → OnOk result (EndedOne (pages.store old).map (pages.store new).map was is version at cell)
+
+  abbrev pub EndsEach : ℕ → ℕ → List (List ℕ) → Result (Unit {0}) Refusal → P → P → Type 0
+  EndsEach version at cells result old new = pages.is_tied old → OnOk result (Ended (pages.store old).map (pages.store new).map was is version at cells)
+
+  abbrev pub AddsEach : ℕ → ℕ → List Stretch → Result (Unit {0}) Refusal → P → P → Type 0
+  AddsEach version route come result old new = pages.is_tied old
+      → OnOk result (ChangesNow (pages.store old).map (pages.store new).map was is version (ComeAll route version come))
+
+  -- the version at which the events end is one of those that the moment allows
+  abbrev pub Makes : Moment → ℕ → List (List ℕ) → List Stretch → Result (Unit {0}) Refusal → P → P → Type 0
+  Makes moment route cells come result old new = pages.is_tied old → OnOk result ((at : ℕ) × EndsSo at moment.version moment.oldest
+      × Made (pages.store old).map (pages.store new).map was is moment.version at route cells come)

@@ -1,12 +1,11 @@
 //! The steps of a change: events end, and others come.
 
-ghost use Rattle.std.specs.Prelude.{◌≡◌, ◌⊎◌, ◌∷◌, [], ℕ, OnOk, length, map, true};
+ghost use Rattle.std.specs.Prelude.{◌≡◌, ◌⊎◌, ◌∷◌, [], length, map, true};
 ghost use Rattle.std.specs.List.{AllByRecursion};
 ghost use Rattle.rs_attr.specs.Calls.{KeepsTable};
 ghost use Rattle.rs_attr.specs.Tables.{AreOn};
 ghost use Rattle.rs_event_changes.specs.Calls.{KeepsAt, Leaves, MayEdit};
-ghost use Rattle.rs_event_changes.specs.Chains.{ComeAll};
-ghost use Rattle.rs_event_changes.specs.Inner.{ChangesNow, Ended, EndedOne, EndsSo, LeavesWith, Made};
+ghost use Rattle.rs_event_changes.specs.Inner.{AddsEach, EndsEach, EndsOne, LeavesWith, Makes};
 ghost use Rattle.rs_facts.specs.Spans.{seen};
 ghost use Rattle.rs_records.specs.Listed.{listed, record_width};
 ghost use Rattle.rs_value.specs.Values.{IsRowOf};
@@ -37,9 +36,7 @@ pub(crate) fn make<P: Pages>(
     requires width { record_width edit.now.gone ≡ event_width table.old.records.types }
     requires rows { AllByRecursion (λ span. IsRowOf table.old.records.types span.row) (map seen edit.now.come.items) }
     ensures leaves { LeavesWith P.Pages table.old moment.version (listed edit.now.gone) result pages.old pages.new }
-    ensures made { P.is_tied pages.old → OnOk result ((at : ℕ) × EndsSo at moment.version moment.oldest
-        × Made (P.store pages.old).map (P.store pages.new).map table.old table.new moment.version at route (listed edit.now.gone)
-        (map seen edit.now.come.items)) }
+    ensures made { Makes P.Pages table.old table.new moment route (listed edit.now.gone) (map seen edit.now.come.items) result pages.old pages.new }
     ensures keeps { KeepsAt moment.version table.old table.new }
 {
     let at = moment.end();
@@ -61,8 +58,7 @@ fn end_each<P: Pages>(
     requires ends { (at ≡ version) ⊎ (at ≡ 0) }
     requires width { record_width cells.now ≡ event_width table.old.records.types }
     ensures leaves { LeavesWith P.Pages table.old version (listed cells.now) result pages.old pages.new }
-    ensures ended { P.is_tied pages.old → OnOk result (Ended (P.store pages.old).map (P.store pages.new).map table.old table.new version
-        at (listed cells.now)) }
+    ensures ended { EndsEach P.Pages table.old table.new version at (listed cells.now) result pages.old pages.new }
     ensures keeps { KeepsAt version table.old table.new }
 {
     for place in 0..cells.len() {
@@ -84,8 +80,7 @@ fn end_one<P: Pages>(
     requires ends { (at ≡ version) ⊎ (at ≡ 0) }
     requires width { length cell.now ≡ event_width table.old.records.types }
     ensures leaves { LeavesWith P.Pages table.old version (cell.now ∷ []) result pages.old pages.new }
-    ensures ended { P.is_tied pages.old → OnOk result (EndedOne (P.store pages.old).map (P.store pages.new).map table.old table.new version
-        at cell.now) }
+    ensures ended { EndsOne P.Pages table.old table.new version at cell.now result pages.old pages.new }
     ensures keeps { KeepsAt version table.old table.new }
 {
     if !is_living(cell) {
@@ -119,8 +114,7 @@ fn add_each<P: Pages>(
     requires rows { AllByRecursion (λ span. IsRowOf table.old.records.types span.row) (map seen spans.now) }
     requires indexes { AreOn table.old.records.types table.old.indexes.items }
     ensures leaves { Leaves P.Pages table.old version result pages.old pages.new }
-    ensures came { P.is_tied pages.old → OnOk result (ChangesNow (P.store pages.old).map (P.store pages.new).map table.old table.new version
-        (ComeAll route version (map seen spans.now))) }
+    ensures came { AddsEach P.Pages table.old table.new version route (map seen spans.now) result pages.old pages.new }
     ensures table { KeepsTable table.old.records table.new.records table.old.indexes.items table.new.indexes.items }
     ensures dead { table.new.records.working.dead ≡ table.old.records.working.dead }
 {

@@ -3,9 +3,8 @@
 //! It reads the events that overlap or touch the span and no others. Those of the row end and one event takes their place, as wide as
 //! they and the span together.
 
-ghost use Rattle.std.specs.Prelude.{◌≡◌, ◌+◌, ◌-◌, ◌^◌, IfOk, min};
-ghost use Rattle.rs_event_changes.specs.Calls.{KeepsAt, Leaves, MayEdit};
-ghost use Rattle.rs_event_changes.specs.Changes.{Inserted};
+ghost use Rattle.std.specs.Prelude.{◌≡◌, ◌+◌, ◌-◌, ◌^◌, min};
+ghost use Rattle.rs_event_changes.specs.Calls.{InsertsSpan, KeepsAt, Leaves, MayEdit};
 ghost use Rattle.rs_facts.specs.Spans.{IsPlaced, gap_of, seen};
 ghost use Rattle.rs_value.specs.Values.{IsRowOf};
 ghost use Rattle.rs_value.specs.View.{row_of};
@@ -40,8 +39,7 @@ pub fn insert<P: Pages>(
     requires row { IsRowOf table.old.records.types (row_of span.now.tuple.items) }
     requires placed { IsPlaced kind (seen span.now) }
     ensures leaves { Leaves P.Pages table.old moment.version result pages.old pages.new }
-    ensures inserts { P.is_tied pages.old → IfOk result (λ count. Inserted (P.store pages.old).map (P.store pages.new).map table.old table.new
-        moment kind route (seen span.now) count) }
+    ensures inserts { InsertsSpan P.Pages table.old table.new moment kind route (seen span.now) result pages.old pages.new }
     ensures keeps { KeepsAt moment.version table.old table.new }
 {
     what_gave_way_is_still_seen();

@@ -2,10 +2,8 @@
 //!
 //! It reads the events that lie between them and no others. Those whose rows go end, and what of them sticks out comes.
 
-ghost use Rattle.std.specs.Prelude.{IfOk};
 ghost use Rattle.std.specs.Option.{option_copied};
-ghost use Rattle.rs_event_changes.specs.Calls.{KeepsAt, Leaves, MayEdit};
-ghost use Rattle.rs_event_changes.specs.Changes.{Removed};
+ghost use Rattle.rs_event_changes.specs.Calls.{KeepsAt, Leaves, MayEdit, RemovesRows};
 
 use crate::changing::make;
 use crate::laws::what_gave_way_is_still_seen;
@@ -44,8 +42,7 @@ pub fn remove<P: Pages>(
 ) -> Result<u128, Refusal>
     requires may { MayEdit P.Pages table.old moment.version pages.old }
     ensures leaves { Leaves P.Pages table.old moment.version result pages.old pages.new }
-    ensures removes { P.is_tied pages.old → IfOk result (λ count. Removed (P.store pages.old).map (P.store pages.new).map table.old table.new
-        moment stretch.route stretch.lo stretch.hi (option_copied goes.entry) count) }
+    ensures removes { RemovesRows P.Pages table.old table.new moment stretch.route stretch.lo stretch.hi (option_copied goes.entry) result pages.old pages.new }
     ensures keeps { KeepsAt moment.version table.old table.new }
 {
     what_gave_way_is_still_seen();

@@ -1,13 +1,19 @@
 -- What an index finds of a table's events.
-use Rattle.std.specs.Prelude.{◌≡◌, ◌≤◌, ◌+◌, ◌*◌, ◌==◌, ◌&&◌, ◌++◌, ℕ, Bool, true, List, Some, count_by, filter, nat_lt, slice_get}
+use Rattle.std.specs.Prelude.{◌≡◌, ◌≤◌, ◌+◌, ◌*◌, ◌==◌, ◌&&◌, ◌++◌, ℕ, Bool, true, Err, IfOk, List, Result, Some, Vec, count_by, filter, map, nat_lt, slice_get}
+use Rattle.std.specs.declared.alloc.Global.{Global}
 use Rattle.rs_attr.specs.Entries.{FitsPages, HoldsIndex, IsColumn, index_form}
 use Rattle.rs_attr.specs.Finding.{has_value}
 use Rattle.rs_attr.specs.Tables.{IndexState}
 use Rattle.rs_cell_versions.specs.Versioned.{Standing}
 use Rattle.rs_contents.specs.declared.opened.OpenedTable.{OpenedTable}
 use Rattle.rs_facts.specs.Runs.{Stretch}
+use Rattle.rs_facts.specs.Spans.{seen}
+use Rattle.rs_facts.specs.declared.fact.Span.{Span}
 use Rattle.rs_interval.specs.Finding.{route_from}
 use Rattle.rs_pages.specs.PageMap.{PageMap}
+use Rattle.rs_pages.specs.declared.pages.Pages.{Ghosts}
+use Rattle.rs_refusal.specs.declared.refusal.Refusal.{Refusal}
+use Rattle.rs_refusal.specs.declared.refusal.Refusal.TheVariants as refusal
 use Rattle.rs_tree.specs.Leading.{pages_leading}
 use Rattle.rs_value.specs.Encoding.{SaysDatum}
 use Rattle.rs_value.specs.Row.{Datum}
@@ -61,3 +67,14 @@ pub record FindsSpans (types : List ColumnType) (column : ℕ) (pages : PageMap)
 pub record HoldsNoEntries (types : List ColumnType) (pages : PageMap) (standing : Standing) (index : IndexState) : Type 0 where
   pub none : (events : List Event) (used uses : ℕ → ℕ) (accepted : ℕ) → (records : HoldsRecords (kept_events types) pages standing accepted events used)
       → HoldsIndex index.field pages index.working records.cells uses → ⊥
+
+-- on the pages of an honest disk the spans are those that the index at the place finds, and it is told how many pages were read
+module _ {P : Type 0} (pages : Ghosts P) (table : OpenedTable) (at : ColumnIndex) where
+  abbrev pub GivesSpansWith : Datum → RouteWindow → Result (Vec Span Global × ℕ) Refusal → P → Type 0
+  GivesSpansWith value window result old = pages.is_tied old → (index : IndexState) → slice_get table.indexes.items at.position ≡ Some index
+      → IfOk result (λ found. FindsSpans table.records.types at.column (pages.store old).map table.records.working index value window (map seen found.0.items) found.1)
+
+  -- 94 only where no events of the table lie there with their entries in the index
+  abbrev pub FindsNoEntries : Result (Vec Span Global × ℕ) Refusal → P → Type 0
+  FindsNoEntries result old = pages.is_tied old → result ≡ Err refusal.DamagedFile → (index : IndexState)
+      → slice_get table.indexes.items at.position ≡ Some index → HoldsNoEntries table.records.types (pages.store old).map table.records.working index

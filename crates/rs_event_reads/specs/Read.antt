@@ -1,7 +1,14 @@
 -- What is read of a table's events.
-use Rattle.std.specs.Prelude.{◌≡◌, ◌≤◌, ◌+◌, ◌*◌, ◌==◌, ◌&&◌, ℕ, Bool, List, count_by, filter, map, nat_eq, nat_lt}
+use Rattle.std.specs.Prelude.{◌≡◌, ◌≤◌, ◌+◌, ◌*◌, ◌==◌, ◌&&◌, ℕ, Bool, Err, IfOk, List, Result, Vec, count_by, filter, map, nat_eq, nat_lt}
+use Rattle.std.specs.declared.alloc.Global.{Global}
+use Rattle.rs_contents.specs.declared.opened.OpenedTable.{OpenedTable}
 use Rattle.rs_facts.specs.Runs.{Stretch}
+use Rattle.rs_facts.specs.Spans.{seen}
+use Rattle.rs_facts.specs.declared.fact.Span.{Span}
 use Rattle.rs_pages.specs.PageMap.{PageMap}
+use Rattle.rs_pages.specs.declared.pages.Pages.{Ghosts}
+use Rattle.rs_refusal.specs.declared.refusal.Refusal.{Refusal}
+use Rattle.rs_refusal.specs.declared.refusal.Refusal.TheVariants as refusal
 use Rattle.rs_interval.specs.Finding.{ends_after, event_form, route_from}
 use Rattle.rs_tree.specs.Leading.{pages_leading}
 use Rattle.rs_value.specs.declared.column.ColumnType.{ColumnType}
@@ -49,3 +56,14 @@ pub record ReadsSpans (types : List ColumnType) (pages : PageMap) (standing : St
 -- no events lie there
 pub record HoldsNoEvents (types : List ColumnType) (pages : PageMap) (standing : Standing) : Type 0 where
   pub none : (events : List Event) (used : ℕ → ℕ) (accepted : ℕ) → HoldsRecords (kept_events types) pages standing accepted events used → ⊥
+
+module _ {P : Type 0} (pages : Ghosts P) (table : OpenedTable) where
+  -- on the pages of an honest disk the spans are those in the window, and it is told how many pages were read
+  abbrev pub GivesSpans : RouteWindow → Result (Vec Span Global × ℕ) Refusal → P → Type 0
+  GivesSpans window result old = pages.is_tied old
+      → IfOk result (λ found. ReadsSpans table.records.types (pages.store old).map table.records.working window (map seen found.0.items) found.1)
+
+  -- 94 only where no events of the table lie there
+  abbrev pub FindsNoEvents : Result (Vec Span Global × ℕ) Refusal → P → Type 0
+  FindsNoEvents result old = pages.is_tied old → result ≡ Err refusal.DamagedFile
+      → HoldsNoEvents table.records.types (pages.store old).map table.records.working

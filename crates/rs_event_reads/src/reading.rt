@@ -1,8 +1,8 @@
 //! The spans of a table that overlap a stretch of a route.
 
-ghost use Rattle.std.specs.Prelude.{◌≡◌, ◌⊎◌, Err, IfErr, IfOk, map};
+ghost use Rattle.std.specs.Prelude.{◌≡◌, ◌⊎◌, IfErr, IfOk, map};
 ghost use Rattle.std.specs.List.{AllByRecursion};
-ghost use Rattle.rs_event_reads.specs.Read.{HoldsNoEvents, ReadsSpans};
+ghost use Rattle.rs_event_reads.specs.Read.{FindsNoEvents, GivesSpans};
 ghost use Rattle.rs_facts.specs.Spans.{ArePlaced, seen};
 ghost use Rattle.rs_pages.specs.Calls.{OnlyReads};
 ghost use Rattle.rs_value.specs.Values.{IsRowOf};
@@ -27,13 +27,11 @@ pub fn spans<P: Pages>(
     window: RouteWindow,
 ) -> Result<(Vec<Span>, u32), Refusal>
     ensures rests { OnlyReads P.Pages result pages.old pages.new }
-    ensures gives { P.is_tied pages.old → IfOk result (λ found. ReadsSpans table.now.records.types (P.store pages.old).map table.now.records.working
-        window (map seen found.0.items) found.1) }
+    ensures gives { GivesSpans P.Pages table.now window result pages.old }
     ensures placed { IfOk result (λ found. ArePlaced window.kind (map seen found.0.items)) }
     ensures rows { IfOk result (λ found. AllByRecursion (λ span. IsRowOf table.now.records.types span.row) (map seen found.0.items)) }
     ensures refused { IfErr result (λ why. (why ≡ Refusal.OutOfMemory) ⊎ (why ≡ Refusal.Disk) ⊎ (why ≡ Refusal.DamagedFile)) }
-    ensures damaged { P.is_tied pages.old → result ≡ Err Refusal.DamagedFile
-        → HoldsNoEvents table.now.records.types (P.store pages.old).map table.now.records.working }
+    ensures damaged { FindsNoEvents P.Pages table.now result pages.old }
 {
     let layout = Layout::new(table.records.width(), GreatestEnd::WIDTH);
     let (found, reads) = overlapping(

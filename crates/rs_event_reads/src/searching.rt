@@ -3,10 +3,9 @@
 //! An entry is the bytes of a value and then a cell, which begins with the route and the first thousandth. So the entries of a value on a
 //! route lie one after another, in the order of their first thousandths.
 
-ghost use Rattle.std.specs.Prelude.{◌≡◌, ◌⊎◌, Err, IfErr, IfOk, Some, map, slice_get};
+ghost use Rattle.std.specs.Prelude.{◌≡◌, ◌⊎◌, IfErr, IfOk, map};
 ghost use Rattle.std.specs.List.{AllByRecursion};
-ghost use Rattle.rs_attr.specs.Tables.{IndexState};
-ghost use Rattle.rs_event_reads.specs.Found.{FindsSpans, HoldsNoEntries, IsIndexed};
+ghost use Rattle.rs_event_reads.specs.Found.{FindsNoEntries, GivesSpansWith, IsIndexed};
 ghost use Rattle.rs_facts.specs.Spans.{ArePlaced, seen};
 ghost use Rattle.rs_pages.specs.Calls.{OnlyReads};
 ghost use Rattle.rs_value.specs.Values.{IsRowOf};
@@ -38,15 +37,11 @@ pub fn spans_with<P: Pages>(
 ) -> Result<(Vec<Span>, u32), Refusal>
     requires indexed { IsIndexed table.now at }
     ensures rests { OnlyReads P.Pages result pages.old pages.new }
-    ensures gives { P.is_tied pages.old → (index : IndexState) → slice_get table.now.indexes.items at.position ≡ Some index
-        → IfOk result (λ found. FindsSpans table.now.records.types at.column (P.store pages.old).map table.now.records.working index
-        (literal_datum value.now) window (map seen found.0.items) found.1) }
+    ensures gives { GivesSpansWith P.Pages table.now at (literal_datum value.now) window result pages.old }
     ensures placed { IfOk result (λ found. ArePlaced window.kind (map seen found.0.items)) }
     ensures rows { IfOk result (λ found. AllByRecursion (λ span. IsRowOf table.now.records.types span.row) (map seen found.0.items)) }
     ensures refused { IfErr result (λ why. (why ≡ Refusal.OutOfMemory) ⊎ (why ≡ Refusal.Disk) ⊎ (why ≡ Refusal.DamagedFile)) }
-    ensures damaged { P.is_tied pages.old → result ≡ Err Refusal.DamagedFile → (index : IndexState)
-        → slice_get table.now.indexes.items at.position ≡ Some index
-        → HoldsNoEntries table.now.records.types (P.store pages.old).map table.now.records.working index }
+    ensures damaged { FindsNoEntries P.Pages table.now at result pages.old }
 {
     let column = table.records.schema().as_slice()[at.column];
     let Some(value) = value_of(column, value) else {

@@ -1,5 +1,5 @@
 -- What a change of a file needs, and what it leaves of the pages and of what is open.
-use Rattle.std.specs.Prelude.{◌≡◌, ◌≤◌, ◌<◌, ◌+◌, ℕ, OnErr, OnOk, Result, Some, length, slice_get, true}
+use Rattle.std.specs.Prelude.{◌≡◌, ◌≤◌, ◌<◌, ◌+◌, ℕ, IfOk, OnErr, OnOk, Result, Some, length, slice_get, true}
 use Rattle.std.specs.List.{AllByRecursion}
 use Rattle.rs_catalog_pages.specs.Fitting.{FitsCatalogue, IsShort}
 use Rattle.rs_catalog_pages.specs.Items.{CatalogueItems}
@@ -69,6 +69,11 @@ pub record IsRowAt (file : OpenedFile) (place : ℕ) (kind : Kind) (span : Span)
 -- on an honest disk, whatever contents the file held with what was open have changed so
 abbrev pub Changes : {P T : Type 0} → Ghosts P → ℕ → OpenedFile → OpenedFile → (Contents → Contents → Type 0) → Result T Refusal → P → P → Type 0
 Changes pages oldest was is change result old new = pages.is_tied old → OnOk result (ChangesFile oldest (pages.store old).map (pages.store new).map was is change)
+
+-- the same, by the count that is answered
+abbrev pub ChangesBy : {P : Type 0} → Ghosts P → ℕ → OpenedFile → OpenedFile → (ℕ → Contents → Contents → Type 0) → Result ℕ Refusal → P → P → Type 0
+ChangesBy pages oldest was is change result old new = pages.is_tied old
+    → IfOk result (λ count. ChangesFile oldest (pages.store old).map (pages.store new).map was is (change count))
 
 -- Made, what is open is at the next version with these definitions; refused, only how its parts stand has changed.
 pub record ComesNext {T : Type 0} (definitions : StoredCatalogue) (result : Result T Refusal) (was is : OpenedFile) : Type 0 where

@@ -1,5 +1,5 @@
 -- What completes a change once its part has changed.
-use Rattle.std.specs.Prelude.{◌≡◌, ◌≤◌, ◌+◌, ◌-◌, ◌^◌, ℕ, min}
+use Rattle.std.specs.Prelude.{◌≡◌, ◌≤◌, ◌+◌, ◌-◌, ◌^◌, ℕ, OnOk, Result, min}
 use Rattle.std.specs.List.{AllByRecursion}
 use Rattle.rs_catalog_pages.specs.Directory.{DirectoryItems, HasDirectory}
 use Rattle.rs_contents.specs.Contents.{AreNumbered, Contents, HoldsAll, HoldsParts}
@@ -7,6 +7,8 @@ use Rattle.rs_contents.specs.declared.opened.OpenedFile.{OpenedFile}
 use Rattle.rs_file_changes.specs.Clearing.{ClearsAsMany}
 use Rattle.rs_file_changes.specs.Parts as parts
 use Rattle.rs_pages.specs.PageMap.{PageMap}
+use Rattle.rs_pages.specs.declared.pages.Pages.{Ghosts}
+use Rattle.rs_refusal.specs.declared.refusal.Refusal.{Refusal}
 use Rattle.rs_state_changes.specs.Garbage.{garbage_of}
 use Rattle.rs_state_laws.specs.Standing.{IsOpenedFile}
 
@@ -33,3 +35,8 @@ pub record CompletesFrom (oldest before : ℕ) (old new : PageMap) (was is : Ope
 pub record HoldsNoneToComplete (map : PageMap) (file : OpenedFile) : Type 0 where
   pub none : (between : Contents) (directory : DirectoryItems) → HasDirectory map directory → HoldsParts map (file.accepted + 1) between
       → parts.IsOpenedFile file between → ⊥
+
+-- so it is on the pages of an honest disk
+abbrev pub Completes : {P : Type 0} → Ghosts P → ℕ → ℕ → OpenedFile → OpenedFile → Result (Unit {0}) Refusal → P → P → Type 0
+Completes pages oldest before was is result old new = pages.is_tied old
+    → OnOk result (CompletesFrom oldest before (pages.store old).map (pages.store new).map was is)

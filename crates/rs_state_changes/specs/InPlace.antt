@@ -1,10 +1,12 @@
 -- What a change of one table makes of a file's parts, before it is completed.
-use Rattle.std.specs.Prelude.{◌≡◌, ◌+◌, ◌++◌, ◌∷◌, ℕ, List, length}
+use Rattle.std.specs.Prelude.{◌≡◌, ◌+◌, ◌++◌, ◌∷◌, ℕ, IfOk, List, Result, length}
 use Rattle.rs_contents.specs.Contents.{Contents, TableContents}
 use Rattle.rs_contents.specs.declared.opened.OpenedFile.{OpenedFile}
 use Rattle.rs_event_changes.specs.Changes.{ThenCleared}
 use Rattle.rs_file_changes.specs.Parts.{Makes}
 use Rattle.rs_pages.specs.PageMap.{PageMap}
+use Rattle.rs_pages.specs.declared.pages.Pages.{Ghosts}
+use Rattle.rs_refusal.specs.declared.refusal.Refusal.{Refusal}
 use Rattle.rs_versioned.specs.Events.{Event}
 
 -- the events of the table at this place have changed so, then some are gone that no version from the level on sees, and all else stays
@@ -22,3 +24,8 @@ pub record ChangesThenCleared (place level : ℕ) (change : List Event → List 
 -- of whatever contents lie there up to the version that was accepted last, they have changed so, up to the next one
 abbrev pub MakesAt : PageMap → PageMap → OpenedFile → OpenedFile → ℕ → ℕ → (List Event → List Event → Type 0) → Type 0
 MakesAt old new was is place level change = Makes old new was is was.accepted (was.accepted + 1) (ChangesThenCleared place level change)
+
+-- so it is on the pages of an honest disk, by the count that is answered
+abbrev pub MakesBy : {P : Type 0} → Ghosts P → OpenedFile → OpenedFile → ℕ → ℕ → (ℕ → List Event → List Event → Type 0) → Result ℕ Refusal → P → P → Type 0
+MakesBy pages was is place level change result old new = pages.is_tied old
+    → IfOk result (λ count. MakesAt (pages.store old).map (pages.store new).map was is place level (change count))

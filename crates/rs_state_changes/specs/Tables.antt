@@ -1,10 +1,10 @@
 -- How definitions differ where a table or an index comes or goes, and what is written with them.
-use Rattle.std.specs.Prelude.{◌≡◌, ◌≤◌, ◌<◌, ◌+◌, ◌*◌, ◌==◌, ℕ, not, List, [], ◌∷◌, ◌++◌, Result, Some, filter, length, map, slice_get}
+use Rattle.std.specs.Prelude.{◌≡◌, ◌≤◌, ◌<◌, ◌+◌, ◌*◌, ◌==◌, ℕ, not, List, [], ◌∷◌, ◌++◌, OnOk, Result, Some, filter, length, map, slice_get}
 use Rattle.std.specs.List.{insert, remove}
 use Rattle.std.specs.Vec.{vec_capacity, vec_len}
 use Rattle.rs_attr.specs.Calls.{IsFresh}
 use Rattle.rs_attr.specs.Entries.{FitsPages}
-use Rattle.rs_attr.specs.Tables.{IndexState, kept_parts}
+use Rattle.rs_attr.specs.Tables.{ChangesTable, IndexState, kept_parts}
 use Rattle.rs_catalog_pages.specs.Directory.{DirectoryItems, HasDirectory}
 use Rattle.rs_catalog_pages.specs.Items.{CatalogueItems, IndexItem, TableItem}
 use Rattle.rs_catalog_pages.specs.Storing.{StoresAfter}
@@ -13,13 +13,15 @@ use Rattle.rs_contents.specs.Contents.{Contents, HoldsAll, HoldsParts, TableCont
 use Rattle.rs_contents.specs.Slots.{indexes_on}
 use Rattle.rs_contents.specs.declared.opened.OpenedFile.{OpenedFile}
 use Rattle.rs_contents.specs.declared.opened.OpenedTable.{OpenedTable}
-use Rattle.rs_file_changes.specs.Parts.{IsOpenedFile}
+use Rattle.rs_file_changes.specs.Parts.{IsOpenedFile, Makes}
 use Rattle.rs_pages.specs.PageMap.{PageMap}
 use Rattle.rs_pages.specs.declared.pages.Pages.{Ghosts}
 use Rattle.rs_refusal.specs.declared.refusal.Refusal.{Refusal}
+use Rattle.rs_state_laws.specs.Parts.{ChangesTableAt}
 use Rattle.rs_value.specs.declared.column.ColumnType.{ColumnType}
 use Rattle.rs_value.specs.declared.column.TheConstants.{COLUMNS}
 use Rattle.rs_versioned.specs.Events.{Event, event_width}
+use Rattle.rs_versioned.specs.Records.{HasNone}
 
 -- ---- how definitions differ
 
@@ -135,3 +137,20 @@ pub record IsIndexTaken (position : ℕ) (was is : OpenedTable) (index : IndexSt
 -- the events are the same
 abbrev pub StaySame : List Event → List Event → Type 0
 StaySame old now = now ≡ old
+
+-- ---- so it is on the pages of an honest disk
+
+-- the file holds the contents with these definitions, at the next version
+abbrev pub Writes : {P : Type 0} → Ghosts P → CatalogueItems → OpenedFile → OpenedFile → Result (Unit {0}) Refusal → P → P → Type 0
+Writes pages definitions was is result old new = pages.is_tied old
+    → OnOk result (WritesNext definitions (pages.store old).map (pages.store new).map was is)
+
+-- a table has other indexes, and the same events
+abbrev pub KeepsEvents : {P T : Type 0} → Ghosts P → OpenedTable → OpenedTable → Result T Refusal → P → P → Type 0
+KeepsEvents pages was is result old new = pages.is_tied old → OnOk result ((accepted : ℕ)
+    → ChangesTable was.records.types (pages.store old).map (pages.store new).map was.records.working is.records.working was.indexes.items is.indexes.items accepted accepted StaySame)
+
+-- the table at the place has no events
+abbrev pub Empties : {P : Type 0} → Ghosts P → OpenedFile → OpenedFile → ℕ → Result (Unit {0}) Refusal → P → P → Type 0
+Empties pages was is place result old new = pages.is_tied old
+    → OnOk result ((accepted : ℕ) → Makes (pages.store old).map (pages.store new).map was is accepted accepted (ChangesTableAt place HasNone))

@@ -1,9 +1,9 @@
 //! Records that are cleared while nothing else changes: the version that was accepted last stays.
 
-ghost use Rattle.std.specs.Prelude.{◌≡◌, ◌≢◌, true, Err, IfOk, OnOk};
+ghost use Rattle.std.specs.Prelude.{◌≡◌, ◌≢◌, true, Err, OnOk};
 ghost use Rattle.rs_file_changes.specs.Parts.{KeepsCommitted};
 ghost use Rattle.rs_state_changes.specs.Calls.{LeavesFile, MayChange};
-ghost use Rattle.rs_state_laws.specs.Clearing.{ClearsFile};
+ghost use Rattle.rs_state_changes.specs.Garbage.{Clears};
 
 use crate::completing::LEAST_CLEARED;
 use rs_contents::OpenedFile;
@@ -24,7 +24,7 @@ pub fn clear_only<P: Pages>(
     requires begun { (P.store pages.old).is_begun ≡ true }
     requires may { MayChange file.old }
     ensures leaves { LeavesFile P.Pages file.old result pages.old pages.new }
-    ensures clears { P.is_tied pages.old → IfOk result (λ gone. ClearsFile oldest 64 gone (P.store pages.old).map (P.store pages.new).map file.old file.new) }
+    ensures clears { Clears P.Pages oldest file.old file.new result pages.old pages.new }
     ensures may { OnOk result (MayChange file.new) }
     ensures keeps { KeepsCommitted file.old file.new }
     ensures room { result ≢ Err Refusal.FileFull }

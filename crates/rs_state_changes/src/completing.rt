@@ -5,7 +5,7 @@ ghost use Rattle.rs_file_changes.specs.Parts.{HaveAllDiedBy, IsReady, KeepsCommi
 ghost use Rattle.rs_machine.specs.declared.limits.TheConstants.{CHANGES};
 ghost use Rattle.rs_page_owners.specs.Calls.{Leaves};
 ghost use Rattle.rs_state_changes.specs.Calls.{IsNext};
-ghost use Rattle.rs_state_changes.specs.Completing.{CompletesFrom, HoldsNoneToComplete};
+ghost use Rattle.rs_state_changes.specs.Completing.{Completes, HoldsNoneToComplete};
 
 use crate::counting::garbage;
 use rs_contents::OpenedFile;
@@ -32,7 +32,7 @@ pub(crate) fn complete<P: Pages>(
     requires order { HaveAllDiedBy (file.old.accepted + 1) file.old }
     requires room { file.old.accepted < CHANGES }
     ensures leaves { Leaves P.Pages (HoldsNoneToComplete (P.store pages.old).map file.old) result pages.old pages.new }
-    ensures completes { P.is_tied pages.old → OnOk result (CompletesFrom oldest before (P.store pages.old).map (P.store pages.new).map file.old file.new) }
+    ensures completes { Completes P.Pages oldest before file.old file.new result pages.old pages.new }
     ensures next { OnOk result (IsNext file.old.definitions file.old file.new) }
     ensures keeps { OnErr result (KeepsCommitted file.old file.new) }
     ensures room { result ≢ Err Refusal.FileFull }

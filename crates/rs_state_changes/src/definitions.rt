@@ -1,16 +1,15 @@
 //! Other definitions of the same tables and indexes, and a route that goes with its referents.
 
-ghost use Rattle.std.specs.Prelude.{◌≡◌, ◌≤◌, ◌<◌, ◌+◌, ◌^◌, ℕ, true, OnOk, length};
+ghost use Rattle.std.specs.Prelude.{◌≡◌, ◌<◌, ◌+◌, ◌^◌, true, length};
 ghost use Rattle.rs_catalog_pages.specs.Said.{said_catalogue};
 ghost use Rattle.rs_cell_versions.specs.Version.{HaveDiedBy};
 ghost use Rattle.rs_cell_versions.specs.declared.cell.TheConstants.{LIVING};
 ghost use Rattle.rs_file_changes.specs.Calls.{ChangesDefinitions};
 ghost use Rattle.rs_page_owners.specs.Calls.{Leaves};
 ghost use Rattle.rs_state_changes.specs.Calls.{Changes, ComesNext, HasTablesOf, LeavesFile, MayDefine};
-ghost use Rattle.rs_state_changes.specs.Ending.{HoldsNoReferents, SaysNoLiving};
-ghost use Rattle.rs_state_laws.specs.Parts.{DropsRoute, EndsAllOn};
-ghost use Rattle.rs_versioned.specs.Records.{ChangesRecords, HasEnded};
-ghost use Rattle.rs_versioned.specs.Referents.{ReferentRecord, SaysReferent, kept_referents, referent_width};
+ghost use Rattle.rs_state_changes.specs.Ending.{EndsCell, EndsRoute, HoldsNoReferents, SaysNoLiving};
+ghost use Rattle.rs_state_laws.specs.Parts.{DropsRoute};
+ghost use Rattle.rs_versioned.specs.Referents.{referent_width};
 
 use crate::completing::complete;
 use crate::counting::garbage;
@@ -93,8 +92,7 @@ fn end_referents_on<P: Pages>(
     requires version { version < LIVING }
     requires order { HaveDiedBy version referents.old.working.dead }
     ensures leaves { Leaves P.Pages (HoldsNoReferents (P.store pages.old).map referents.old.working version) result pages.old pages.new }
-    ensures ends { P.is_tied pages.old → OnOk result ((accepted : ℕ) → accepted ≤ version → ChangesRecords kept_referents (P.store pages.old).map (P.store pages.new).map
-        referents.old.working referents.new.working accepted version (EndsAllOn version route)) }
+    ensures ends { EndsRoute P.Pages referents.old.working referents.new.working version route result pages.old pages.new }
     ensures committed { referents.new.committed ≡ referents.old.committed }
     ensures order { HaveDiedBy version referents.new.working.dead }
 {
@@ -118,9 +116,7 @@ fn end_living<P: Pages>(
     requires version { version < LIVING }
     requires order { HaveDiedBy version referents.old.working.dead }
     ensures leaves { Leaves P.Pages (SaysNoLiving (P.store pages.old).map referents.old.working cell.now) result pages.old pages.new }
-    ensures ends { P.is_tied pages.old → OnOk result ((accepted : ℕ) (one : ReferentRecord) → accepted ≤ version → SaysReferent cell.now one
-        → ChangesRecords kept_referents (P.store pages.old).map (P.store pages.new).map referents.old.working referents.new.working accepted version
-        (HasEnded kept_referents version one)) }
+    ensures ends { EndsCell P.Pages referents.old.working referents.new.working version cell.now result pages.old pages.new }
     ensures committed { referents.new.committed ≡ referents.old.committed }
     ensures order { HaveDiedBy version referents.new.working.dead }
 {

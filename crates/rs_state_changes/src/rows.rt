@@ -1,13 +1,12 @@
 //! A row put along a span of a route, and rows taken away between two thousandths of it.
 
-ghost use Rattle.std.specs.Prelude.{◌<◌, ◌≤◌, ◌+◌, length, min, IfOk};
+ghost use Rattle.std.specs.Prelude.{◌<◌, ◌≤◌, ◌+◌, length, min};
 ghost use Rattle.rs_event_changes.specs.Changes.{Inserts, Removes};
 ghost use Rattle.rs_facts.specs.Spans.{seen};
 ghost use Rattle.rs_file_changes.specs.Parts.{HaveAllDiedBy, KeepsCommitted};
-ghost use Rattle.rs_state_changes.specs.Calls.{ComesNext, IsRowAt, LeavesFile, MayAccept};
+ghost use Rattle.rs_state_changes.specs.Calls.{ChangesBy, ComesNext, IsRowAt, LeavesFile, MayAccept};
 ghost use Rattle.rs_state_changes.specs.Garbage.{garbage_of};
-ghost use Rattle.rs_state_changes.specs.InPlace.{MakesAt};
-ghost use Rattle.rs_state_laws.specs.Changing.{ChangesFile};
+ghost use Rattle.rs_state_changes.specs.InPlace.{MakesBy};
 ghost use Rattle.rs_state_laws.specs.Parts.{InsertsRow, RemovesRows};
 
 use crate::completing::complete;
@@ -61,8 +60,8 @@ pub fn insert<P: Pages>(
     requires may { MayAccept P.Pages file.old pages.old }
     requires row { IsRowAt file.old insertion.now.table insertion.now.kind insertion.now.span }
     ensures leaves { LeavesFile P.Pages file.old result pages.old pages.new }
-    ensures inserts { P.is_tied pages.old → IfOk result (λ count. ChangesFile oldest (P.store pages.old).map (P.store pages.new).map file.old file.new
-        (InsertsRow insertion.now.table insertion.now.kind insertion.now.route (seen insertion.now.span) count)) }
+    ensures inserts { ChangesBy P.Pages oldest file.old file.new
+        (InsertsRow insertion.now.table insertion.now.kind insertion.now.route (seen insertion.now.span)) result pages.old pages.new }
     ensures opened { ComesNext file.old.definitions result file.old file.new }
 {
     let before = garbage(file);
@@ -83,8 +82,8 @@ fn insert_in_place<P: Pages>(
     requires may { MayAccept P.Pages file.old pages.old }
     requires row { IsRowAt file.old insertion.now.table insertion.now.kind insertion.now.span }
     ensures leaves { LeavesFile P.Pages file.old result pages.old pages.new }
-    ensures inserts { P.is_tied pages.old → IfOk result (λ count. MakesAt (P.store pages.old).map (P.store pages.new).map file.old file.new insertion.now.table
-        (min oldest (file.old.accepted + 1)) (Inserts insertion.now.kind file.old.accepted (file.old.accepted + 1) insertion.now.route (seen insertion.now.span) count)) }
+    ensures inserts { MakesBy P.Pages file.old file.new insertion.now.table (min oldest (file.old.accepted + 1))
+        (Inserts insertion.now.kind file.old.accepted (file.old.accepted + 1) insertion.now.route (seen insertion.now.span)) result pages.old pages.new }
     ensures keeps { KeepsCommitted file.old file.new }
     ensures order { HaveAllDiedBy (file.old.accepted + 1) file.new }
     ensures more { garbage_of file.old ≤ garbage_of file.new }
@@ -116,8 +115,8 @@ pub fn remove<P: Pages>(
     requires may { MayAccept P.Pages file.old pages.old }
     requires place { removal.now.table < length file.old.tables.items }
     ensures leaves { LeavesFile P.Pages file.old result pages.old pages.new }
-    ensures removes { P.is_tied pages.old → IfOk result (λ count. ChangesFile oldest (P.store pages.old).map (P.store pages.new).map file.old file.new
-        (RemovesRows removal.now.table removal.now.route removal.now.lo removal.now.hi removal.now.goes count)) }
+    ensures removes { ChangesBy P.Pages oldest file.old file.new
+        (RemovesRows removal.now.table removal.now.route removal.now.lo removal.now.hi removal.now.goes) result pages.old pages.new }
     ensures opened { ComesNext file.old.definitions result file.old file.new }
 {
     let before = garbage(file);
@@ -138,8 +137,8 @@ fn remove_in_place<P: Pages>(
     requires may { MayAccept P.Pages file.old pages.old }
     requires place { removal.now.table < length file.old.tables.items }
     ensures leaves { LeavesFile P.Pages file.old result pages.old pages.new }
-    ensures removes { P.is_tied pages.old → IfOk result (λ count. MakesAt (P.store pages.old).map (P.store pages.new).map file.old file.new removal.now.table
-        (min oldest (file.old.accepted + 1)) (Removes file.old.accepted (file.old.accepted + 1) removal.now.route removal.now.lo removal.now.hi removal.now.goes count)) }
+    ensures removes { MakesBy P.Pages file.old file.new removal.now.table (min oldest (file.old.accepted + 1))
+        (Removes file.old.accepted (file.old.accepted + 1) removal.now.route removal.now.lo removal.now.hi removal.now.goes) result pages.old pages.new }
     ensures keeps { KeepsCommitted file.old file.new }
     ensures order { HaveAllDiedBy (file.old.accepted + 1) file.new }
     ensures more { garbage_of file.old ≤ garbage_of file.new }

@@ -8,7 +8,7 @@ ghost use Rattle.std.specs.List.{AllByRecursion, insert};
 ghost use Rattle.std.specs.Vec.{vec_capacity, vec_len};
 ghost use Rattle.rs_attr.specs.Calls as attr;
 ghost use Rattle.rs_attr.specs.Entries.{FitsPages};
-ghost use Rattle.rs_attr.specs.Tables.{AreOn, ChangesTable};
+ghost use Rattle.rs_attr.specs.Tables.{AreOn};
 ghost use Rattle.rs_catalog_pages.specs.Fitting.{FitsCatalogue, IsShort};
 ghost use Rattle.rs_catalog_pages.specs.Said.{said_catalogue};
 ghost use Rattle.rs_contents.specs.Contents.{AreGivenOnce};
@@ -18,10 +18,9 @@ ghost use Rattle.rs_file_changes.specs.Parts.{HaveAllDiedBy, IsReady, KeepsCommi
 ghost use Rattle.rs_machine.specs.declared.limits.TheConstants.{CHANGES};
 ghost use Rattle.rs_pages.specs.PageMap.{PageMap};
 ghost use Rattle.rs_state_changes.specs.Calls.{Changes, ComesNext, LeavesFile, MayDefine};
-ghost use Rattle.rs_state_changes.specs.Tables.{ComesTable, HasIndexAt, HasIndexOfAt, HasTableAt, HoldsNoneBeside, IsIndexPut, IsIndexTaken, IsTablePut, IsWritten, LeavesNext, LosesTableAt, StaySame, WritesNext};
-ghost use Rattle.rs_state_laws.specs.Parts.{ChangesIndexes, ChangesTableAt, PutsTable, TakesTable};
+ghost use Rattle.rs_state_changes.specs.Tables.{ComesTable, Empties, HasIndexAt, HasIndexOfAt, HasTableAt, HoldsNoneBeside, IsIndexPut, IsIndexTaken, IsTablePut, IsWritten, KeepsEvents, LeavesNext, LosesTableAt, Writes};
+ghost use Rattle.rs_state_laws.specs.Parts.{ChangesIndexes, PutsTable, TakesTable};
 ghost use Rattle.rs_versioned.specs.Events.{event_width};
-ghost use Rattle.rs_versioned.specs.Records.{HasNone};
 
 use rs_attr::{AttrIndex, define};
 use rs_catalog_pages::StoredCatalogue;
@@ -199,7 +198,7 @@ fn write_next<P: Pages>(
     requires short { IsShort (said_catalogue definitions) }
     requires births { AllByRecursion (λ route. route.born ≤ file.old.accepted + 1) (said_catalogue definitions).routes }
     ensures leaves { LeavesNext P.Pages (HoldsNoneBeside (P.store pages.old).map file.old) result pages.old pages.new }
-    ensures writes { P.is_tied pages.old → OnOk result (WritesNext (said_catalogue definitions) (P.store pages.old).map (P.store pages.new).map file.old file.new) }
+    ensures writes { Writes P.Pages (said_catalogue definitions) file.old file.new result pages.old pages.new }
     ensures opened { OnOk result (IsWritten definitions file.old file.new) }
     ensures stays { OnErr result (file.new ≡ file.old) }
 {
@@ -265,8 +264,7 @@ fn put_index<P: Pages>(
     requires fits { FitsPages table.old.records.types column }
     requires position { position ≤ length table.old.indexes.items }
     ensures leaves { attr.Leaves P.Pages table.old.records table.old.indexes.items result pages.old pages.new }
-    ensures changes { P.is_tied pages.old → OnOk result ((accepted : ℕ) → ChangesTable table.old.records.types (P.store pages.old).map (P.store pages.new).map
-        table.old.records.working table.new.records.working table.old.indexes.items table.new.indexes.items accepted accepted StaySame) }
+    ensures changes { KeepsEvents P.Pages table.old table.new result pages.old pages.new }
     ensures put { OnOk result (IsIndexPut position column table.old table.new) }
     ensures table { OnErr result (KeepsOpened table.old table.new) }
 {
@@ -285,8 +283,7 @@ fn take_index<P: Pages>(
     requires position { position < length table.old.indexes.items }
     requires indexes { AreOn table.old.records.types table.old.indexes.items }
     ensures leaves { attr.Leaves P.Pages table.old.records table.old.indexes.items result pages.old pages.new }
-    ensures changes { P.is_tied pages.old → OnOk result ((accepted : ℕ) → ChangesTable table.old.records.types (P.store pages.old).map (P.store pages.new).map
-        table.old.records.working table.new.records.working table.old.indexes.items table.new.indexes.items accepted accepted StaySame) }
+    ensures changes { KeepsEvents P.Pages table.old table.new result pages.old pages.new }
     ensures taken { IfOk result (IsIndexTaken position table.old table.new) }
     ensures table { OnErr result (KeepsOpened table.old table.new) }
 {
@@ -301,8 +298,7 @@ fn empty_place<P: Pages>(pages: &mut P, file: &mut OpenedFile, place: usize) -> 
     requires ready { IsReady file.old }
     requires place { place < length file.old.tables.items }
     ensures leaves { Leaves P.Pages file.old result pages.old pages.new }
-    ensures makes { P.is_tied pages.old → OnOk result ((accepted : ℕ)
-        → Makes (P.store pages.old).map (P.store pages.new).map file.old file.new accepted accepted (ChangesTableAt place HasNone)) }
+    ensures makes { Empties P.Pages file.old file.new place result pages.old pages.new }
     ensures keeps { KeepsCommitted file.old file.new }
     ensures order { (version : ℕ) → HaveAllDiedBy version file.old → OnOk result (HaveAllDiedBy version file.new) }
 {

@@ -4,7 +4,7 @@ ghost use Rattle.std.specs.Prelude.{◌≡◌, ◌⊎◌, [], Err, IfErr, IfOk, 
 ghost use Rattle.rs_catalog_meaning.specs.Meaning.{AreMeant};
 ghost use Rattle.rs_catalog_pages.specs.Said.{said_catalogue, said_route};
 ghost use Rattle.rs_contents.specs.Calls.{RefusesToLoad};
-ghost use Rattle.rs_contents.specs.Contents.{AreGivenOnce, Contents};
+ghost use Rattle.rs_contents.specs.Contents.{AreGivenOnce};
 ghost use Rattle.rs_contents.specs.Meant.{span_of_route};
 ghost use Rattle.rs_contents.specs.Opening.{IsFile};
 ghost use Rattle.rs_definitions.specs.Made.{without_views};
@@ -13,7 +13,7 @@ ghost use Rattle.rs_pager.specs.Maps.{IsTied, KeepsBelow, pager_store, working};
 ghost use Rattle.rs_pages.specs.Calls.{OnlyReads};
 ghost use Rattle.rs_pages.specs.Lending.{RestsAfter};
 ghost use Rattle.rs_store.specs.Kept.{IsAtRest};
-ghost use Rattle.rs_store.specs.Loading.{BringsState, HasNoState, HoldsOpened, LoadsState, StandsForNone};
+ghost use Rattle.rs_store.specs.Loading.{Brings, BringsNone, Loads, LoadsNone, LoadsState, StandsForNone};
 
 use rs_catalog::{Catalog, RouteReferents};
 use rs_catalog_meaning::check_meaning;
@@ -62,8 +62,8 @@ pub(crate) fn load_whole<D: Disk>(alloc: Global, pager: &mut Pager<D>) -> Result
 /// stand for none. It may be refused with 90 or 91 instead. No page changes.
 pub(crate) fn load_state<P: Pages>(alloc: Global, pages: &mut P) -> Result<Loaded, Refusal>
     ensures rests { OnlyReads P.Pages result pages.old pages.new }
-    ensures loads { P.is_tied pages.old → IfOk result (λ loaded. LoadsState (P.store pages.old).map loaded.file loaded.catalog loaded.referents) }
-    ensures damaged { P.is_tied pages.old → result ≡ Err Refusal.DamagedFile → StandsForNone (P.store pages.old).map }
+    ensures loads { Loads P.Pages result pages.old }
+    ensures damaged { LoadsNone P.Pages result pages.old }
     ensures file { IfOk result (λ loaded. IsAtRest loaded.file loaded.catalog) }
     ensures refused { RefusesToLoad result }
 {
@@ -88,11 +88,9 @@ fn bring<P: Pages>(
 ) -> Result<(Catalog, RouteReferents), Refusal>
     requires file { IsFile file.now }
     ensures rests { OnlyReads P.Pages result pages.old pages.new }
-    ensures brings { P.is_tied pages.old → IfOk result (λ said. (contents : Contents)
-        → HoldsOpened (P.store pages.old).map file.now contents → BringsState contents said.0 said.1) }
+    ensures brings { Brings P.Pages file.now result pages.old }
     ensures file { IfOk result (λ said. IsAtRest file.now said.0) }
-    ensures damaged { P.is_tied pages.old → result ≡ Err Refusal.DamagedFile → (contents : Contents)
-        → HoldsOpened (P.store pages.old).map file.now contents → HasNoState contents }
+    ensures damaged { BringsNone P.Pages file.now result pages.old }
     ensures refused { RefusesToLoad result }
 {
     loaded_file_has_its_directory();
