@@ -4,7 +4,7 @@
 //! that list is made before each copy, so neither of the two takes memory. The memory of some pages that a commit put others in
 //! place of is kept for the next copies.
 
-ghost use Rattle.std.specs.Prelude.{◌≡◌, ◌≢◌, ◌≤◌, ◌<◌, ◌^◌, ℕ, List, Some, None, true, [], length, is_some, IsSome, IfOk, IfSome, IfNone, OnOk, OnErr, IsOkUnless, slice_index};
+ghost use Rattle.std.specs.Prelude.{◌≡◌, ◌≢◌, ◌≤◌, ◌<◌, ◌^◌, ℕ, List, Some, None, true, [], length, is_some, IsOk, IsSome, IfOk, IfSome, IfNone, OnOk, OnErr, IsOkUnless, slice_index};
 ghost use Rattle.std.specs.BTreeMap.{is_at};
 ghost use Rattle.std.specs.Map.{lookup};
 ghost use Rattle.std.specs.Option.{option_map};
@@ -245,13 +245,14 @@ fn put_slot(slots: &mut BTreeMap<u32, Slot>, number: u32, page: Box<Page>) -> Re
     }
 }
 
-/// A page with these bytes, in the memory of a spare one where there is one.
+/// A page with these bytes, in the memory of a spare one where there is one, and is then never refused.
 pub fn copy_into_spare(
     alloc: Global,
     spare: Option<Box<Page>>,
     page: &Page,
 ) -> Result<Box<Page>, AllocError>
-    ensures { IfOk result (λ copy. copy.value.bytes ≡ page.now.bytes) }
+    ensures bytes { IfOk result (λ copy. copy.value.bytes ≡ page.now.bytes) }
+    ensures spared { IsSome spare → IsOk result }
 {
     match spare {
         Some(mut copy) => {

@@ -3,7 +3,7 @@
 //! A page is looked at each time that it is lent, unless it is held as a change. One to be changed is lent as a copy of
 //! its own.
 
-ghost use Rattle.std.specs.Prelude.{◌≡◌, ◌≢◌, ◌<◌, ℕ, List, Some, true, false, IfErr, IfOk, IsTrue, OnErr, OnOk, IsOkUnless};
+ghost use Rattle.std.specs.Prelude.{◌≡◌, ◌≢◌, ◌<◌, ℕ, List, Some, Err, IsSome, true, false, IfErr, IfOk, IsTrue, OnErr, OnOk, IsOkUnless};
 ghost use Rattle.rs_page.specs.PageBytes.{is_free};
 ghost use Rattle.rs_page.specs.declared.header.PageKind.{PageKind};
 ghost use Rattle.rs_pages.specs.Lending.{RestsAfter};
@@ -160,12 +160,13 @@ impl<D: Disk> Pager<D> {
     }
 
     /// The working page with this number, which is at hand and has no working copy in use, in memory of its own, a spare page's where there
-    /// is one.
+    /// is one: then it is not refused with 90.
     fn copy_of(&self, number: PageNumber, spare: Option<Box<Page>>) -> Result<Box<Page>, Refusal>
         requires at_hand { IsAtHand number self.now }
         requires not_copied { (page : List ℕ) → (held self.now number).copy ≡ Some page → is_free page ≡ true }
         ensures copy { IfOk result (λ page. LacksCopy D.Disk number page.value.bytes self.now) }
         ensures refused { IfErr result (RefusesCopy D.Disk number self.now) }
+        ensures memory { IsSome spare → result ≢ Err Refusal.OutOfMemory }
     {
         let Some(page) = self.used(number) else {
             return Err(Refusal::DamagedFile);
