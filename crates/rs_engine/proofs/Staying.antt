@@ -203,12 +203,12 @@ module _ {D : Type 0} (d : disk.Ghosts D) where
 
     -- the cursor has come
     pub open_opens : (engine : EngineState D) (held : HeldCursors) (ahead : LinesAhead) (cursor : Cursor) → cursor.method ≡ method → cursor.version ≡ engine.store.file.accepted
-        → (cursor.place.route ≡ 0) × (cursor.place.given ≡ 0)
+        → (cursor.place.route ≡ 0) × (cursor.place.given ≡ 0) → ahead.slots.items ≡ []
         → held_of held ≡ held_at session (names.insert (held_of engine.cursors.held session) name cursor) (held_of engine.cursors.held)
         → StaysOnAnyDisk d session (tree.open_cursor name query method) (done [] 0) engine (record { store = engine.store; oldest = engine.oldest; cursors = record { held = held; ahead = ahead } })
-    open_opens engine held ahead cursor printed version start put = record {
+    open_opens engine held ahead cursor printed version start none put = record {
       refused = tt;
-      cursors = record { cursor = cursor; method_is = printed; version = version; route = start.0; given = start.1; held = put };
+      cursors = record { cursor = cursor; method_is = printed; version = version; route = start.0; given = start.1; held = put; none_ahead = none };
       changes = changes-refl engine.store.pager;
     }
 

@@ -72,5 +72,5 @@ returns g c =
           (λ one kept. absurd (none_kept c.clear.new.self.slots.items c.clear.ensures one kept)) (λ one kept of. none_kept c.clear.new.self.slots.items c.clear.ensures one kept));
       stays = subst (λ (e : EngineState g.row.D.Denot).
           StaysOnAnyDisk d c.args.session (tree.open_cursor name query c.args.method) (done [] 0) c.args.self.now (engine_with e.store e.oldest (record { held = now; ahead = c.clear.new.self }))) (sym c.self.view_is)
-          (open_opens d c.args.session name query c.args.method c.args.self.now now c.clear.new.self cursor c.in_ok-cursor.ensures.method c.in_ok-cursor.ensures.version c.in_ok-cursor.ensures.start put);
+          (open_opens d c.args.session name query c.args.method c.args.self.now now c.clear.new.self cursor c.in_ok-cursor.ensures.method c.in_ok-cursor.ensures.version c.in_ok-cursor.ensures.start c.clear.ensures put);
     }
