@@ -1,5 +1,5 @@
 -- What is written for a CSV: lines of one session, each of which says what it is written for.
-use Rattle.std.specs.Prelude.{◌≡◌, ◌⊎◌, ℕ, ◌<◌, List, [], ◌∷◌, ◌++◌, length, map, Option, Some, None, IfSome, Result, MatchResult, Bool, true, false, string_bytes}
+use Rattle.std.specs.Prelude.{◌≡◌, ◌⊎◌, ℕ, ◌<◌, List, [], ◌∷◌, ◌++◌, length, map, Option, Some, None, IfSome, Result, MatchResult, Bool, true, false, codes, string_bytes}
 use Rattle.std.specs.List.{concat}
 use Rattle.std.specs.Io.KnownBytes.{Appends, Consumes, IsAtEnd, Keeps}
 use Rattle.csv.specs.Reading.{strip_bom}
@@ -12,6 +12,7 @@ use Rattle.rs_syntax.specs.View.{column_tree}
 use Rattle.rs_machine.specs.Request.{Asks, command}
 use Rattle.rs_csv_lines.specs.declared.plan.Plan.{Plan}
 use Rattle.rs_csv_lines.specs.Inserts.{IsInsertOf}
+use Rattle.rs_csv_lines.specs.Texts.{session_text}
 use Rattle.rs_csv.specs.Header.{AreColumnsOf, IsNamed, IsPlaceNamed}
 use Rattle.rs_csv.specs.Cutting.{IsBatchOf, IsCut, kept, kept_of}
 use Rattle.rs_csv.specs.Reading.{AreReadOf, AreTexts}
@@ -30,6 +31,10 @@ table_of definition = define_table definition.kind definition.name.bytes (map co
 pub record IsDefinition (session : ℕ) (definition : Definition) : Type 0 where
   pub asks : Asks (string_bytes definition.line) (command session (table_of definition))
   pub sound : IsSound (table_of definition)
+
+-- the words that are wanted ask it, as a line of the session
+abbrev pub IsAsked : Wanted → CommandTree → Type 0
+IsAsked wanted table = Asks (session_text wanted.session ++ codes " " ++ wanted.define.now) (command wanted.session table)
 
 -- What a job is: what is to be made, and the table that its words define.
 pub record JobParts : Type 0 where
@@ -87,6 +92,11 @@ pub record GoesOn (session : ℕ) (table : CommandTree) (plan : Plan) (told : Bo
 -- the plan is by the header that was read
 abbrev pub IsPlanned : Wanted → CommandTree → Progress → Type 0
 IsPlanned wanted table progress = IfSome progress.planned (λ planned. IsPlanOf wanted table (fields_of planned.header) planned.plan)
+
+-- What a filter is: a job, and what was read and made of it so far.
+pub record FilterParts : Type 0 where
+  pub job : JobParts
+  pub progress : Progress
 
 -- What was made of a header and the records after it: lines that were sent, and others that wait.
 pub record IsMadeBy (wanted : Wanted) (table : CommandTree) (told : Bool) (planned : Planned) (records : List (List (List ℕ))) (sent waiting : List ℕ) : Type 0 where

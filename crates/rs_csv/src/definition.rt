@@ -1,7 +1,8 @@
 //! The definition of the table: one DEFINE TABLE, read by the grammar that reads lines.
 
-ghost use Rattle.std.specs.Prelude.{◌<◌, IfOk};
+ghost use Rattle.std.specs.Prelude.{◌≡◌, ◌<◌, ◌++◌, IfOk, codes, string_bytes};
 ghost use Rattle.rs_csv.specs.Output.{IsDefinition};
+ghost use Rattle.rs_csv_lines.specs.Texts.{session_text};
 
 use crate::filter::Stop;
 use rs_csv_lines::write_words;
@@ -27,7 +28,8 @@ pub struct Definition {
 /// The table that the words define, as a line of the session.
 pub fn read_definition(alloc: Global, session: u8, words: &str) -> Result<Definition, Stop>
     requires { session < 64 }
-    ensures { IfOk result (λ definition. IsDefinition session definition) }
+    ensures defines { IfOk result (λ definition. IsDefinition session definition) }
+    ensures line { IfOk result (λ definition. string_bytes definition.line ≡ session_text session ++ codes " " ++ words.now) }
 {
     let mut line = String::new(alloc);
     let command = match write_words(alloc, session, words, &mut line) {

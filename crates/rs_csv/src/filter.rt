@@ -1,6 +1,6 @@
 //! The filter: CSV is read in pieces, and the lines of its records are written.
 
-ghost use Rattle.std.specs.Prelude.{◌≡◌, ◌<◌, [], ◌∷◌, ◌++◌, OnOk, OnErr, IfOk, ℕ, List, Bool, Option, None, Ok, false, true};
+ghost use Rattle.std.specs.Prelude.{◌≡◌, ◌⊎◌, ◌<◌, [], ◌∷◌, ◌++◌, OnOk, OnErr, IfOk, ℕ, List, Bool, Option, None, Ok, false, true};
 ghost use Rattle.std.specs.List.{concat};
 ghost use Rattle.std.specs.Io.KnownBytes.{Appends, Consumes, Keeps};
 ghost use Rattle.csv.specs.Records.{fields_of};
@@ -8,7 +8,7 @@ ghost use Rattle.rs_protocol.specs.Puts.{PutsBut};
 ghost use Rattle.rs_syntax.specs.Tree.{CommandTree};
 ghost use Rattle.rs_csv_lines.specs.declared.plan.Plan.{Plan};
 ghost use Rattle.rs_csv.specs.Cutting.{IsBatchOf, IsBetween, text_of};
-ghost use Rattle.rs_csv.specs.Output.{Ends, GoesFar, GoesOn, IsPlanOf, IsPlanned, IsQuiet, Makes, SendsMore, SoFar, TakesHead, TakesInput, TakesMore, TakesRest, held_texts, table_of};
+ghost use Rattle.rs_csv.specs.Output.{Ends, GoesFar, GoesOn, IsAsked, IsPlanOf, IsQuiet, Makes, SendsMore, SoFar, TakesHead, TakesInput, TakesMore, TakesRest, held_texts, table_of};
 ghost use Rattle.rs_csv.specs.Reading.{ReadsAll};
 
 use crate::batch::{Batch, Taken};
@@ -145,6 +145,29 @@ impl Progress {
     }
 }
 
+/// What is to be made of a CSV, and what was read and made of it so far.
+#[derive(Drop)]
+pub struct Filter<'a> {
+    /// What is to be made.
+    pub job: &'a Job<'a>,
+    /// What was read and made so far.
+    pub progress: Progress,
+}
+
+impl<'a> Model for Filter<'a> {
+    ghost use Rattle.std.specs.Coded.{codes};
+    ghost use Rattle.rs_csv.specs.contracts.filter.Progress.{the_row};
+    ghost use Rattle.rs_csv.specs.Output.{FilterParts, IsPlanned, table_of};
+
+    ghost Value = { FilterParts };
+
+    ghost coded = { Prim.hlevel (codes, the_row.coded) };
+
+    ghost view = { λ filter. record { job = filter.job.now; progress = filter.progress } };
+
+    ghost invariant = { λ filter. IsPlanned filter.job.now.wanted (table_of filter.job.now.definition) filter.progress };
+}
+
 // Makes the line that defines the table, where it is wanted.
 fn put_definition(job: &Job<'_>, bytes: &mut Vec<u8>) -> Result<(), AllocError>
     ensures { OnOk result ((plan : Plan) (told : Bool) → GoesOn job.now.wanted.session (table_of job.now.definition) plan told [] bytes.old.items bytes.new.items) }
@@ -172,64 +195,6 @@ fn take_header<E: Write>(
     Ok(Planned { plan, header })
 }
 
-// Takes a record.
-fn take_next<E: Write>(
-    job: &Job<'_>,
-    record: &ByteRecord,
-    progress: &mut Progress,
-    errors: &mut E,
-) -> Result<(), Stop>
-    requires planned { IsPlanned job.now.wanted (table_of job.now.definition) progress.old }
-    ensures planned { OnOk result (IsPlanned job.now.wanted (table_of job.now.definition) progress.new) }
-    ensures made { OnOk result (Makes job.now.wanted (table_of job.now.definition) (fields_of record.now ∷ []) progress.old progress.new) }
-    ensures quiet { OnOk result (IsQuiet progress.old.made.has_told progress.new.made.has_told (E.contents errors.old) (E.contents errors.new)) }
-    ensures held { progress.new.held ≡ progress.old.held }
-{
-    match &progress.planned {
-        Some(planned) => take_record(
-            job.alloc,
-            &planned.plan,
-            &planned.header,
-            record,
-            &mut progress.made,
-            errors,
-        ),
-        None => {
-            let planned = take_header(job, record.clone()?, &mut progress.made, errors)?;
-            progress.planned = Some(planned);
-            Ok(())
-        }
-    }
-}
-
-// Makes the lines of the records of a text.
-fn read_records<E: Write>(
-    job: &Job<'_>,
-    text: &[u8],
-    progress: &mut Progress,
-    errors: &mut E,
-) -> Result<(), Stop>
-    requires planned { IsPlanned job.now.wanted (table_of job.now.definition) progress.old }
-    ensures planned { OnOk result (IsPlanned job.now.wanted (table_of job.now.definition) progress.new) }
-    ensures made { OnOk result ((records : List (List (List ℕ))) × ReadsAll text.now records × Makes job.now.wanted (table_of job.now.definition) records progress.old progress.new) }
-    ensures quiet { OnOk result (IsQuiet progress.old.made.has_told progress.new.made.has_told (E.contents errors.old) (E.contents errors.new)) }
-    ensures held { progress.new.held ≡ progress.old.held }
-{
-    let mut reader = ReaderBuilder::new()
-        .has_headers(false)
-        .flexible(true)
-        .from_reader(job.alloc, text);
-    let mut record = ByteRecord::new(job.alloc);
-    'records: for _ in 0..u64::MAX {
-        match reader.read_byte_record(&mut record) {
-            Ok(true) => take_next(job, &record, progress, errors)?,
-            Ok(false) => return Ok(()),
-            Err(_) => return Err(Stop::OutOfMemory),
-        }
-    }
-    Err(Stop::OutOfMemory)
-}
-
 // Writes the lines that were made.
 fn write_made<W: Write>(made: &mut Made, output: &mut W) -> Result<(), Stop>
     ensures sent { OnOk result ((made.new.bytes.items ≡ []) × Appends (W.contents output.old) (W.contents output.new) made.old.bytes.items) }
@@ -243,90 +208,6 @@ fn write_made<W: Write>(made: &mut Made, output: &mut W) -> Result<(), Stop>
         }
         Err(fault) => Err(Stop::Stream(fault)),
     }
-}
-
-// Makes the lines of the records of a text, and writes them.
-pub fn write_text<W: Write, E: Write>(
-    job: &Job<'_>,
-    text: &[u8],
-    progress: &mut Progress,
-    output: &mut W,
-    errors: &mut E,
-) -> Result<(), Stop>
-    requires planned { IsPlanned job.now.wanted (table_of job.now.definition) progress.old }
-    ensures planned { OnOk result (IsPlanned job.now.wanted (table_of job.now.definition) progress.new) }
-    ensures sent { (more : List (List ℕ)) → text.now ≡ text_of more → SendsMore job.now.wanted (table_of job.now.definition) result more progress.old progress.new (W.contents output.old) (W.contents output.new) }
-    ensures quiet { OnOk result (IsQuiet progress.old.made.has_told progress.new.made.has_told (E.contents errors.old) (E.contents errors.new)) }
-{
-    if let Err(stop) = read_records(job, text, progress, errors) {
-        return Err(stop);
-    }
-    write_made(&mut progress.made, output)
-}
-
-// Meets the routes of the records of a text, which waits for them.
-fn hold_text<E: Write>(
-    job: &Job<'_>,
-    text: &[u8],
-    progress: &mut Progress,
-    errors: &mut E,
-) -> Result<(), Stop>
-    requires planned { IsPlanned job.now.wanted (table_of job.now.definition) progress.old }
-    ensures planned { OnOk result (IsPlanned job.now.wanted (table_of job.now.definition) progress.new) }
-    ensures held { OnOk result (held_texts progress.new ≡ held_texts progress.old ++ text.now ∷ []) }
-    ensures quiet { OnOk result (IsQuiet progress.old.made.has_told progress.new.made.has_told (E.contents errors.old) (E.contents errors.new)) }
-{
-    if let Err(stop) = read_records(job, text, progress, errors) {
-        return Err(stop);
-    }
-    progress.made.bytes.clear();
-    let Ok(held) = Vec::from_slice(job.alloc, text) else {
-        return Err(Stop::OutOfMemory);
-    };
-    progress.held.push(held)?;
-    Ok(())
-}
-
-// Takes the text of records: their lines are written, or it waits for the routes.
-fn take_text<W: Write, E: Write>(
-    job: &Job<'_>,
-    text: &[u8],
-    progress: &mut Progress,
-    output: &mut W,
-    errors: &mut E,
-) -> Result<(), Stop>
-    requires planned { IsPlanned job.now.wanted (table_of job.now.definition) progress.old }
-    ensures planned { OnOk result (IsPlanned job.now.wanted (table_of job.now.definition) progress.new) }
-    ensures taken { (more : List (List ℕ)) → text.now ≡ text_of more → TakesMore job.now.wanted (table_of job.now.definition) result more progress.old progress.new (W.contents output.old) (W.contents output.new) }
-    ensures quiet { OnOk result (IsQuiet progress.old.made.has_told progress.new.made.has_told (E.contents errors.old) (E.contents errors.new)) }
-{
-    if job.wanted.defines_routes {
-        hold_text(job, text, progress, errors)
-    } else {
-        write_text(job, text, progress, output, errors)
-    }
-}
-
-// Takes the records of a batch, and clears it.
-fn take_batch<W: Write, E: Write>(
-    job: &Job<'_>,
-    batch: &mut Batch,
-    progress: &mut Progress,
-    output: &mut W,
-    errors: &mut E,
-) -> Result<(), Stop>
-    requires planned { IsPlanned job.now.wanted (table_of job.now.definition) progress.old }
-    ensures planned { OnOk result (IsPlanned job.now.wanted (table_of job.now.definition) progress.new) }
-    ensures taken { (more : List (List ℕ)) (begun : List ℕ) → IsBatchOf batch.old (concat more) begun → IsBetween batch.old begun
-        → TakesMore job.now.wanted (table_of job.now.definition) result more progress.old progress.new (W.contents output.old) (W.contents output.new) }
-    ensures batch { (whole : List ℕ) (begun : List ℕ) → IsBatchOf batch.old whole begun → IsBetween batch.old begun → OnOk result (IsBatchOf batch.new [] begun) }
-    ensures quiet { OnOk result (IsQuiet progress.old.made.has_told progress.new.made.has_told (E.contents errors.old) (E.contents errors.new)) }
-{
-    if let Err(stop) = take_text(job, batch.text(), progress, output, errors) {
-        return Err(stop);
-    }
-    batch.clear();
-    Ok(())
 }
 
 // Tells of a record that is too long. There is no header after one that is.
@@ -348,156 +229,271 @@ fn leave_out_long<E: Write>(progress: &mut Progress, errors: &mut E) -> Result<(
     }
 }
 
-// Takes a byte of the input.
-fn take_byte<W: Write, E: Write>(
-    job: &Job<'_>,
-    batch: &mut Batch,
-    byte: u8,
-    progress: &mut Progress,
-    output: &mut W,
-    errors: &mut E,
-) -> Result<(), Stop>
-    requires planned { IsPlanned job.now.wanted (table_of job.now.definition) progress.old }
-    ensures planned { OnOk result (IsPlanned job.now.wanted (table_of job.now.definition) progress.new) }
-    ensures far { GoesFar job.now.wanted (table_of job.now.definition) result (byte ∷ []) batch.old batch.new progress.old progress.new (W.contents output.old) (W.contents output.new) }
-    ensures quiet { OnOk result (IsQuiet progress.old.made.has_told progress.new.made.has_told (E.contents errors.old) (E.contents errors.new)) }
-{
-    let Ok(taken) = batch.take(byte) else {
-        return Err(Stop::OutOfMemory);
-    };
-    match taken {
-        Taken::Within => Ok(()),
-        Taken::Ended => {
-            if batch.is_full() {
-                take_batch(job, batch, progress, output, errors)
-            } else {
+impl Filter<'_> {
+    // Takes a record.
+    fn take_next<E: Write>(&mut self, csv_record: &ByteRecord, errors: &mut E) -> Result<(), Stop>
+        ensures job { self.new.job ≡ self.old.job }
+        ensures made { OnOk result (Makes self.old.job.wanted (table_of self.old.job.definition) (fields_of csv_record.now ∷ []) self.old.progress self.new.progress) }
+        ensures quiet { OnOk result (IsQuiet self.old.progress.made.has_told self.new.progress.made.has_told (E.contents errors.old) (E.contents errors.new)) }
+        ensures held { self.new.progress.held ≡ self.old.progress.held }
+    {
+        let job = self.job;
+        match &self.progress.planned {
+            Some(planned) => take_record(
+                job.alloc,
+                &planned.plan,
+                &planned.header,
+                csv_record,
+                &mut self.progress.made,
+                errors,
+            ),
+            None => {
+                let header = csv_record.clone()?;
+                let planned = take_header(job, header, &mut self.progress.made, errors)?;
+                self.progress.planned = Some(planned);
                 Ok(())
             }
         }
-        Taken::TooLong => take_batch(job, batch, progress, output, errors),
-        Taken::EndedLong => leave_out_long(progress, errors),
     }
-}
 
-// Takes the bytes of a piece.
-fn take_piece<W: Write, E: Write>(
-    job: &Job<'_>,
-    batch: &mut Batch,
-    piece: &[u8],
-    progress: &mut Progress,
-    output: &mut W,
-    errors: &mut E,
-) -> Result<(), Stop>
-    requires planned { IsPlanned job.now.wanted (table_of job.now.definition) progress.old }
-    ensures planned { OnOk result (IsPlanned job.now.wanted (table_of job.now.definition) progress.new) }
-    ensures far { GoesFar job.now.wanted (table_of job.now.definition) result piece.now batch.old batch.new progress.old progress.new (W.contents output.old) (W.contents output.new) }
-    ensures quiet { OnOk result (IsQuiet progress.old.made.has_told progress.new.made.has_told (E.contents errors.old) (E.contents errors.new)) }
-{
-    for byte in piece {
-        if let Err(stop) = take_byte(job, batch, *byte, progress, output, errors) {
+    // Makes the lines of the records of a text.
+    fn read_records<E: Write>(&mut self, text: &[u8], errors: &mut E) -> Result<(), Stop>
+        ensures job { self.new.job ≡ self.old.job }
+        ensures made { OnOk result ((records : List (List (List ℕ))) × ReadsAll text.now records × Makes self.old.job.wanted (table_of self.old.job.definition) records self.old.progress self.new.progress) }
+        ensures quiet { OnOk result (IsQuiet self.old.progress.made.has_told self.new.progress.made.has_told (E.contents errors.old) (E.contents errors.new)) }
+        ensures held { self.new.progress.held ≡ self.old.progress.held }
+    {
+        let job = self.job;
+        let mut reader = ReaderBuilder::new()
+            .has_headers(false)
+            .flexible(true)
+            .from_reader(job.alloc, text);
+        let mut record = ByteRecord::new(job.alloc);
+        'records: for _ in 0..u64::MAX {
+            match reader.read_byte_record(&mut record) {
+                Ok(true) => self.take_next(&record, errors)?,
+                Ok(false) => return Ok(()),
+                Err(_) => return Err(Stop::OutOfMemory),
+            }
+        }
+        Err(Stop::OutOfMemory)
+    }
+
+    /// Makes the lines of the records of a text, and writes them.
+    pub fn write_text<W: Write, E: Write>(
+        &mut self,
+        text: &[u8],
+        output: &mut W,
+        errors: &mut E,
+    ) -> Result<(), Stop>
+        ensures job { self.new.job ≡ self.old.job }
+        ensures sent { (more : List (List ℕ)) → text.now ≡ text_of more → SendsMore self.old.job.wanted (table_of self.old.job.definition) result more self.old.progress self.new.progress (W.contents output.old) (W.contents output.new) }
+        ensures quiet { OnOk result (IsQuiet self.old.progress.made.has_told self.new.progress.made.has_told (E.contents errors.old) (E.contents errors.new)) }
+    {
+        if let Err(stop) = self.read_records(text, errors) {
             return Err(stop);
         }
+        write_made(&mut self.progress.made, output)
     }
-    Ok(())
-}
 
-// Reads the head of the input, and takes it where it is no byte order mark. Says whether it was all of the input.
-fn take_head<R: Read, W: Write, E: Write>(
-    job: &Job<'_>,
-    batch: &mut Batch,
-    progress: &mut Progress,
-    input: &mut R,
-    output: &mut W,
-    errors: &mut E,
-) -> Result<bool, Stop>
-    requires planned { IsPlanned job.now.wanted (table_of job.now.definition) progress.old }
-    ensures planned { OnOk result (IsPlanned job.now.wanted (table_of job.now.definition) progress.new) }
-    ensures far { (before : Option (List ℕ)) → SoFar job.now.wanted (table_of job.now.definition) before batch.old progress.old [] (W.contents output.old)
-        → TakesHead job.now.wanted (table_of job.now.definition) result before batch.new progress.new (R.remaining input.old) (R.remaining input.new) (W.contents output.new) }
-    ensures quiet { OnOk result (IsQuiet progress.old.made.has_told progress.new.made.has_told (E.contents errors.old) (E.contents errors.new)) }
-{
-    let head = match read_head(input) {
-        Ok(head) => head,
-        Err(stop) => return Err(stop),
-    };
-    let is_all = !head.is_full();
-    if is_mark(head.as_slice()) {
-        return Ok(is_all);
-    }
-    if let Err(stop) = take_piece(job, batch, head.as_slice(), progress, output, errors) {
-        return Err(stop);
-    }
-    Ok(is_all)
-}
-
-// Takes the end of the input.
-fn take_end<W: Write, E: Write>(
-    job: &Job<'_>,
-    batch: &mut Batch,
-    progress: &mut Progress,
-    output: &mut W,
-    errors: &mut E,
-) -> Result<(), Stop>
-    requires planned { IsPlanned job.now.wanted (table_of job.now.definition) progress.old }
-    ensures planned { OnOk result (IsPlanned job.now.wanted (table_of job.now.definition) progress.new) }
-    ensures far { TakesRest job.now.wanted (table_of job.now.definition) result batch.old progress.old progress.new (W.contents output.old) (W.contents output.new) }
-    ensures quiet { OnOk result (IsQuiet progress.old.made.has_told progress.new.made.has_told (E.contents errors.old) (E.contents errors.new)) }
-{
-    if batch.is_within_long() {
-        if let Err(stop) = leave_out_long(progress, errors) {
+    // Meets the routes of the records of a text, which waits for them.
+    fn hold_text<E: Write>(&mut self, text: &[u8], errors: &mut E) -> Result<(), Stop>
+        ensures job { self.new.job ≡ self.old.job }
+        ensures held { OnOk result (held_texts self.new.progress ≡ held_texts self.old.progress ++ text.now ∷ []) }
+        ensures quiet { OnOk result (IsQuiet self.old.progress.made.has_told self.new.progress.made.has_told (E.contents errors.old) (E.contents errors.new)) }
+    {
+        if let Err(stop) = self.read_records(text, errors) {
             return Err(stop);
         }
+        let job = self.job;
+        self.progress.made.bytes.clear();
+        let Ok(held) = Vec::from_slice(job.alloc, text) else {
+            return Err(Stop::OutOfMemory);
+        };
+        self.progress.held.push(held)?;
+        Ok(())
     }
-    take_text(job, batch.text(), progress, output, errors)
-}
 
-// Reads the records to the end of the input.
-fn read_all<R: Read, W: Write, E: Write>(
-    job: &Job<'_>,
-    progress: &mut Progress,
-    input: &mut R,
-    output: &mut W,
-    errors: &mut E,
-) -> Result<(), Stop>
-    requires no_plan { progress.old.planned ≡ None }
-    requires no_line { progress.old.made.bytes.items ≡ [] }
-    requires no_text { progress.old.held.items ≡ [] }
-    ensures input { TakesInput job.now.wanted (table_of job.now.definition) result progress.new (R.remaining input.old) (R.remaining input.new) (W.contents output.old) (W.contents output.new) }
-    ensures quiet { OnOk result (IsQuiet progress.old.made.has_told progress.new.made.has_told (E.contents errors.old) (E.contents errors.new)) }
-{
-    let Ok(mut batch) = Batch::new(job.alloc) else {
-        return Err(Stop::OutOfMemory);
-    };
-    match take_head(job, &mut batch, progress, input, output, errors) {
-        Ok(true) => return take_end(job, &mut batch, progress, output, errors),
-        Ok(false) => {}
-        Err(stop) => return Err(stop),
+    // Takes the text of records: their lines are written, or it waits for the routes.
+    fn take_text<W: Write, E: Write>(
+        &mut self,
+        text: &[u8],
+        output: &mut W,
+        errors: &mut E,
+    ) -> Result<(), Stop>
+        ensures job { self.new.job ≡ self.old.job }
+        ensures taken { (more : List (List ℕ)) → text.now ≡ text_of more → TakesMore self.old.job.wanted (table_of self.old.job.definition) result more self.old.progress self.new.progress (W.contents output.old) (W.contents output.new) }
+        ensures quiet { OnOk result (IsQuiet self.old.progress.made.has_told self.new.progress.made.has_told (E.contents errors.old) (E.contents errors.new)) }
+    {
+        let job = self.job;
+        if job.wanted.defines_routes {
+            self.hold_text(text, errors)
+        } else {
+            self.write_text(text, output, errors)
+        }
     }
-    let mut piece = [0u8; PIECE_BYTES];
-    'pieces: for _ in 0..u64::MAX {
-        match input.read(&mut piece) {
-            Ok(0) => return take_end(job, &mut batch, progress, output, errors),
-            Ok(count) => {
-                if let Err(stop) = take_piece(
-                    job,
-                    &mut batch,
-                    &piece[..count],
-                    progress,
-                    output,
-                    errors,
-                ) {
-                    return Err(stop);
+
+    // Takes the records of a batch, and clears it.
+    fn take_batch<W: Write, E: Write>(
+        &mut self,
+        batch: &mut Batch,
+        output: &mut W,
+        errors: &mut E,
+    ) -> Result<(), Stop>
+        ensures job { self.new.job ≡ self.old.job }
+        ensures taken { (more : List (List ℕ)) (begun : List ℕ) → IsBatchOf batch.old (concat more) begun → IsBetween batch.old begun
+            → TakesMore self.old.job.wanted (table_of self.old.job.definition) result more self.old.progress self.new.progress (W.contents output.old) (W.contents output.new) }
+        ensures batch { (whole : List ℕ) (begun : List ℕ) → IsBatchOf batch.old whole begun → IsBetween batch.old begun → OnOk result (IsBatchOf batch.new [] begun) }
+        ensures quiet { OnOk result (IsQuiet self.old.progress.made.has_told self.new.progress.made.has_told (E.contents errors.old) (E.contents errors.new)) }
+    {
+        if let Err(stop) = self.take_text(batch.text(), output, errors) {
+            return Err(stop);
+        }
+        batch.clear();
+        Ok(())
+    }
+
+    // Takes a byte of the input.
+    fn take_byte<W: Write, E: Write>(
+        &mut self,
+        batch: &mut Batch,
+        byte: u8,
+        output: &mut W,
+        errors: &mut E,
+    ) -> Result<(), Stop>
+        ensures job { self.new.job ≡ self.old.job }
+        ensures far { GoesFar self.old.job.wanted (table_of self.old.job.definition) result (byte ∷ []) batch.old batch.new self.old.progress self.new.progress (W.contents output.old) (W.contents output.new) }
+        ensures quiet { OnOk result (IsQuiet self.old.progress.made.has_told self.new.progress.made.has_told (E.contents errors.old) (E.contents errors.new)) }
+    {
+        let Ok(taken) = batch.take(byte) else {
+            return Err(Stop::OutOfMemory);
+        };
+        match taken {
+            Taken::Within => Ok(()),
+            Taken::Ended => {
+                if batch.is_full() {
+                    self.take_batch(batch, output, errors)
+                } else {
+                    Ok(())
                 }
             }
-            Err(_) => return Err(Stop::Stream(Fault::Read)),
+            Taken::TooLong => self.take_batch(batch, output, errors),
+            Taken::EndedLong => leave_out_long(&mut self.progress, errors),
         }
     }
-    Err(Stop::Stream(Fault::Read))
+
+    // Takes the bytes of a piece.
+    fn take_piece<W: Write, E: Write>(
+        &mut self,
+        batch: &mut Batch,
+        piece: &[u8],
+        output: &mut W,
+        errors: &mut E,
+    ) -> Result<(), Stop>
+        ensures job { self.new.job ≡ self.old.job }
+        ensures far { GoesFar self.old.job.wanted (table_of self.old.job.definition) result piece.now batch.old batch.new self.old.progress self.new.progress (W.contents output.old) (W.contents output.new) }
+        ensures quiet { OnOk result (IsQuiet self.old.progress.made.has_told self.new.progress.made.has_told (E.contents errors.old) (E.contents errors.new)) }
+    {
+        for byte in piece {
+            if let Err(stop) = self.take_byte(batch, *byte, output, errors) {
+                return Err(stop);
+            }
+        }
+        Ok(())
+    }
+
+    // Reads the head of the input, and takes it where it is no byte order mark. Says whether it was all of the input.
+    fn take_head<R: Read, W: Write, E: Write>(
+        &mut self,
+        batch: &mut Batch,
+        input: &mut R,
+        output: &mut W,
+        errors: &mut E,
+    ) -> Result<bool, Stop>
+        ensures job { self.new.job ≡ self.old.job }
+        ensures far { (before : Option (List ℕ)) → SoFar self.old.job.wanted (table_of self.old.job.definition) before batch.old self.old.progress [] (W.contents output.old)
+            → TakesHead self.old.job.wanted (table_of self.old.job.definition) result before batch.new self.new.progress (R.remaining input.old) (R.remaining input.new) (W.contents output.new) }
+        ensures quiet { OnOk result (IsQuiet self.old.progress.made.has_told self.new.progress.made.has_told (E.contents errors.old) (E.contents errors.new)) }
+    {
+        let head = match read_head(input) {
+            Ok(head) => head,
+            Err(stop) => return Err(stop),
+        };
+        let is_all = !head.is_full();
+        if is_mark(head.as_slice()) {
+            return Ok(is_all);
+        }
+        if let Err(stop) = self.take_piece(batch, head.as_slice(), output, errors) {
+            return Err(stop);
+        }
+        Ok(is_all)
+    }
+
+    // Takes the end of the input.
+    fn take_end<W: Write, E: Write>(
+        &mut self,
+        batch: &mut Batch,
+        output: &mut W,
+        errors: &mut E,
+    ) -> Result<(), Stop>
+        ensures job { self.new.job ≡ self.old.job }
+        ensures far { TakesRest self.old.job.wanted (table_of self.old.job.definition) result batch.old self.old.progress self.new.progress (W.contents output.old) (W.contents output.new) }
+        ensures quiet { OnOk result (IsQuiet self.old.progress.made.has_told self.new.progress.made.has_told (E.contents errors.old) (E.contents errors.new)) }
+    {
+        if batch.is_within_long() {
+            if let Err(stop) = leave_out_long(&mut self.progress, errors) {
+                return Err(stop);
+            }
+        }
+        self.take_text(batch.text(), output, errors)
+    }
+
+    // Reads the records to the end of the input.
+    fn read_all<R: Read, W: Write, E: Write>(
+        &mut self,
+        input: &mut R,
+        output: &mut W,
+        errors: &mut E,
+    ) -> Result<(), Stop>
+        requires no_plan { self.old.progress.planned ≡ None }
+        requires no_line { self.old.progress.made.bytes.items ≡ [] }
+        requires no_text { self.old.progress.held.items ≡ [] }
+        ensures input { TakesInput self.old.job.wanted (table_of self.old.job.definition) result self.new.progress (R.remaining input.old) (R.remaining input.new) (W.contents output.old) (W.contents output.new) }
+        ensures quiet { OnOk result (IsQuiet self.old.progress.made.has_told self.new.progress.made.has_told (E.contents errors.old) (E.contents errors.new)) }
+    {
+        let job = self.job;
+        let Ok(mut batch) = Batch::new(job.alloc) else {
+            return Err(Stop::OutOfMemory);
+        };
+        match self.take_head(&mut batch, input, output, errors) {
+            Ok(true) => return self.take_end(&mut batch, output, errors),
+            Ok(false) => {}
+            Err(stop) => return Err(stop),
+        }
+        let mut piece = [0u8; PIECE_BYTES];
+        'pieces: for _ in 0..u64::MAX {
+            match input.read(&mut piece) {
+                Ok(0) => return self.take_end(&mut batch, output, errors),
+                Ok(count) => {
+                    if let Err(stop) = self.take_piece(
+                        &mut batch,
+                        &piece[..count],
+                        output,
+                        errors,
+                    ) {
+                        return Err(stop);
+                    }
+                }
+                Err(_) => return Err(Stop::Stream(Fault::Read)),
+            }
+        }
+        Err(Stop::Stream(Fault::Read))
+    }
 }
 
 /// Writes the lines of a CSV, and says whether something was told and left out.
 ///
-/// `NoTable` where the words define no table; `NoColumn` where the header lacks a column, which is told. Then nothing is written.
+/// The lines are of the table that the words define. `NoTable` where the words define no table; `NoColumn` where the header lacks a column, which is told. Then nothing is written.
 pub fn write_lines<R: Read, W: Write, E: Write>(
     alloc: Global,
     wanted: Wanted<'_>,
@@ -506,7 +502,8 @@ pub fn write_lines<R: Read, W: Write, E: Write>(
     errors: &mut E,
 ) -> Result<bool, Stop>
     requires { wanted.session < 64 }
-    ensures wrote { (table : CommandTree) × ((told : List ℕ) × Consumes (R.remaining input.old) (R.remaining input.new) told
+    ensures wrote { (table : CommandTree) × (IsAsked wanted.entry table ⊎ Keeps (W.contents output.old) (W.contents output.new))
+        × ((told : List ℕ) × Consumes (R.remaining input.old) (R.remaining input.new) told
         × Ends wanted.entry table result told (R.remaining input.new) (W.contents output.old) (W.contents output.new)) }
     ensures quiet { result ≡ Ok false → Keeps (E.contents errors.old) (E.contents errors.new) }
 {
@@ -520,9 +517,13 @@ pub fn write_lines<R: Read, W: Write, E: Write>(
         wanted,
         definition,
     };
-    let mut progress = Progress::new(alloc, wanted.defines_routes);
-    if let Err(stop) = read_all(&job, &mut progress, input, output, errors) {
+    let mut filter = Filter {
+        job: &job,
+        progress: Progress::new(alloc, wanted.defines_routes),
+    };
+    if let Err(stop) = filter.read_all(input, output, errors) {
         return Err(stop);
     }
+    let mut progress = filter.progress;
     write_rest(&job, &mut progress, output, errors)
 }

@@ -9,7 +9,7 @@ ghost use Rattle.rs_csv_lines.specs.declared.plan.Plan.{Plan};
 ghost use Rattle.rs_csv.specs.Output.{AreLines, EndsTaken, GoesOn, IsQuiet, WroteFront, WroteOf, table_of};
 ghost use Rattle.rs_csv.specs.Reading.{AreTexts};
 
-use crate::filter::{Job, Progress, Stop, write_text};
+use crate::filter::{Filter, Job, Progress, Stop};
 use crate::made::Made;
 use crate::routes::{Extent, push_route};
 use crate::tell::tell_route;
@@ -73,14 +73,15 @@ fn write_held<W: Write>(
 {
     let mut progress = Progress::new(job.alloc, false);
     progress.made.has_told = has_told;
+    let mut filter = Filter { job, progress };
     let mut nowhere = sink();
     for text in held {
         let text = text.as_slice();
-        if let Err(stop) = write_text(job, text, &mut progress, output, &mut nowhere) {
+        if let Err(stop) = filter.write_text(text, output, &mut nowhere) {
             return Err(stop);
         }
     }
-    Ok(progress.made.has_told)
+    Ok(filter.progress.made.has_told)
 }
 
 /// Writes the lines that define the routes, and those of the records that wait for them. Says whether something was told.

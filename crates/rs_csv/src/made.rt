@@ -8,7 +8,7 @@ ghost use Rattle.rs_csv.specs.Output.{GoesOn, IsQuiet};
 
 use crate::filter::Stop;
 use crate::routes::{Extents, meet_event, no_extents};
-use crate::tell::tell_misfit;
+use crate::tell::{tell_misfit, tell_more_fields};
 use csv::ByteRecord;
 use rs_csv_lines::{Misfit, Plan, write_insert};
 use std::alloc::{AllocError, Global};
@@ -59,23 +59,29 @@ pub fn push_line(bytes: &mut Vec<u8>, line: &str) -> Result<(), AllocError>
     Ok(())
 }
 
-/// Makes the line of a record, or tells why there is none.
+/// Makes the line of a record, or tells why there is none. A record with more fields than the header has none: a comma may lack its
+/// quotes there, so it is not known which field is which.
 pub fn take_record<E: Write>(
     alloc: Global,
     plan: &Plan,
     header: &ByteRecord,
-    record: &ByteRecord,
+    csv_record: &ByteRecord,
     made: &mut Made,
     errors: &mut E,
 ) -> Result<(), Stop>
     requires session { plan.now.session < 64 }
     requires named { IsName plan.now.table.bytes }
     requires some { 0 < length plan.now.columns.items }
-    ensures made { OnOk result ((table : CommandTree) → GoesOn plan.now.session table plan.now made.new.has_told (fields_of record.now ∷ []) made.old.bytes.items made.new.bytes.items) }
+    ensures made { OnOk result ((table : CommandTree) → GoesOn plan.now.session table plan.now made.new.has_told (fields_of csv_record.now ∷ []) made.old.bytes.items made.new.bytes.items) }
     ensures quiet { OnOk result (IsQuiet made.old.has_told made.new.has_told (E.contents errors.old) (E.contents errors.new)) }
 {
     made.number = made.number.saturating_add(1);
-    match write_insert(alloc, plan, record, &mut made.line) {
+    if csv_record.len() > header.len() {
+        made.has_told = true;
+        tell_more_fields(errors, made.number);
+        return Ok(());
+    }
+    match write_insert(alloc, plan, csv_record, &mut made.line) {
         Ok(event) => {
             push_line(&mut made.bytes, made.line.as_str())?;
             if let Some(extents) = &mut made.extents {

@@ -71,6 +71,20 @@ pub fn tell_long_record<E: Write>(errors: &mut E, number: u64) {
     );
 }
 
+/// Tells that a record was left out, since it has more fields than the header.
+pub fn tell_more_fields<E: Write>(errors: &mut E, number: u64) {
+    let mut digits = Buffer::new();
+    let record = digits.format(number).as_bytes();
+    let _ = put_parts(
+        errors,
+        &[
+            b"roadseg: record ",
+            record,
+            b": more fields than the header\n",
+        ],
+    );
+}
+
 /// Tells that the header has no column of this name, or two.
 pub fn tell_column<E: Write>(errors: &mut E, name: &str, is_twice: bool) {
     let wrong: &[u8] = if is_twice {

@@ -61,11 +61,11 @@ fn as_text(bytes: &[u8]) -> Option<&str>
 }
 
 /// The text of the field at a place of a record.
-pub fn field_text(record: &ByteRecord, place: usize) -> Result<FieldText<'_>, Misfit>
-    ensures { IfOk result (λ found. Field (fields_of record.now) place
+pub fn field_text(csv_record: &ByteRecord, place: usize) -> Result<FieldText<'_>, Misfit>
+    ensures { IfOk result (λ found. Field (fields_of csv_record.now) place
         (λ field. (found.text.now ≡ content field) × (found.is_empty ≡ true ↔ (field ≡ [])))) }
 {
-    let Some(field) = record.get(place) else {
+    let Some(field) = csv_record.get(place) else {
         return Err(Misfit::Field(place, Cause::Missing));
     };
     match as_text(content(field)) {

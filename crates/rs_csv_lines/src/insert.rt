@@ -31,24 +31,24 @@ pub struct Event {
 // Puts the place of a record, from FROM or AT on, and gives where the event begins and ends.
 fn put_place(
     alloc: Global,
-    record: &ByteRecord,
+    csv_record: &ByteRecord,
     place: Place,
     line: &mut String,
 ) -> Result<(Position, Position), Misfit>
-    ensures { OnOk result ((location : EventLocationTree) × (bytes : List ℕ) × PutsPlace (fields_of record.now) place location bytes
+    ensures { OnOk result ((location : EventLocationTree) × (bytes : List ℕ) × PutsPlace (fields_of csv_record.now) place location bytes
         × (string_bytes line.new ≡ string_bytes line.old ++ bytes)) }
 {
     match place {
         Place::Along { from, to } => {
             line.push_str(" FROM ")?;
-            let first = put_position(alloc, record, from, line)?;
+            let first = put_position(alloc, csv_record, from, line)?;
             line.push_str(" TO ")?;
-            let last = put_position(alloc, record, to, line)?;
+            let last = put_position(alloc, csv_record, to, line)?;
             Ok((first, last))
         }
         Place::At { at } => {
             line.push_str(" AT ")?;
-            let first = put_position(alloc, record, at, line)?;
+            let first = put_position(alloc, csv_record, at, line)?;
             let last = first;
             Ok((first, last))
         }
@@ -58,19 +58,19 @@ fn put_place(
 // Puts the values of further columns, with a comma before each.
 fn put_further(
     alloc: Global,
-    record: &ByteRecord,
+    csv_record: &ByteRecord,
     columns: &[Column],
     line: &mut String,
 ) -> Result<(), Misfit>
-    ensures { OnOk result ((row : Row) × (bytes : List ℕ) × PutsFurther (fields_of record.now) columns.now row bytes
+    ensures { OnOk result ((row : Row) × (bytes : List ℕ) × PutsFurther (fields_of csv_record.now) columns.now row bytes
         × (string_bytes line.new ≡ string_bytes line.old ++ bytes)) }
 {
     match columns.split_first() {
         None => Ok(()),
         Some((column, others)) => {
             line.push_str(", ")?;
-            put_value(alloc, record, column.field, column.column_type, line)?;
-            put_further(alloc, record, others, line)
+            put_value(alloc, csv_record, column.field, column.column_type, line)?;
+            put_further(alloc, csv_record, others, line)
         }
     }
 }
@@ -78,19 +78,19 @@ fn put_further(
 // Puts the values of a record.
 fn put_row(
     alloc: Global,
-    record: &ByteRecord,
+    csv_record: &ByteRecord,
     columns: &[Column],
     line: &mut String,
 ) -> Result<(), Misfit>
     requires { 0 < length columns.now }
-    ensures { OnOk result ((row : Row) × (bytes : List ℕ) × PutsRow (fields_of record.now) columns.now row bytes
+    ensures { OnOk result ((row : Row) × (bytes : List ℕ) × PutsRow (fields_of csv_record.now) columns.now row bytes
         × (string_bytes line.new ≡ string_bytes line.old ++ bytes)) }
 {
     match columns.split_first() {
         None => unreachable!(),
         Some((column, others)) => {
-            put_value(alloc, record, column.field, column.column_type, line)?;
-            put_further(alloc, record, others, line)
+            put_value(alloc, csv_record, column.field, column.column_type, line)?;
+            put_further(alloc, csv_record, others, line)
         }
     }
 }
@@ -102,13 +102,13 @@ fn put_row(
 pub fn write_insert(
     alloc: Global,
     plan: &Plan,
-    record: &ByteRecord,
+    csv_record: &ByteRecord,
     line: &mut String,
 ) -> Result<Event, Misfit>
     requires session { plan.now.session < 64 }
     requires named { IsName plan.now.table.bytes }
     requires some { 0 < length plan.now.columns.items }
-    ensures { OnOk result ((tree : CommandTree) × IsInsertOf plan.now (fields_of record.now) tree
+    ensures { OnOk result ((tree : CommandTree) × IsInsertOf plan.now (fields_of csv_record.now) tree
         × Asks (string_bytes line.new) (command plan.now.session tree)) }
 {
     line.clear();
@@ -116,10 +116,10 @@ pub fn write_insert(
     line.push_str(" INSERT INTO ")?;
     line.push_str(plan.table.as_str())?;
     line.push_str(" ON ")?;
-    let route = put_route(alloc, record, plan.route, line)?;
-    let (first, last) = put_place(alloc, record, plan.place, line)?;
+    let route = put_route(alloc, csv_record, plan.route, line)?;
+    let (first, last) = put_place(alloc, csv_record, plan.place, line)?;
     line.push_str(" VALUES (")?;
-    put_row(alloc, record, plan.columns.as_slice(), line)?;
+    put_row(alloc, csv_record, plan.columns.as_slice(), line)?;
     line.push_str(")")?;
     let whole = line.as_str();
     if whole.len() > LINE_BYTES {

@@ -106,14 +106,14 @@ fn put_number(
 /// Puts the route that a field names, and gives it.
 pub fn put_route(
     alloc: Global,
-    record: &ByteRecord,
+    csv_record: &ByteRecord,
     place: usize,
     line: &mut String,
 ) -> Result<Name, Misfit>
-    ensures told { IfOk result (λ name. TellsRoute (fields_of record.now) place name.bytes) }
+    ensures told { IfOk result (λ name. TellsRoute (fields_of csv_record.now) place name.bytes) }
     ensures put { IfOk result (λ name. string_bytes line.new ≡ string_bytes line.old ++ name.bytes) }
 {
-    let field = field_text(record, place)?;
+    let field = field_text(csv_record, place)?;
     let name = name_in(alloc, field.text, place)?;
     line.push_str(name.as_str())?;
     Ok(name)
@@ -122,14 +122,14 @@ pub fn put_route(
 /// Puts the position that a field says, and gives it.
 pub fn put_position(
     alloc: Global,
-    record: &ByteRecord,
+    csv_record: &ByteRecord,
     place: usize,
     line: &mut String,
 ) -> Result<Position, Misfit>
-    ensures { IfOk result (λ position. (bytes : List ℕ) × PutsPositionAt (fields_of record.now) place (expression_of position) bytes
+    ensures { IfOk result (λ position. (bytes : List ℕ) × PutsPositionAt (fields_of csv_record.now) place (expression_of position) bytes
         × (string_bytes line.new ≡ string_bytes line.old ++ bytes)) }
 {
-    let field = field_text(record, place)?;
+    let field = field_text(csv_record, place)?;
     let (written, position) = position_in(alloc, field.text, place)?;
     put_written(line, field.text, written)?;
     Ok(position)
@@ -138,16 +138,16 @@ pub fn put_position(
 /// Puts the value that a field says in a column.
 pub fn put_value(
     alloc: Global,
-    record: &ByteRecord,
+    csv_record: &ByteRecord,
     place: usize,
     column_type: ColumnType,
     line: &mut String,
 ) -> Result<(), Misfit>
     ensures { OnOk result ((datum : Datum) × (bytes : List ℕ)
-        × Field (fields_of record.now) place (λ field. PutsDatum column_type field datum bytes)
+        × Field (fields_of csv_record.now) place (λ field. PutsDatum column_type field datum bytes)
         × (string_bytes line.new ≡ string_bytes line.old ++ bytes)) }
 {
-    let field = field_text(record, place)?;
+    let field = field_text(csv_record, place)?;
     if field.is_empty {
         line.push_str("NULL")?;
         return Ok(());

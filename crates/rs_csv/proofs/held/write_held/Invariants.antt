@@ -1,5 +1,5 @@
-use Rattle.std.proofs.Common.{ℕ, List, map}
-use Rattle.rs_csv.specs.Output.{IsPlanned, table_of}
+use Rattle.std.proofs.Common.{◌≡◌, ℕ, List, map}
+use Rattle.rs_csv.specs.Output.{table_of}
 use Rattle.rs_csv.specs.Reading.{AreTexts}
 use Rattle.rs_csv.proofs.Outputs.{Stays}
 use Rattle.rs_csv.proofs.Taking.{IsReadTo}
@@ -7,8 +7,8 @@ use Rattle.rs_csv.proofs.held.write_held.Given as goal
 
 abbrev pub invariant-loop-text : goal.invariant-loop-text
 invariant-loop-text g l = record {
-  planned : IsPlanned l.job.wanted (table_of l.job.definition) l.progress;
-  told : Stays l.has_told l.progress.made.has_told;
+  job : l.filter.job ≡ l.fn.job;
+  told : Stays l.has_told l.filter.progress.made.has_told;
   read : (raws : List (List ℕ)) → AreTexts (map (λ text. text.items) l.held) raws
-      → IsReadTo l.job.wanted (table_of l.job.definition) (map (λ text. text.items) l.held) raws l.text-index (g.W.Write.contents l.fn.output) l.progress (g.W.Write.contents l.output);
+      → IsReadTo l.fn.job.wanted (table_of l.fn.job.definition) (map (λ text. text.items) l.held) raws l.text-index (g.W.Write.contents l.fn.output) l.filter.progress (g.W.Write.contents l.output);
 }

@@ -10,7 +10,7 @@ use Rattle.rs_csv_lines.proofs.insert.write_insert.Goals as goal
 pub returns : goal.returns
 returns c =
     let plan = c.args.plan.now in
-    let fields = fields_of c.args.record.now in
+    let fields = fields_of c.args.csv_record.now in
     let place = c.in_ok-first.ensures in
     let row = c.in_ok-put_row.ensures in
     let short : length (string_bytes c.push_str-5.new.self) ≤ LINE_BYTES = subst (λ bs. length bs ≤ LINE_BYTES) c.as_str-whole.ensures.value c.if-whole-gt-LINE_BYTES.false in

@@ -23,7 +23,7 @@ returns-in_ok-put_number-in-Int c =
     let found = c.in_ok-is_negative-in-Int in (
       number (signed found.is_negative (number_of_digits (token_text bytes found.digits))),
       number_text bytes found.is_negative found.digits,
-      puts_number (fields_of c.args.record.now) c.args.place c.args.column_type bytes c.in_ok-field.field.is_empty found.is_negative found.digits c.in_ok-field.ensures c.if-field.false c.in-Int.is found.ensures,
+      puts_number (fields_of c.args.csv_record.now) c.args.place c.args.column_type bytes c.in_ok-field.field.is_empty found.is_negative found.digits c.in_ok-field.ensures c.if-field.false c.in-Int.is found.ensures,
       c.in_ok-put_number-in-Int.ensures,
     )
 
@@ -32,6 +32,6 @@ returns-in_ok-put_text-in-Text c =
     let bytes = c.in_ok-field.field.text.now in (
       text bytes,
       datum_text (text bytes),
-      puts_text (fields_of c.args.record.now) c.args.place c.in-Text.field-0 c.args.column_type bytes c.in_ok-field.field.is_empty c.in_ok-field.ensures c.if-field.false c.in-Text.is,
+      puts_text (fields_of c.args.csv_record.now) c.args.place c.in-Text.field-0 c.args.column_type bytes c.in_ok-field.field.is_empty c.in_ok-field.ensures c.if-field.false c.in-Text.is,
       c.in_ok-put_text-in-Text.ensures,
     )

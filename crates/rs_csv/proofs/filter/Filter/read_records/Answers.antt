@@ -1,10 +1,10 @@
-use Rattle.std.proofs.Common.{◌∙◌, [], ◌∷◌, ◌++◌, ap, inr, refl}
+use Rattle.std.proofs.Common.{◌∙◌, [], ◌∷◌, ◌++◌, ap, inr, refl, subst}
 use Rattle.csv.specs.Records.{fields_of}
 use Rattle.csv.specs.Reading.{builder_config, builder_names_headers, builder_trim}
-use Rattle.rs_csv.specs.Output.{table_of}
+use Rattle.rs_csv.specs.Output.{JobParts, Makes, table_of}
 use Rattle.rs_csv.proofs.Outputs.{makes_none, makes_trans, quiet_same, quiet_trans}
 use Rattle.rs_csv.proofs.Readers.{read_all, read_more, read_none}
-use Rattle.rs_csv.proofs.filter.read_records.Goals as goal
+use Rattle.rs_csv.proofs.filter.Filter.read_records.Goals as goal
 
 pub records-init : goal.records-init
 records-init g c =
@@ -13,10 +13,10 @@ records-init g c =
     let trim = reader.trim ∙ (ap builder_trim c.flexible.ensures ∙ (ap builder_trim c.has_headers.ensures ∙ c.new.ensures.trim)) in
     let names = reader.has_headers ∙ (ap builder_names_headers c.flexible.ensures ∙ ap builder_names_headers c.has_headers.ensures) in
     record {
-      planned = c.requires.planned;
-      made = ([], read_none _ c.args.text.now c.from_reader-reader.result reader.state reader.source config trim (inr (inr (names, reader.headers))), makes_none c.args.job.now.wanted (table_of c.args.job.now.definition) c.args.progress.now);
+      job = refl;
+      made = ([], read_none _ c.args.text.now c.from_reader-reader.result reader.state reader.source config trim (inr (inr (names, reader.headers))), makes_none c.args.self.now.job.wanted (table_of c.args.self.now.job.definition) c.args.self.now.progress);
       held = refl;
-      quiet = quiet_same c.args.progress.now.made.has_told (g.E.Write.contents c.args.errors.now);
+      quiet = quiet_same c.args.self.now.progress.made.has_told (g.E.Write.contents c.args.errors.now);
     }
 
 pub returns-in-Ok-false-clause-made : goal.returns-in-Ok-false-clause-made
@@ -30,12 +30,13 @@ records-preserved g c =
     let next = c.in_ok-take_next-in-Ok-true.ensures in
     let fields = fields_of c.read_byte_record.new.row in
     record {
-      planned = next.planned;
+      job = next.job ∙ c.records.invariant.job;
       made = (
         made.0 ++ fields ∷ [],
         read_more _ c.args.text.now made.0 fields c.records.reader c.read_byte_record.new.self c.in-Ok-true.field-0 c.in-Ok-true.field-0-test made.1 c.in-Ok-true.ensures.reads c.in-Ok-true.ensures.ready,
-        makes_trans c.args.job.now.wanted (table_of c.args.job.now.definition) c.args.progress.now c.records.progress c.take_next.new.progress made.0 (fields ∷ []) made.2 next.made,
+        makes_trans c.args.self.now.job.wanted (table_of c.args.self.now.job.definition) c.args.self.now.progress c.records.self.progress c.take_next.new.self.progress made.0 (fields ∷ []) made.2
+            (subst (λ (job : JobParts). Makes job.wanted (table_of job.definition) (fields ∷ []) c.records.self.progress c.take_next.new.self.progress) c.records.invariant.job next.made),
       );
       held = next.held ∙ c.records.invariant.held;
-      quiet = quiet_trans c.args.progress.now.made.has_told c.records.progress.made.has_told c.take_next.new.progress.made.has_told _ _ _ c.records.invariant.quiet next.quiet;
+      quiet = quiet_trans c.args.self.now.progress.made.has_told c.records.self.progress.made.has_told c.take_next.new.self.progress.made.has_told _ _ _ c.records.invariant.quiet next.quiet;
     }
