@@ -167,8 +167,11 @@ def check_fields():
     ):
         got = run("csv", DEFINE, "--no-define", data=head + record + b"\n")
         expect(repr(record), got, (1, b"", ("roadseg: record 1, %s\n" % told).encode()))
-    long = head + b"SR1,0,1,%s,1\nSR1,1,2,a,1\n" % (b"x" * 70_000)
+    more = head + b"SR1,0,1,Main St, North,2011\nSR1,1,2,a,1\n"
     after = b"0 INSERT INTO pavement ON SR1 FROM 1 TO 2 VALUES ('a', 1)\n"
+    told = b"roadseg: record 1: more fields than the header\n"
+    expect("an unquoted comma", run("csv", DEFINE, "--no-define", data=more), (1, after, told))
+    long = head + b"SR1,0,1,%s,1\nSR1,1,2,a,1\n" % (b"x" * 70_000)
     told = b"roadseg: record 1: longer than 65536 bytes\n"
     expect("a long record", run("csv", DEFINE, "--no-define", data=long), (1, after, told))
 
@@ -179,6 +182,8 @@ NOTE_COLUMNS = ["route", "at", "note"]
 
 def note_of(number, fields):
     """What is made of a record of notes: its line, or what is told."""
+    if len(fields) > len(NOTE_COLUMNS):
+        return "roadseg: record %d: more fields than the header\n" % number
     for place, (name, wrong) in enumerate(zip(NOTE_COLUMNS, ("not a name", "not a position", ""))):
         if place >= len(fields):
             return "roadseg: record %d, %s: no such field\n" % (number, name)
@@ -267,7 +272,9 @@ def check_watched():
     expect("without options", run("run", data=lines), (0, b"".join(replies), b""))
     expect("--bail", run("run", "--bail", data=lines), (1, b"".join(replies[:2]), b""))
     told = b"roadseg: lines answered: 3, refused: 1\nroadseg: line 2: 0 ERR 21 no such name\n"
-    expect("--report", run("run", "--report", data=lines), (0, b"".join(replies), told))
+    unended = b"roadseg: the last line lacks its line feed and was not answered\n"
+    expect("--report", run("run", "--report", data=lines), (0, b"".join(replies), told + unended))
+    expect("--report of whole lines", run("run", "--report", data=lines[:-5]), (0, b"".join(replies), told))
     expect("both", run("run", "--bail", "--report", data=lines), (1, b"".join(replies[:2]), told.replace(b"3", b"2", 1)))
     many = b"0 SELECT nothing\n" * 30
     status, _, told = run("run", "--report", data=many)

@@ -85,11 +85,11 @@ pub fn explain(refusal: &Refusal) -> Explanation {
         Refusal::Syntax(_) => Explanation {
             meaning: "The line is no command. The number after 'at' is the column of the first word that fits no rule, counted from 1 in bytes.",
             look: "The word at that column, and the command's form in docs/LANGUAGE.md. Words of the language are in capitals.",
-            refused: "0 SELECT pavement WHERE aadt > 5000",
-            mended: "0 SELECT WHERE(pavement, aadt > 5000)",
+            refused: "0 SELECT traffic WHERE aadt > 5000",
+            mended: "0 SELECT WHERE(traffic, aadt > 5000)",
         },
         Refusal::NumberOutOfRange => Explanation {
-            meaning: "A number of the line is out of its range: a measure has one to six digits and up to three decimals, a percentage is at most 100, a value at most 10^12.",
+            meaning: "A number of the line is out of its range: a measure has one to six digits and up to three decimals, a percentage is at most 100, a value at most 10^12, the length of a text 1 to 40, and the rows of a FETCH 1 to 1,000.",
             look: "Decimals past the third, and numbers in other units.",
             refused: "0 DEFINE ROUTE SR12 FROM 0 TO 14.25001",
             mended: "0 DEFINE ROUTE SR12 FROM 0 TO 14.250",
@@ -113,7 +113,7 @@ pub fn explain(refusal: &Refusal) -> Explanation {
             mended: "0 SELECT WHERE(pavement, surface = 'asphalt')",
         },
         Refusal::InUse => Explanation {
-            meaning: "What would be dropped or moved is in use: a route with events, a table that a view names, or any of these while a cursor is open.",
+            meaning: "What would be dropped or moved is in use: a route with events, a table that a view names, START, or any of these while a cursor is open.",
             look: "Events on the route, views and alignments that name it, and open cursors.",
             refused: "0 DROP ROUTE SR12, with events on it",
             mended: "0 REMOVE pavement ON SR12, and so with each table, and then the DROP",
@@ -227,7 +227,7 @@ pub fn explain(refusal: &Refusal) -> Explanation {
             mended: "the INSERT, after a REMOVE of what is no longer asked for",
         },
         Refusal::DamagedFile => Explanation {
-            meaning: "The file is not one that RoadSeg wrote, or was changed since by something else.",
+            meaning: "The file is not one that RoadSeg wrote, was changed since by something else, or was being written when the program was stopped or the disk was full.",
             look: "The backup. Nothing of a damaged file is read.",
             refused: "roadseg run --file notes.txt",
             mended: "roadseg run --file roads.seg",

@@ -8,7 +8,7 @@ use Rattle.clap.specs.declared.error.Error.{Error}
 use Rattle.clap.specs.Values.{kind_of}
 use Rattle.rs_command_line.specs.declared.command_line.Asked.{Asked}
 use Rattle.rs_command_line.specs.declared.command_line.Asked.TheVariants.{Create, Csv, Dump, Explain, Run, RunFile, RunWatched, Serve}
-use Rattle.rs_csv.specs.Output.{Ends}
+use Rattle.rs_csv.specs.Output.{Ends, IsAsked}
 use Rattle.rs_csv.specs.declared.filter.Stop.{Stop}
 use Rattle.rs_csv.specs.declared.filter.Wanted.{Wanted}
 use Rattle.rs_machine.specs.Served.{Machine}
@@ -67,12 +67,12 @@ pub record LacksMachine (failure : Option Failure) (unread unread_now before aft
 abbrev pub Runs : Option Failure → Option (List ℕ) → Option (List ℕ) → Option (List ℕ) → Option (List ℕ) → Type 0
 Runs failure unread unread_now before after = ServesLines failure unread unread_now before after ⊎ LacksMachine failure unread unread_now before after
 
--- `csv` writes what is made of the records of what the input told, or a front of it; of the whole input, and nothing was told on the
--- errors stream, where the status is 0. With another status it may read and write nothing.
+-- `csv` writes what is made of the records of what the input told, or a front of it, as lines of the table that some words define; of the
+-- whole input, and nothing was told on the errors stream, where the status is 0. With another status it may read and write nothing.
 abbrev pub WritesLines : ℕ → Option (List ℕ) → Option (List ℕ) → Option (List ℕ) → Option (List ℕ) → Type 0
 WritesLines status unread unread_now before after =
     ((status ≢ SUCCESS) × Keeps unread unread_now × Keeps before after)
-    ⊎ ((wanted : Wanted) × (table : CommandTree) × (outcome : Result Bool Stop) × (told : List ℕ) × Consumes unread unread_now told
+    ⊎ ((wanted : Wanted) × (table : CommandTree) × (IsAsked wanted table ⊎ Keeps before after) × (outcome : Result Bool Stop) × (told : List ℕ) × Consumes unread unread_now told
     × Ends wanted table outcome told unread_now before after × (status ≡ SUCCESS → outcome ≡ Ok false))
 
 -- What is done as it is asked, where this failed or nothing did. Of a file and of the network nothing is known.

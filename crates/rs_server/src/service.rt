@@ -15,7 +15,7 @@ use crate::connection::serve_connections;
 use crate::disks::{close_after, create_on, failure_after, serve_disk};
 use crate::dumping::dump_on;
 use crate::report::{FAILED, Failure, MISUSE, SUCCESS, failure_to_open, report_failure};
-use crate::watch::{LineByLine, Tally, Watched};
+use crate::watch::{Ended, LineByLine, Tally, Watched, tell_unended};
 use crate::words::{convert, explain_refusal};
 use clap::Error;
 use clap::error::ErrorKind;
@@ -178,9 +178,14 @@ fn run_watched<P: AllocGlobal + Files<File = File>, R: Read, W: Write, E: Write>
 {
     let (bails, reports) = flags;
     let mut tally = Tally::new();
-    let failure = serve_watched(rt, file, bails, input, output, &mut tally);
+    let is_ended = Cell::new(true);
+    let mut ended = Ended::new(input, &is_ended);
+    let failure = serve_watched(rt, file, bails, &mut ended, output, &mut tally);
     if reports {
         let _ = tally.report(errors);
+        if !is_ended.get() && !(bails && tally.has_refused()) {
+            let _ = tell_unended(errors);
+        }
     }
     let status = end_with(errors, failure);
     if bails && tally.has_refused() {

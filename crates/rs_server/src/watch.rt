@@ -1,4 +1,4 @@
-//! `run --bail` and `run --report`: the input is handed out line by line, and the replies are counted.
+//! `run --bail` and `run --report`: the input is handed out line by line, the replies are counted, and a last line without its end is told.
 //!
 //! Each wraps a stream, and what serves the lines knows nothing of it. Of such a stream no clause says what it holds.
 
@@ -73,6 +73,31 @@ fn line_bytes(bytes: &[u8]) -> usize
     match bytes.iter().position(|byte| *byte == b'\n') {
         Some(place) => place.saturating_add(1).min(bytes.len()),
         None => bytes.len(),
+    }
+}
+
+/// A reader that keeps in mind whether what it gave ends with a line feed, so that no line was begun and not answered.
+#[derive(Drop)]
+pub struct Ended<'a, R> {
+    input: &'a mut R,
+    is_ended: &'a Cell<bool>,
+}
+
+impl<'a, R> Ended<'a, R> {
+    /// The bytes of this input.
+    pub fn new(input: &'a mut R, is_ended: &'a Cell<bool>) -> Ended<'a, R> {
+        Ended { input, is_ended }
+    }
+}
+
+impl<R: Read> Read for Ended<'_, R> {
+    fn read(&mut self, buf: &mut [u8]) -> io::Result<usize> {
+        let count = self.input.read(buf)?;
+        if count > 0 {
+            self.is_ended
+                .set(buf.get(count.saturating_sub(1)) == Some(&b'\n'));
+        }
+        Ok(count)
     }
 }
 
@@ -158,6 +183,14 @@ impl Tally {
             ],
         )
     }
+}
+
+/// Says that the last line was not answered, since its end is missing.
+pub fn tell_unended<E: Write>(errors: &mut E) -> Result<(), Fault> {
+    put_parts(
+        errors,
+        &[b"roadseg: the last line lacks its line feed and was not answered\n"],
+    )
 }
 
 // Adds the bytes, as far as there is room.

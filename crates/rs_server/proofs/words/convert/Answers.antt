@@ -8,29 +8,29 @@ returns-in_default-clause-lines g c = inl (λ is. omega (arith, c.refuse.ensures
 pub returns-in-Ok-false-clause-lines : goal.returns-in-Ok-false-clause-lines
 returns-in-Ok-false-clause-lines g c =
     let all = c.write_lines.ensures.wrote in
-    inr (_, all.0, c.write_lines.result, all.1.0, all.1.1, all.1.2, λ is. c.in-Ok-false.is ∙ ap Ok c.in-Ok-false.field-0-test)
+    inr (_, all.0, all.1, c.write_lines.result, all.2.0, all.2.1, all.2.2, λ is. c.in-Ok-false.is ∙ ap Ok c.in-Ok-false.field-0-test)
 
 pub returns-in-Ok-true-clause-lines : goal.returns-in-Ok-true-clause-lines
 returns-in-Ok-true-clause-lines g c =
     let all = c.write_lines.ensures.wrote in
-    inr (_, all.0, c.write_lines.result, all.1.0, all.1.1, all.1.2, λ is. absurd (omega (arith, is)))
+    inr (_, all.0, all.1, c.write_lines.result, all.2.0, all.2.1, all.2.2, λ is. absurd (omega (arith, is)))
 
 pub returns-in-Ok-true-2-clause-lines : goal.returns-in-Ok-true-2-clause-lines
 returns-in-Ok-true-2-clause-lines g c =
     let all = c.write_lines.ensures.wrote in
-    inr (_, all.0, c.write_lines.result, all.1.0, all.1.1, all.1.2, λ is. absurd (omega (arith, is)))
+    inr (_, all.0, all.1, c.write_lines.result, all.2.0, all.2.1, all.2.2, λ is. absurd (omega (arith, is)))
 
 pub returns-in-Err-NoTable-clause-lines : goal.returns-in-Err-NoTable-clause-lines
 returns-in-Err-NoTable-clause-lines g c =
     let all = c.write_lines.ensures.wrote in
-    inr (_, all.0, c.write_lines.result, all.1.0, all.1.1, all.1.2, λ is. absurd (omega (arith, c.refuse-in-Err-NoTable.ensures, is)))
+    inr (_, all.0, all.1, c.write_lines.result, all.2.0, all.2.1, all.2.2, λ is. absurd (omega (arith, c.refuse-in-Err-NoTable.ensures, is)))
 
 pub returns-in-Err-OutOfMemory-clause-lines : goal.returns-in-Err-OutOfMemory-clause-lines
 returns-in-Err-OutOfMemory-clause-lines g c =
     let all = c.write_lines.ensures.wrote in
-    inr (_, all.0, c.write_lines.result, all.1.0, all.1.1, all.1.2, λ is. absurd (omega (arith, c.report_failure.ensures.status, is)))
+    inr (_, all.0, all.1, c.write_lines.result, all.2.0, all.2.1, all.2.2, λ is. absurd (omega (arith, c.report_failure.ensures.status, is)))
 
 pub returns-in-Err-Stream-clause-lines : goal.returns-in-Err-Stream-clause-lines
 returns-in-Err-Stream-clause-lines g c =
     let all = c.write_lines.ensures.wrote in
-    inr (_, all.0, c.write_lines.result, all.1.0, all.1.1, all.1.2, λ is. absurd (omega (arith, c.report_failure-in-Err-Stream.ensures.status, is)))
+    inr (_, all.0, all.1, c.write_lines.result, all.2.0, all.2.1, all.2.2, λ is. absurd (omega (arith, c.report_failure-in-Err-Stream.ensures.status, is)))
