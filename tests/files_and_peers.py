@@ -420,6 +420,26 @@ def a_fault_of_the_streams_closes_the_file(program):
     program.expect(["run", "--file", file], b"", b"")
 
 
+def no_file_takes_the_place_of_a_closed_stream(program):
+    moved = b"0 DEFINE REFERENT A K AT 1\n0 DEFINE VIEW v AS WINDOW(pave, A FROM @K TO 2)\n0 MOVE REFERENT A K TO 5\n"
+    file = program.created(DEFINED + moved, b"0 OK 0\n" * 5)
+    data = bytes_at(file)
+    dumped = program.run("dump", "--file", file)
+    for words, place, wanted in (
+        (["run", "--file", file], 0, Ended(1, b"", b"roadseg: read fault\n")),
+        (["run", "--file", file], 1, Ended(1, b"", b"roadseg: write fault\n")),
+        (["run", "--file", file, "--report"], 2, Ended(0, b"", b"")),
+        (["dump", "--file", file], 1, Ended(1, b"", b"roadseg: write fault\n")),
+        (["dump", "--file", file], 2, Ended(1, dumped.out, b"")),
+        (["serve", "--file", file, "--listen", "nowhere"], 1, Ended(1, b"", b"roadseg: write fault\n")),
+        (["serve", "--file", file, "--listen", "nowhere"], 2, Ended(1, b"", b"")),
+    ):
+        closing = partial(os.close, place)
+        done = subprocess.run([program.path, *words], input=b"", capture_output=True, timeout=LONGEST, preexec_fn=closing, check=False)
+        expect("%s without stream %d" % (" ".join(words), place), Ended(done.returncode, done.stdout, done.stderr), wanted)
+        expect("the file after that", bytes_at(file), data)
+
+
 def each_line_is_answered_before_the_next_is_read(program):
     file = program.created()
     replies = [b"0 OK 0\n", b"0 OK 0\n", b"0 OK 1000\n", b"0 OK 0\n"]
@@ -772,6 +792,7 @@ TESTS = [
     files_of_earlier_builds_are_answered_from,
     a_file_in_use_is_not_opened,
     a_fault_of_the_streams_closes_the_file,
+    no_file_takes_the_place_of_a_closed_stream,
     each_line_is_answered_before_the_next_is_read,
     lines_may_come_in_pieces,
     answers_are_cut_where_there_is_no_room,

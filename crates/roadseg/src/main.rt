@@ -1,15 +1,34 @@
 //! The program `roadseg`: it hands the process's words and streams to `rs_server::program`.
 //!
-//! The streams have no buffer: a reply is out once it is written, before the next line is read.
+//! The streams have no buffer: a reply is out once it is written, before the next line is read. No file takes the place of a stream that
+//! is closed when the program starts: what is written to that stream, or read from it, would be written to the file or read from it.
 #![tactic(auto)]
 
-use rs_server::{program, report_unread_words};
+use rs_protocol::Fault;
+use rs_server::{Failure, program, report_failure, report_unread_words};
+use std::fs::{File, OpenOptions};
+use std::io::{Read, Write};
 use std::process::ExitCode;
-use std::rt::Env;
+use std::rt::{Env, Files};
 use std::{env, io};
+
+/// The system's number for a call on a stream that is closed.
+const CLOSED: i32 = 9;
 
 fn main(rt: HostRuntime) -> ExitCode {
     let (mut input, mut output, mut errors) = (rt.stdin(), rt.stdout(), rt.stderr());
+    if is_closed(&output.write(&[])) {
+        return ExitCode::from(report_failure(&mut errors, &Failure::Stream(Fault::Write)));
+    }
+    let lacks_one = is_closed(&input.read(&mut [])) || is_closed(&errors.write(&[]));
+    let places = if lacks_one {
+        held_places(&rt).map(Some)
+    } else {
+        Ok(None)
+    };
+    let Ok(_places) = places else {
+        return ExitCode::from(report_failure(&mut errors, &Failure::Stream(Fault::Read)));
+    };
     let status = match own_words(&rt) {
         Ok(words) => {
             let words = words.as_slice();
@@ -20,8 +39,29 @@ fn main(rt: HostRuntime) -> ExitCode {
     ExitCode::from(status)
 }
 
+/// Whether a call found its stream closed.
+fn is_closed(outcome: &io::Result<usize>) -> bool {
+    match outcome {
+        Ok(_) => false,
+        Err(error) => error.raw_os_error() == Some(CLOSED),
+    }
+}
+
 /// The words that the process was started with, its own name first.
 fn own_words<R: Env + AllocGlobal>(rt: &R) -> io::Result<Vec<String>> {
     let words = env::args(rt)?.collect(rt.alloc())?;
     Ok(words)
+}
+
+/// What stands in the places of standard input and standard error, where these are closed: reading it fails, and what is written to it
+/// goes nowhere. The system gives a file that is opened the least place that is free.
+fn held_places<R: Files<File = File>>(rt: &R) -> io::Result<(File, File)> {
+    let first = nothing(rt)?;
+    let second = nothing(rt)?;
+    Ok((first, second))
+}
+
+/// A file to which bytes may be written, and which keeps none.
+fn nothing<R: Files<File = File>>(rt: &R) -> io::Result<File> {
+    OpenOptions::new().write(true).open(rt, "/dev/null")
 }
