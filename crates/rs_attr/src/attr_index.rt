@@ -7,7 +7,7 @@ ghost use Rattle.std.specs.Prelude.{◌≡◌, ◌≢◌, ◌↔◌, ◌<◌, �
 ghost use Rattle.rs_attr.specs.Entries.{FitsPages, IsColumn, entry_bytes, entry_of, index_form};
 ghost use Rattle.rs_attr.specs.Inner.{changed};
 ghost use Rattle.rs_attr.specs.IndexCalls.{Checks, Edits, FindsWith, KeepsIndex, Leaves, RefusesReading};
-ghost use Rattle.rs_pages.specs.Calls.{OnlyReads};
+ghost use Rattle.rs_pages.specs.Calls.{OnlyReads, Reads};
 ghost use Rattle.rs_page_marks.specs.Marks.{taken};
 ghost use Rattle.rs_records.specs.Listed.{listed, record_width};
 ghost use Rattle.rs_tree.specs.Cells.{with_cell, without_cell};
@@ -156,9 +156,9 @@ impl AttrIndex {
     ) -> Result<bool, Refusal>
         requires width { length cell.now ≡ self.now.field.cell_width }
         ensures rests { OnlyReads P.Pages result pages.old pages.new }
-        ensures found { P.is_tied pages.old → IfOk result (λ found. (entries : List (List ℕ)) (used : ℕ → ℕ)
-            → IsTree (index_form self.now.field) (P.store pages.old).map self.now.working entries used
-            → (IsTrue found ↔ Contains entries (entry_of self.now.field cell.now))) }
+        ensures found { Reads P.Pages (λ map found. (entries : List (List ℕ)) (used : ℕ → ℕ)
+            → IsTree (index_form self.now.field) map self.now.working entries used
+            → (IsTrue found ↔ Contains entries (entry_of self.now.field cell.now))) result pages.old }
         ensures refused { RefusesReading P.Pages self.now result pages.old pages.new }
     {
         let wide = column_width(self.column);

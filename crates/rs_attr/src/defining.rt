@@ -3,7 +3,7 @@
 //! The table's cells are read part by part, so that no more than one part is in memory at a time: a part ends where the next of
 //! the given routes begins. Whatever routes are given, each cell is in one part.
 
-ghost use Rattle.std.specs.Prelude.{◌≡◌, ◌<◌, IfOk, OnOk, false, length, true};
+ghost use Rattle.std.specs.Prelude.{◌≡◌, ◌<◌, IfOk, false, length, true};
 ghost use Rattle.rs_attr.specs.Calls.{Defines, IsFresh};
 ghost use Rattle.rs_attr.specs.Entries.{FitsPages};
 ghost use Rattle.rs_attr.specs.Inner.{Appends, AppendsNone, Enters, EntersNone};
@@ -71,8 +71,8 @@ fn enter<P: Pages>(
     requires order { is_below high.now low.now ≡ false }
     ensures leaves { owners.Leaves P.Pages (EntersNone index.old.field (P.store pages.old).map cells.now.root index.old.working low.now)
         result pages.old pages.new }
-    ensures entered { P.is_tied pages.old → OnOk result (Enters index.old.field (P.store pages.old).map (P.store pages.new).map
-        cells.now.root index.old.working index.new.working low.now high.now) }
+    ensures entered { owners.Makes P.Pages (λ old new _. Enters index.old.field old new cells.now.root
+        index.old.working index.new.working low.now high.now) result pages.old pages.new }
     ensures field { index.new.field ≡ index.old.field }
     ensures committed { index.new.committed ≡ index.old.committed }
 {
@@ -91,8 +91,8 @@ fn append<P: Pages>(
     requires width { record_width cells.now ≡ index.old.field.cell_width }
     ensures leaves { owners.Leaves P.Pages (AppendsNone index.old.field (P.store pages.old).map index.old.working (listed cells.now))
         result pages.old pages.new }
-    ensures appended { P.is_tied pages.old → OnOk result (Appends index.old.field (P.store pages.old).map (P.store pages.new).map
-        index.old.working index.new.working (listed cells.now)) }
+    ensures appended { owners.Makes P.Pages (λ old new _. Appends index.old.field old new
+        index.old.working index.new.working (listed cells.now)) result pages.old pages.new }
     ensures field { index.new.field ≡ index.old.field }
     ensures committed { index.new.committed ≡ index.old.committed }
 {

@@ -2,8 +2,8 @@
 //!
 //! It reads one page a level. Each is only lent: nothing of it is copied but the number of the next page, and no memory is taken.
 
-ghost use Rattle.std.specs.Prelude.{◌≡◌, ◌≢◌, ◌++◌, ◌↔◌, ℕ, List, [], ◌∷◌, Contains, Err, IfErr, IfOk, IsTrue, length};
-ghost use Rattle.rs_pages.specs.Calls.{OnlyReads};
+ghost use Rattle.std.specs.Prelude.{◌≡◌, ◌≢◌, ◌++◌, ◌↔◌, ℕ, List, [], ◌∷◌, Contains, Err, IfErr, IsTrue, length};
+ghost use Rattle.rs_pages.specs.Calls.{Lacks, OnlyReads, Reads};
 ghost use Rattle.rs_tree.specs.Calls.{RefusesReading};
 ghost use Rattle.rs_tree.specs.Forms.{form_in};
 ghost use Rattle.rs_tree.specs.Tree.{IsTree};
@@ -28,9 +28,8 @@ pub fn contains<P: Pages, S: Summary>(
     requires width { length cell.now ≡ layout.width }
     requires after { after.now ≡ cell.now ++ 0 ∷ [] }
     ensures rests { OnlyReads P.Pages result pages.old pages.new }
-    ensures found { P.is_tied pages.old → IfOk result (λ found. (cells : List (List ℕ)) (used : ℕ → ℕ)
-        → IsTree (form_in S.Summary layout) (P.store pages.old).map root cells used
-        → (IsTrue found ↔ Contains cells cell.now)) }
+    ensures found { Reads P.Pages (λ map found. (cells : List (List ℕ)) (used : ℕ → ℕ)
+        → IsTree (form_in S.Summary layout) map root cells used → (IsTrue found ↔ Contains cells cell.now)) result pages.old }
     ensures refused { RefusesReading P.Pages (form_in S.Summary layout) root result pages.old pages.new }
     ensures memory { result ≢ Err Refusal.OutOfMemory }
 {
@@ -54,11 +53,9 @@ fn contains_below<P: Pages, S: Summary>(
 ) -> Result<bool, Refusal>
     requires { after.now ≡ cell.now ++ 0 ∷ [] }
     ensures rests { OnlyReads P.Pages result pages.old pages.new }
-    ensures found { P.is_tied pages.old
-        → IfOk result (Tells (form_in S.Summary layout) (P.store pages.old).map number cell.now) }
+    ensures found { Reads P.Pages (λ map. Tells (form_in S.Summary layout) map number cell.now) result pages.old }
     ensures refused { IfErr result IsReadRefusal }
-    ensures damaged { result ≡ Err Refusal.DamagedFile → P.is_tied pages.old
-        → HasNoTop (form_in S.Summary layout) (P.store pages.old).map number levels }
+    ensures damaged { Lacks P.Pages (λ map. HasNoTop (form_in S.Summary layout) map number levels) result pages.old }
 {
     match look::<P, S>(pages, layout, number, cell, after)? {
         Step::End(found) => Ok(found),

@@ -1,7 +1,7 @@
 //! What one page of a tree tells of a cell: whether it is there, or which page leads to it.
 
-ghost use Rattle.std.specs.Prelude.{◌≡◌, ◌≤◌, ◌*◌, ◌↔◌, ◌++◌, ℕ, [], ◌∷◌, Some, Contains, IfOk, IfErr, IsOkUnless, IsTrue, OnErr};
-ghost use Rattle.rs_pages.specs.Calls.{OnlyReads};
+ghost use Rattle.std.specs.Prelude.{◌≡◌, ◌≤◌, ◌*◌, ◌↔◌, ◌++◌, [], ◌∷◌, Some, Contains, IfOk, IfErr, IsOkUnless, IsTrue, OnErr};
+ghost use Rattle.rs_pages.specs.Calls.{OnlyReads, Reads};
 ghost use Rattle.rs_pages.specs.PageMap.{PageMap};
 ghost use Rattle.rs_records.specs.Order.{Ascends};
 ghost use Rattle.rs_records.specs.Records.{records};
@@ -39,8 +39,7 @@ pub fn look<P: Pages, S: Summary>(
 ) -> Result<Step, Refusal>
     requires { after.now ≡ cell.now ++ 0 ∷ [] }
     ensures rests { OnlyReads P.Pages result pages.old pages.new }
-    ensures leads { P.is_tied pages.old
-        → IfOk result (Leads (form_in S.Summary layout) (P.store pages.old).map number cell.now) }
+    ensures leads { Reads P.Pages (λ map. Leads (form_in S.Summary layout) map number cell.now) result pages.old }
     ensures refused { IfErr result (RefusesStep (P.is_tied pages.old) (P.store pages.old).map number layout) }
 {
     match pages.page(number) {

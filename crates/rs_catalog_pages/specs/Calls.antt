@@ -1,11 +1,11 @@
 -- What the calls on the catalogue and the directory in pages answer and do.
-use Rattle.std.specs.Prelude.{◌≡◌, ◌⊎◌, ℕ, List, Vec, IfErr, IfOk, OnErr, OnOk, Result}
+use Rattle.std.specs.Prelude.{◌≡◌, ◌⊎◌, ℕ, List, Vec, Err, IfErr, IfOk, OnErr, OnOk, Result}
 use Rattle.std.specs.declared.alloc.Global.{Global}
 use Rattle.rs_refusal.specs.declared.refusal.Refusal.{Refusal}
 use Rattle.rs_refusal.specs.declared.refusal.Refusal.TheVariants as refusal
 use Rattle.rs_pages.specs.Store.{Rests}
 use Rattle.rs_pages.specs.declared.pages.Pages.{Ghosts}
-use Rattle.rs_catalog_pages.specs.Directory.{HasDirectory, HasNoDirectory, StoresDirectory}
+use Rattle.rs_catalog_pages.specs.Directory.{HasDirectory, HasNoDirectory, HasSomeDirectory, StoresDirectory}
 use Rattle.rs_catalog_pages.specs.Items.{CatalogueItems}
 use Rattle.rs_catalog_pages.specs.Directory.{DirectoryItems}
 use Rattle.rs_catalog_pages.specs.Loading.{HasNoFreshCatalogue, LoadsCatalogue}
@@ -38,6 +38,10 @@ module _ {P : Type 0} (pages : Ghosts P) where
   -- 94 only where page 1 is no directory
   abbrev pub RefusesToLoadDirectory : Result StoredDirectory Refusal → P → Type 0
   RefusesToLoadDirectory result old = IfErr result (RefusesToRead (pages.is_tied old) (HasNoDirectory (pages.store old).map))
+
+  -- 90 on an honest disk only where the numbers of page 1 are a directory's, so that room for it was wanted
+  abbrev pub WantsMemoryForDirectory : Result StoredDirectory Refusal → P → Type 0
+  WantsMemoryForDirectory result old = pages.is_tied old → result ≡ Err refusal.OutOfMemory → HasSomeDirectory (pages.store old).map
 
   -- what storing definitions leaves on any disk, and which refusals may come: 94 on an honest disk only where these pages, each
   -- one owner's, hold no bytes of a catalogue

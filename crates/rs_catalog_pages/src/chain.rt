@@ -2,9 +2,9 @@
 //!
 //! Each page is marked before it is read, so that none is read twice and reading ends on pages that are no catalogue.
 
-ghost use Rattle.std.specs.Prelude.{◌≡◌, ◌⊎◌, ◌≤◌, ◌+◌, ℕ, IfOk, IfErr, OnOk, Err, length};
+ghost use Rattle.std.specs.Prelude.{◌≡◌, ◌⊎◌, ◌≤◌, ◌+◌, ℕ, IfErr, OnOk, Err, length};
 ghost use Rattle.rs_page_owners.specs.Counts.{◌&◌, one_at};
-ghost use Rattle.rs_pages.specs.Calls.{OnlyReads};
+ghost use Rattle.rs_pages.specs.Calls.{Lacks, OnlyReads, Reads};
 ghost use Rattle.rs_page_marks.specs.Marks.{taken};
 ghost use Rattle.rs_catalog_pages.specs.Chain.{HoldsNoFreshBytes};
 ghost use Rattle.rs_catalog_pages.specs.Loading.{ReadsBytes};
@@ -27,11 +27,10 @@ pub(crate) fn read_bytes<P: Pages>(
 ) -> Result<(Vec<PageNumber>, Vec<u8>), Refusal>
     ensures rests { OnlyReads P.Pages result pages.old pages.new }
     ensures size { length reached.new ≡ length reached.old }
-    ensures reads { P.is_tied pages.old → IfOk result (λ read. ReadsBytes (P.store pages.old).map (taken reached.old)
-        (taken reached.new) read.0.items read.1.items) }
+    ensures reads { Reads P.Pages (λ map read. ReadsBytes map (taken reached.old) (taken reached.new) read.0.items read.1.items)
+        result pages.old }
     ensures refused { IfErr result (λ why. (why ≡ Refusal.OutOfMemory) ⊎ (why ≡ Refusal.Disk) ⊎ (why ≡ Refusal.DamagedFile)) }
-    ensures damaged { P.is_tied pages.old → result ≡ Err Refusal.DamagedFile
-        → HoldsNoFreshBytes (P.store pages.old).map (taken reached.old) }
+    ensures damaged { Lacks P.Pages (λ map. HoldsNoFreshBytes map (taken reached.old)) result pages.old }
 {
     let (first, total) = pages.catalogue();
     let size = total as usize;
@@ -61,14 +60,12 @@ fn read_part<P: Pages>(
 ) -> Result<PageNumber, Refusal>
     ensures rests { OnlyReads P.Pages result pages.old pages.new }
     ensures size { length reached.new ≡ length reached.old }
-    ensures reads { IfOk result (λ next. P.is_tied pages.old → ReadsPart (P.store pages.old).map number next left
-        bytes.old.items bytes.new.items) }
+    ensures reads { Reads P.Pages (λ map next. ReadsPart map number next left bytes.old.items bytes.new.items) result pages.old }
     ensures within { OnOk result (length bytes.new.items ≤ length bytes.old.items + left) }
     ensures fresh { OnOk result (taken reached.old number ≡ 0) }
     ensures reaches { OnOk result ((n : ℕ) → taken reached.new n ≡ (taken reached.old & one_at number) n) }
     ensures refused { IfErr result (λ why. (why ≡ Refusal.OutOfMemory) ⊎ (why ≡ Refusal.Disk) ⊎ (why ≡ Refusal.DamagedFile)) }
-    ensures damaged { P.is_tied pages.old → result ≡ Err Refusal.DamagedFile
-        → HasNoFreshPart (P.store pages.old).map number left (taken reached.old) }
+    ensures damaged { Lacks P.Pages (λ map. HasNoFreshPart map number left (taken reached.old)) result pages.old }
 {
     let count = pages.count();
     if !reached.reach(number) {

@@ -8,8 +8,8 @@ ghost use Rattle.rs_page.specs.PageBytes.{empty_header};
 ghost use Rattle.rs_page.specs.declared.header.PageKind.TheVariants as kinds;
 ghost use Rattle.rs_pages.specs.Calls.{OnlyReads};
 ghost use Rattle.rs_pages.specs.PageMap.{HasNoFit};
-ghost use Rattle.rs_catalog_pages.specs.Calls.{LoadsDirectory, RefusesToLoadDirectory, StaysRefused, StoresNewDirectory};
-ghost use Rattle.rs_catalog_pages.specs.Directory.{DirectoryItems, HasSomeDirectory, IsDirectory, IsSomeDirectory, SaysDirectory};
+ghost use Rattle.rs_catalog_pages.specs.Calls.{LoadsDirectory, RefusesToLoadDirectory, StaysRefused, StoresNewDirectory, WantsMemoryForDirectory};
+ghost use Rattle.rs_catalog_pages.specs.Directory.{DirectoryItems, IsDirectory, IsSomeDirectory, SaysDirectory};
 ghost use Rattle.rs_catalog_pages.specs.Fitting.{FitsDirectory};
 ghost use Rattle.rs_catalog_pages.specs.Parts.{content};
 ghost use Rattle.rs_catalog_pages.specs.Said.{said_directory};
@@ -32,7 +32,7 @@ pub fn load_directory<P: Pages>(alloc: Global, pages: &mut P) -> Result<StoredDi
     ensures loads { LoadsDirectory P.Pages result pages.old }
     ensures fits { IfOk result (λ directory. FitsDirectory (said_directory directory)) }
     ensures refused { RefusesToLoadDirectory P.Pages result pages.old }
-    ensures memory { P.is_tied pages.old → result ≡ Err Refusal.OutOfMemory → HasSomeDirectory (P.store pages.old).map }
+    ensures memory { WantsMemoryForDirectory P.Pages result pages.old }
 {
     match pages.page(PageNumber::new(1)) {
         Ok(page) => directory_of(alloc, page),

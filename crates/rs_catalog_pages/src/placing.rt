@@ -1,7 +1,7 @@
 //! Brings as many pages into use for the catalogue as its bytes need, and releases the others.
 
 ghost use Rattle.std.specs.Prelude.{◌≡◌, ◌≢◌, ◌≤◌, ◌<◌, ◌+◌, ◌-◌, true, Err, OnOk, length, max, take};
-ghost use Rattle.rs_page_owners.specs.Calls.{WorksOn};
+ghost use Rattle.rs_page_owners.specs.Calls.{Makes, WorksOn};
 ghost use Rattle.rs_catalog_pages.specs.Storing.{MovesPages, AreNotOwn};
 
 use rs_page::{ContentKind, PageNumber};
@@ -18,8 +18,8 @@ pub(crate) fn grow<P: Pages>(
     requires begun { (P.store pages.old).is_begun ≡ true }
     ensures keeps { P.keeps pages.old pages.new }
     ensures works { WorksOn P.Pages (AreNotOwn (P.store pages.old).map numbers.old.items) result pages.old pages.new }
-    ensures moves { P.is_tied pages.old → OnOk result (MovesPages (P.store pages.old).map (P.store pages.new).map
-        numbers.old.items numbers.new.items) }
+    ensures moves { Makes P.Pages (λ old new _. MovesPages old new numbers.old.items numbers.new.items) result
+        pages.old pages.new }
     ensures enough { OnOk result (count ≤ length numbers.new.items) }
     ensures kept { OnOk result (take (length numbers.old.items) numbers.new.items ≡ numbers.old.items) }
     ensures few { OnOk result (length numbers.new.items ≤ max count (length numbers.old.items)) }
@@ -45,8 +45,8 @@ pub(crate) fn shrink<P: Pages>(
     requires enough { count ≤ length numbers.old.items }
     ensures keeps { P.keeps pages.old pages.new }
     ensures works { WorksOn P.Pages (AreNotOwn (P.store pages.old).map numbers.old.items) result pages.old pages.new }
-    ensures moves { P.is_tied pages.old → OnOk result (MovesPages (P.store pages.old).map (P.store pages.new).map
-        numbers.old.items numbers.new.items) }
+    ensures moves { Makes P.Pages (λ old new _. MovesPages old new numbers.old.items numbers.new.items) result
+        pages.old pages.new }
     ensures enough { OnOk result (length numbers.new.items ≡ count) }
     ensures kept { OnOk result (numbers.new.items ≡ take (length numbers.new.items) numbers.old.items) }
     ensures as_many { (P.store pages.new).map.fields.pages ≡ (P.store pages.old).map.fields.pages }
@@ -63,8 +63,8 @@ fn release_last<P: Pages>(pages: &mut P, numbers: &mut Vec<PageNumber>) -> Resul
     requires begun { (P.store pages.old).is_begun ≡ true }
     ensures keeps { P.keeps pages.old pages.new }
     ensures works { WorksOn P.Pages (AreNotOwn (P.store pages.old).map numbers.old.items) result pages.old pages.new }
-    ensures moves { P.is_tied pages.old → OnOk result (MovesPages (P.store pages.old).map (P.store pages.new).map
-        numbers.old.items numbers.new.items) }
+    ensures moves { Makes P.Pages (λ old new _. MovesPages old new numbers.old.items numbers.new.items) result
+        pages.old pages.new }
     ensures fewer { OnOk result (length numbers.new.items ≡ length numbers.old.items - 1) }
     ensures kept { OnOk result (numbers.new.items ≡ take (length numbers.new.items) numbers.old.items) }
     ensures as_many { (P.store pages.new).map.fields.pages ≡ (P.store pages.old).map.fields.pages }

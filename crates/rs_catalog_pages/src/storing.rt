@@ -2,8 +2,8 @@
 //!
 //! It keeps the pages that it has, and takes or gives back those that are missing or too many.
 
-ghost use Rattle.std.specs.Prelude.{◌≡◌, ◌≢◌, ◌≤◌, ◌<◌, ◌+◌, ◌-◌, ◌*◌, ◌^◌, true, Err, IfOk, OnOk, OnErr, length};
-ghost use Rattle.rs_page_owners.specs.Calls.{WorksOn};
+ghost use Rattle.std.specs.Prelude.{◌≡◌, ◌≢◌, ◌≤◌, ◌<◌, ◌+◌, ◌-◌, ◌*◌, ◌^◌, true, Err, IfOk, length};
+ghost use Rattle.rs_page_owners.specs.Calls.{Makes, WorksOn};
 ghost use Rattle.rs_pages.specs.PageMap.{HasNoFit};
 ghost use Rattle.rs_catalog_pages.specs.Calls.{LeavesCatalogue, StaysRefused, Stores};
 ghost use Rattle.rs_catalog_pages.specs.Fitting.{FitsCatalogue, IsShort};
@@ -76,8 +76,8 @@ fn write_parts<P: Pages>(pages: &mut P, numbers: &[PageNumber], bytes: &[u8]) ->
     requires room { length bytes.now ≤ length numbers.now * 4080 }
     ensures keeps { P.keeps pages.old pages.new }
     ensures works { WorksOn P.Pages (AreNotOwn (P.store pages.old).map numbers.now) result pages.old pages.new }
-    ensures writes { P.is_tied pages.old → OnOk result (WritesParts (P.store pages.old).map (P.store pages.new).map
-        numbers.now bytes.now (number_from numbers.now 0)) }
+    ensures writes { Makes P.Pages (λ old new _. WritesParts old new numbers.now bytes.now (number_from numbers.now 0)) result
+        pages.old pages.new }
     ensures as_many { (P.store pages.new).map.fields.pages ≡ (P.store pages.old).map.fields.pages }
     ensures room { result ≢ Err Refusal.FileFull }
 {
@@ -129,8 +129,7 @@ fn write_part<P: Pages>(
     requires fits { length part.now ≤ 4080 }
     ensures keeps { P.keeps pages.old pages.new }
     ensures works { WorksOn P.Pages (HasNoFit (P.store pages.old).map number) result pages.old pages.new }
-    ensures written { P.is_tied pages.old → OnOk result (WritesPart (P.store pages.old).map (P.store pages.new).map number
-        next part.now) }
+    ensures written { Makes P.Pages (λ old new _. WritesPart old new number next part.now) result pages.old pages.new }
     ensures stays { StaysRefused P.Pages result pages.old pages.new }
     ensures as_many { (P.store pages.new).map.fields.pages ≡ (P.store pages.old).map.fields.pages }
     ensures room { result ≢ Err Refusal.FileFull }

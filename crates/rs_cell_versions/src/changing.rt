@@ -2,8 +2,8 @@
 //!
 //! A step that is refused may have changed pages, and the tree.
 
-ghost use Rattle.std.specs.Prelude.{◌≡◌, ◌≢◌, ◌<◌, [], ◌∷◌, IsTrue, IfOk, OnOk, OnErr, true, length, Err};
-ghost use Rattle.rs_page_owners.specs.Calls.{WorksOn};
+ghost use Rattle.std.specs.Prelude.{◌≡◌, ◌≢◌, ◌<◌, [], ◌∷◌, IsTrue, IfOk, OnErr, true, length, Err};
+ghost use Rattle.rs_page_owners.specs.Calls.{Makes, WorksOn};
 ghost use Rattle.rs_records.specs.Listed.{listed};
 ghost use Rattle.rs_tree.specs.Calls.{IsNotShared};
 ghost use Rattle.rs_tree.specs.Forms.{form};
@@ -51,8 +51,8 @@ pub(crate) fn put<P: Pages, S: Summary>(
     ensures keeps { P.keeps pages.old pages.new }
     ensures works { WorksOn P.Pages (IsNotShared
         (form S.Summary tree.old.width) (P.store pages.old).map tree.old.root) result pages.old pages.new }
-    ensures puts { P.is_tied pages.old → IfOk result (PutsOne (form S.Summary tree.old.width)
-        (P.store pages.old).map (P.store pages.new).map tree.old.root living tree.new.root cell.now) }
+    ensures puts { Makes P.Pages (λ old new. PutsOne (form S.Summary tree.old.width) old new
+        tree.old.root living tree.new.root cell.now) result pages.old pages.new }
     ensures width { tree.new.width ≡ tree.old.width }
     ensures stays { OnErr result (tree.new ≡ tree.old) }
 {
@@ -84,8 +84,8 @@ pub(crate) fn end<P: Pages, S: Summary>(
     ensures keeps { P.keeps pages.old pages.new }
     ensures works { WorksOn P.Pages (IsNotShared
         (form S.Summary tree.old.width) (P.store pages.old).map tree.old.root) result pages.old pages.new }
-    ensures ends { P.is_tied pages.old → IfOk result (TellsEnd (form S.Summary tree.old.width)
-        (P.store pages.old).map (P.store pages.new).map tree.old.root living tree.new.root version cell.now) }
+    ensures ends { Makes P.Pages (λ old new. TellsEnd (form S.Summary tree.old.width) old new
+        tree.old.root living tree.new.root version cell.now) result pages.old pages.new }
     ensures late { IfOk result (λ answer. answer.listed ≡ true → born_of cell.now < version) }
     ensures width { tree.new.width ≡ tree.old.width }
 {
@@ -124,9 +124,8 @@ pub(crate) fn take_out<P: Pages, S: Summary>(
     ensures works { WorksOn P.Pages (HoldsNoneFirst
         (form S.Summary tree.old.width) (P.store pages.old).map tree.old.root (listed cells.now)) result pages.old pages.new }
     ensures room { result ≢ Err Refusal.FileFull }
-    ensures taken { P.is_tied pages.old → OnOk result (TakesOut
-        (form S.Summary tree.old.width) (P.store pages.old).map (P.store pages.new).map
-        tree.old.root tree.new.root (listed cells.now)) }
+    ensures taken { Makes P.Pages (λ old new _. TakesOut (form S.Summary tree.old.width) old new
+        tree.old.root tree.new.root (listed cells.now)) result pages.old pages.new }
     ensures width { tree.new.width ≡ tree.old.width }
 {
     for index in 0..cells.len() {
@@ -146,9 +145,8 @@ fn take_one<P: Pages, S: Summary>(
     ensures works { WorksOn P.Pages (HoldsNoneFirst
         (form S.Summary tree.old.width) (P.store pages.old).map tree.old.root (cell.now ∷ [])) result pages.old pages.new }
     ensures room { result ≢ Err Refusal.FileFull }
-    ensures taken { P.is_tied pages.old → OnOk result (TakesOut
-        (form S.Summary tree.old.width) (P.store pages.old).map (P.store pages.new).map
-        tree.old.root tree.new.root (cell.now ∷ [])) }
+    ensures taken { Makes P.Pages (λ old new _. TakesOut (form S.Summary tree.old.width) old new
+        tree.old.root tree.new.root (cell.now ∷ [])) result pages.old pages.new }
     ensures width { tree.new.width ≡ tree.old.width }
 {
     let found = tree.remove(pages, cell)?;

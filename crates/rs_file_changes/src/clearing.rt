@@ -7,6 +7,7 @@ ghost use Rattle.rs_cell_versions.specs.Version.{HaveDiedBy};
 ghost use Rattle.rs_file_changes.specs.Calls.{Clears, Leaves, StartsAt};
 ghost use Rattle.rs_file_changes.specs.Inner.{ClearsAllReferents, ClearsOpened, ClearsPlaces};
 ghost use Rattle.rs_file_changes.specs.Parts.{HaveAllDiedBy, IsReady, KeepsCommitted, KeepsOpened, Makes};
+ghost use Rattle.rs_page_owners.specs.Calls as owners;
 
 use rs_attr::vacuum;
 use rs_contents::{OpenedFile, OpenedTable};
@@ -78,8 +79,9 @@ fn clear_tables<P: Pages>(
     requires ready { IsReady file.old }
     requires places { to ≤ length file.old.tables.items }
     ensures leaves { Leaves P.Pages file.old result pages.old pages.new }
-    ensures clears { P.is_tied pages.old → IfOk result (λ gone. (accepted : ℕ)
-        → Makes (P.store pages.old).map (P.store pages.new).map file.old file.new accepted accepted (ClearsPlaces bounds.oldest bounds.most gone from to)) }
+    ensures clears { owners.Makes P.Pages (λ old new gone. (accepted : ℕ)
+        → Makes old new file.old file.new accepted accepted (ClearsPlaces bounds.oldest bounds.most gone from to)) result
+        pages.old pages.new }
     ensures few { IfOk result (λ gone. gone ≤ bounds.most) }
     ensures keeps { KeepsCommitted file.old file.new }
     ensures order { (version : ℕ) → HaveAllDiedBy version file.old → HaveAllDiedBy version file.new }
@@ -107,8 +109,9 @@ fn clear_place<P: Pages>(
     requires ready { IsReady file.old }
     requires place { place < length file.old.tables.items }
     ensures leaves { Leaves P.Pages file.old result pages.old pages.new }
-    ensures clears { P.is_tied pages.old → IfOk result (λ gone. (accepted : ℕ)
-        → Makes (P.store pages.old).map (P.store pages.new).map file.old file.new accepted accepted (ClearsPlaces oldest most gone place (place + 1))) }
+    ensures clears { owners.Makes P.Pages (λ old new gone. (accepted : ℕ)
+        → Makes old new file.old file.new accepted accepted (ClearsPlaces oldest most gone place (place + 1))) result
+        pages.old pages.new }
     ensures few { IfOk result (λ gone. gone ≤ most) }
     ensures keeps { KeepsCommitted file.old file.new }
     ensures order { (version : ℕ) → HaveAllDiedBy version file.old → HaveAllDiedBy version file.new }
@@ -128,7 +131,8 @@ fn clear_table<P: Pages>(
     requires begun { (P.store pages.old).is_begun ≡ true }
     requires indexes { AreOn table.old.records.types table.old.indexes.items }
     ensures leaves { attr.Leaves P.Pages table.old.records table.old.indexes.items result pages.old pages.new }
-    ensures clears { P.is_tied pages.old → IfOk result (ClearsOpened (P.store pages.old).map (P.store pages.new).map table.old table.new oldest most) }
+    ensures clears { owners.Makes P.Pages (λ old new. ClearsOpened old new table.old table.new oldest most) result
+        pages.old pages.new }
     ensures few { IfOk result (λ gone. gone ≤ most) }
     ensures table { KeepsOpened table.old table.new }
     ensures order { (version : ℕ) → HaveDiedBy version table.old.records.working.dead → HaveDiedBy version table.new.records.working.dead }
@@ -155,8 +159,8 @@ fn clear_referents<P: Pages>(
 ) -> Result<u64, Refusal>
     requires begun { (P.store pages.old).is_begun ≡ true }
     ensures leaves { Leaves P.Pages file.old result pages.old pages.new }
-    ensures clears { P.is_tied pages.old → IfOk result (λ gone. (accepted : ℕ)
-        → Makes (P.store pages.old).map (P.store pages.new).map file.old file.new accepted accepted (ClearsAllReferents oldest most gone)) }
+    ensures clears { owners.Makes P.Pages (λ old new gone. (accepted : ℕ)
+        → Makes old new file.old file.new accepted accepted (ClearsAllReferents oldest most gone)) result pages.old pages.new }
     ensures few { IfOk result (λ gone. gone ≤ most) }
     ensures keeps { KeepsCommitted file.old file.new }
     ensures order { (version : ℕ) → HaveAllDiedBy version file.old → HaveAllDiedBy version file.new }

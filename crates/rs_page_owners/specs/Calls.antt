@@ -1,5 +1,5 @@
 -- What a call leaves of the pages that it is lent to change.
-use Rattle.std.specs.Prelude.{Result, IfOk}
+use Rattle.std.specs.Prelude.{◌≡◌, ℕ, List, Some, Result, IfOk}
 use Rattle.rs_refusal.specs.declared.refusal.Refusal.{Refusal}
 use Rattle.rs_pages.specs.PageMap.{PageMap}
 use Rattle.rs_pages.specs.declared.pages.Pages.{Ghosts}
@@ -17,3 +17,7 @@ pub record Leaves {S T : Type 0} (pages : Ghosts S) (damaged : Type 0) (result :
 -- what a call that is not refused makes of the pages of an honest disk, those before it and after it, with its answer
 abbrev pub Makes : {S T : Type 0} → Ghosts S → (PageMap → PageMap → T → Type 0) → Result T Refusal → S → S → Type 0
 Makes pages made result old new = pages.is_tied old → IfOk result (made (pages.store old).map (pages.store new).map)
+
+-- the same of the bytes of the working page with this number
+abbrev pub MakesOf : {S : Type 0} → Ghosts S → ℕ → (PageMap → PageMap → List ℕ → Type 0) → S → S → Type 0
+MakesOf pages number made old new = pages.is_tied old → (page : List ℕ) → (pages.store old).map.page number ≡ Some page → made (pages.store old).map (pages.store new).map page

@@ -1,5 +1,5 @@
 -- What the calls of a tree answer.
-use Rattle.std.specs.Prelude.{◌≡◌, ◌⊎◌, ◌≤◌, ◌*◌, ◌+◌, ℕ, Bool, ◌||◌, List, length, filter, Result, IfOk, IfErr}
+use Rattle.std.specs.Prelude.{◌≡◌, ◌⊎◌, ◌≤◌, ◌*◌, ◌+◌, ℕ, Bool, ◌||◌, List, length, filter, Result, IfOk, IfErr, OnOk}
 use Rattle.rs_refusal.specs.declared.refusal.Refusal.{Refusal}
 use Rattle.rs_refusal.specs.declared.refusal.Refusal.TheVariants as refusal
 use Rattle.rs_pages.specs.PageMap.{PageMap}
@@ -58,6 +58,11 @@ Ranges pages form root low high result old = pages.is_tied old → IfOk result (
 abbrev pub Descends : {P S : Type 0} → Ghosts P → Summaries S → Form → ℕ → List ℕ → List ℕ → (S → Bool → Type 0) → Result (Cells × ℕ) Refusal → P → Type 0
 Descends {S = S} pages summaries form root low high answers result old = pages.is_tied old → (test : S → Bool) → Computes answers test → AcceptsParts summaries.join test
     → IfOk result (λ found. Finds form (pages.store old).map root low high (λ cell. test (summaries.of cell)) (listed found.0) found.1)
+
+-- what a walk goes through, by the test of cells that stands for the test that is answered, if that accepts parts with their join
+abbrev pub WalksBy : {P S T : Type 0} → Ghosts P → Summaries S → (S → Bool → Type 0) → (PageMap → (List ℕ → Bool) → Type 0) → Result T Refusal → P → Type 0
+WalksBy {S = S} pages summaries answers walks result old = pages.is_tied old → (test : S → Bool) → Computes answers test → AcceptsParts summaries.join test
+    → OnOk result (walks (pages.store old).map (λ cell. test (summaries.of cell)))
 
 -- why it is refused: 94 only where no tree stands there
 abbrev pub RefusesReading : {P T : Type 0} → Ghosts P → Form → ℕ → Result T Refusal → P → P → Type 0

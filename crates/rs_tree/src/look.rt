@@ -5,7 +5,7 @@
 
 ghost use Rattle.std.specs.Prelude.{◌≡◌, ◌⊎◌, ◌<◌, ◌≤◌, ◌+◌, Bool, IfErr, IfNone, IfOk, IfSome, OnOk, Err};
 ghost use Rattle.std.specs.Fn.{FnReturnsAt};
-ghost use Rattle.rs_pages.specs.Calls.{OnlyReads};
+ghost use Rattle.rs_pages.specs.Calls.{Lacks, OnlyReads};
 ghost use Rattle.rs_records.specs.Listed.{listed, record_width};
 ghost use Rattle.rs_tree.specs.Asking.{Computes};
 ghost use Rattle.rs_tree.specs.Looking.{FindsInner, FindsLeaf, HasInner, HasLeaf};
@@ -46,8 +46,7 @@ pub fn look<P: Pages, S: Summary, F: Fn(&S) -> bool>(
     ensures counted { OnOk result (left.old ≡ left.new + 1) }
     ensures fewer { left.new ≤ left.old }
     ensures refused { IfErr result IsWalkRefusal }
-    ensures damaged { result ≡ Err Refusal.DamagedFile → P.is_tied pages.old → 0 < left.old
-        → HasNoNode (P.store pages.old).map number wanted.now.layout }
+    ensures damaged { Lacks P.Pages (λ map. 0 < left.old → HasNoNode map number wanted.now.layout) result pages.old }
 {
     if *left == 0 {
         return Err(Refusal::DamagedFile);

@@ -2,18 +2,17 @@
 //!
 //! It goes down so many levels at the most and reads so many pages, so that it ends on pages that are no tree.
 
-ghost use Rattle.std.specs.Prelude.{◌≡◌, ◌<◌, ◌≤◌, ◌*◌, Bool, IfErr, OnOk, Err, length};
+ghost use Rattle.std.specs.Prelude.{◌≡◌, ◌<◌, ◌≤◌, ◌*◌, IfErr, length};
 ghost use Rattle.std.specs.Fn.{FnReturnsAt};
 ghost use Rattle.rs_records.specs.Listed.{listed, record_width};
 ghost use Rattle.rs_records.specs.Records.{records, keys};
-ghost use Rattle.rs_tree.specs.Calls.{AcceptsParts};
+ghost use Rattle.rs_tree.specs.Calls.{WalksBy};
 ghost use Rattle.rs_tree.specs.Content.{content};
 ghost use Rattle.rs_tree.specs.Form.{least_from};
 ghost use Rattle.rs_tree.specs.Layouts.{entry_bytes};
-ghost use Rattle.rs_tree.specs.Asking.{Computes};
 ghost use Rattle.rs_tree.specs.Walking.{Walks, WalksEntry, WalksEntries, ReadsOnce, ReadsEntryOnce, ReadsEntriesOnce, IsWalkRefusal, HasNoPart, HasNoPartOfEntry, HasNoPartsOfEntries, IsRange};
 ghost use Rattle.rs_tree.specs.Forms.{form_in};
-ghost use Rattle.rs_pages.specs.Calls.{OnlyReads};
+ghost use Rattle.rs_pages.specs.Calls.{Lacks, OnlyReads, Reads};
 
 use crate::asking::accepts;
 use crate::entry::{child, summary};
@@ -42,17 +41,14 @@ pub fn walk<P: Pages, S: Summary, F: Fn(&S) -> bool>(
     ensures rests { OnlyReads P.Pages result pages.old pages.new }
     ensures width { record_width cells.new ≡ wanted.now.layout.width }
     ensures fewer { left.new ≤ left.old }
-    ensures walks { OnOk result (P.is_tied pages.old → (test : S → Bool) → Computes (FnReturnsAt F.Fn wanted.now.keep.now) test
-        → AcceptsParts S.join test
-        → Walks (form_in S.Summary wanted.now.layout) (P.store pages.old).map number
-        wanted.now.low.now wanted.now.high.now (λ cell. test (S.of cell)) (listed cells.old) (listed cells.new) left.old left.new) }
-    ensures once { OnOk result (P.is_tied pages.old
-        → ReadsOnce (form_in S.Summary wanted.now.layout) (P.store pages.old).map number
-        left.old left.new) }
+    ensures walks { WalksBy P.Pages S.Summary (FnReturnsAt F.Fn wanted.now.keep.now) (λ map passes.
+        Walks (form_in S.Summary wanted.now.layout) map number wanted.now.low.now wanted.now.high.now passes
+        (listed cells.old) (listed cells.new) left.old left.new) result pages.old }
+    ensures once { Reads P.Pages (λ map _. ReadsOnce (form_in S.Summary wanted.now.layout) map number left.old left.new) result
+        pages.old }
     ensures refused { IfErr result IsWalkRefusal }
-    ensures damaged { result ≡ Err Refusal.DamagedFile → P.is_tied pages.old
-        → HasNoPart (form_in S.Summary wanted.now.layout) (P.store pages.old).map number
-        levels left.old }
+    ensures damaged { Lacks P.Pages (λ map. HasNoPart (form_in S.Summary wanted.now.layout) map number levels left.old) result
+        pages.old }
 {
     let Some(count) = look(pages, number, wanted, left, cells, copy)? else {
         return Ok(());
@@ -82,18 +78,14 @@ fn walk_entries<P: Pages, S: Summary, F: Fn(&S) -> bool>(
     ensures rests { OnlyReads P.Pages result pages.old pages.new }
     ensures width { record_width cells.new ≡ wanted.now.layout.width }
     ensures fewer { left.new ≤ left.old }
-    ensures walks { OnOk result (P.is_tied pages.old → (test : S → Bool) → Computes (FnReturnsAt F.Fn wanted.now.keep.now) test
-        → AcceptsParts S.join test
-        → WalksEntries (form_in S.Summary wanted.now.layout) (P.store pages.old).map
-        page.now.bytes count wanted.now.low.now wanted.now.high.now (λ cell. test (S.of cell)) (listed cells.old) (listed cells.new)
-        left.old left.new) }
-    ensures once { OnOk result (P.is_tied pages.old
-        → ReadsEntriesOnce (form_in S.Summary wanted.now.layout) (P.store pages.old).map
-        page.now.bytes count left.old left.new) }
+    ensures walks { WalksBy P.Pages S.Summary (FnReturnsAt F.Fn wanted.now.keep.now) (λ map passes.
+        WalksEntries (form_in S.Summary wanted.now.layout) map page.now.bytes count wanted.now.low.now wanted.now.high.now passes
+        (listed cells.old) (listed cells.new) left.old left.new) result pages.old }
+    ensures once { Reads P.Pages (λ map _. ReadsEntriesOnce (form_in S.Summary wanted.now.layout) map page.now.bytes count
+        left.old left.new) result pages.old }
     ensures refused { IfErr result IsWalkRefusal }
-    ensures damaged { result ≡ Err Refusal.DamagedFile → P.is_tied pages.old
-        → HasNoPartsOfEntries (form_in S.Summary wanted.now.layout) (P.store pages.old).map
-        page.now.bytes count levels left.old }
+    ensures damaged { Lacks P.Pages (λ map. HasNoPartsOfEntries (form_in S.Summary wanted.now.layout) map page.now.bytes count
+        levels left.old) result pages.old }
 {
     let bytes = content(page);
     let (from, to) = entries_within(bytes, wanted.layout, count, wanted.low, wanted.high);
@@ -124,17 +116,14 @@ fn walk_entry<P: Pages, S: Summary, F: Fn(&S) -> bool>(
     ensures rests { OnlyReads P.Pages result pages.old pages.new }
     ensures width { record_width cells.new ≡ wanted.now.layout.width }
     ensures fewer { left.new ≤ left.old }
-    ensures walks { OnOk result (P.is_tied pages.old → (test : S → Bool) → Computes (FnReturnsAt F.Fn wanted.now.keep.now) test
-        → AcceptsParts S.join test
-        → WalksEntry (form_in S.Summary wanted.now.layout) (P.store pages.old).map entry.now
-        wanted.now.low.now wanted.now.high.now (λ cell. test (S.of cell)) (listed cells.old) (listed cells.new) left.old left.new) }
-    ensures once { OnOk result (P.is_tied pages.old
-        → ReadsEntryOnce (form_in S.Summary wanted.now.layout) (P.store pages.old).map
-        entry.now left.old left.new) }
+    ensures walks { WalksBy P.Pages S.Summary (FnReturnsAt F.Fn wanted.now.keep.now) (λ map passes.
+        WalksEntry (form_in S.Summary wanted.now.layout) map entry.now wanted.now.low.now wanted.now.high.now passes
+        (listed cells.old) (listed cells.new) left.old left.new) result pages.old }
+    ensures once { Reads P.Pages (λ map _. ReadsEntryOnce (form_in S.Summary wanted.now.layout) map entry.now left.old left.new)
+        result pages.old }
     ensures refused { IfErr result IsWalkRefusal }
-    ensures damaged { result ≡ Err Refusal.DamagedFile → P.is_tied pages.old
-        → HasNoPartOfEntry (form_in S.Summary wanted.now.layout) (P.store pages.old).map
-        entry.now levels left.old }
+    ensures damaged { Lacks P.Pages (λ map. HasNoPartOfEntry (form_in S.Summary wanted.now.layout) map entry.now levels left.old)
+        result pages.old }
 {
     if !accepts(wanted.keep, &S::read(summary(entry, wanted.layout))) {
         return Ok(());

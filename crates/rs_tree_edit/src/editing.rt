@@ -1,13 +1,13 @@
 //! Records of a working page put in the place of others.
 
-ghost use Rattle.std.specs.Prelude.{◌≡◌, ◌≢◌, ◌≤◌, ◌<◌, ◌+◌, ◌-◌, ◌*◌, None, true, IfErr, OnOk, length, Err};
+ghost use Rattle.std.specs.Prelude.{◌≡◌, ◌≢◌, ◌≤◌, ◌<◌, ◌+◌, ◌-◌, ◌*◌, None, true, IfErr, length, Err};
 ghost use Rattle.rs_page.specs.Header.{page_kind};
 ghost use Rattle.rs_pages.specs.PageMap.{HasNoFit};
 ghost use Rattle.rs_pages.specs.Uses.{HoldsUsed};
 ghost use Rattle.rs_records.specs.Records.{records};
 ghost use Rattle.rs_tree.specs.Content.{tree_header};
 ghost use Rattle.rs_tree_edit.specs.Editing.{Splices};
-ghost use Rattle.rs_page_owners.specs.Calls.{WorksOn};
+ghost use Rattle.rs_page_owners.specs.Calls.{Makes, WorksOn};
 
 use rs_page::{ContentKind, PageHeader, PageNumber};
 use rs_pages::Pages;
@@ -48,8 +48,8 @@ pub fn edit_page<P: Pages>(
     ensures keeps { P.keeps pages.old pages.new }
     ensures works { WorksOn P.Pages (HasNoFit (P.store pages.old).map edited.number) result pages.old pages.new }
     ensures room { result ≢ Err Refusal.FileFull }
-    ensures edited { P.is_tied pages.old → OnOk result (Splices (P.store pages.old).map (P.store pages.new).map edited.number
-        (page_kind edited.kind) edited.width edited.count edit.at edit.removed (records edit.more edited.width added.now)) }
+    ensures edited { Makes P.Pages (λ old new _. Splices old new edited.number (page_kind edited.kind) edited.width edited.count
+        edit.at edit.removed (records edit.more edited.width added.now)) result pages.old pages.new }
     ensures copied { IfErr result (λ _. HoldsUsed (P.store pages.old) edited.number
         → ((P.store pages.old).held edited.number).copy ≡ None) }
 {

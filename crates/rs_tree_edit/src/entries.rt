@@ -7,7 +7,7 @@ ghost use Rattle.rs_tree.specs.declared.node.Node.{Node};
 ghost use Rattle.rs_tree.specs.Reading.{HasNoNode};
 ghost use Rattle.rs_tree.specs.Forms.{form_in};
 ghost use Rattle.rs_tree_edit.specs.Parts.{SaysPart, SaysNode};
-ghost use Rattle.rs_pages.specs.Calls.{OnlyReads};
+ghost use Rattle.rs_pages.specs.Calls.{OnlyReads, Reads};
 ghost use Rattle.rs_page_owners.specs.Calls.{WorksOn};
 
 use rs_page::{Page, PageNumber};
@@ -31,8 +31,7 @@ pub fn write_entry_of<P: Pages, S: Summary>(
     ensures rests { OnlyReads P.Pages result pages.old pages.new }
     ensures works { WorksOn P.Pages (HasNoNode (P.store pages.old).map number layout) result pages.old pages.new }
     ensures room { result ≢ Err Refusal.FileFull }
-    ensures says { P.is_tied pages.old → OnOk result
-        (SaysPart (form_in S.Summary layout) (P.store pages.old).map number entry.new) }
+    ensures says { Reads P.Pages (λ map _. SaysPart (form_in S.Summary layout) map number entry.new) result pages.old }
 {
     match pages.page(number) {
         Ok(page) => write_node_entry::<S>(page, layout, number, entry),

@@ -5,7 +5,7 @@ ghost use Rattle.rs_records.specs.Records.{records};
 ghost use Rattle.rs_tree.specs.Layouts.{entry_bytes};
 ghost use Rattle.rs_tree.specs.Forms.{form_in};
 ghost use Rattle.rs_tree_insert.specs.Inserting.{HasNoTops, SaysTops, tops};
-ghost use Rattle.rs_pages.specs.Calls.{OnlyReads};
+ghost use Rattle.rs_pages.specs.Calls.{OnlyReads, Reads};
 ghost use Rattle.rs_page_owners.specs.Calls.{WorksOn};
 
 use crate::answer::Put;
@@ -35,9 +35,8 @@ pub fn write_entries<P: Pages, S: Summary>(
     ensures works { WorksOn P.Pages (HasNoTops (form_in S.Summary layout) (P.store pages.old).map
         (tops first put)) result pages.old pages.new }
     ensures count { IfOk result (λ more. more ≡ length (tops first put)) }
-    ensures says { P.is_tied pages.old → IfOk result (λ more.
-        SaysTops (form_in S.Summary layout) (P.store pages.old).map (tops first put)
-        (records more (entry_bytes layout) entries.new)) }
+    ensures says { Reads P.Pages (λ map more. SaysTops (form_in S.Summary layout) map (tops first put)
+        (records more (entry_bytes layout) entries.new)) result pages.old }
 {
     let width = layout.entry_width();
     write_entry_of::<P, S>(pages, layout, first, &mut entries[..width])?;

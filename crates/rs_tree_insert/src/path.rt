@@ -10,7 +10,8 @@ ghost use Rattle.rs_tree.specs.Forms.{form_in};
 ghost use Rattle.rs_tree_insert.specs.Finding.{BelongsAt, BelongsUnder};
 ghost use Rattle.rs_tree_insert.specs.Inserting.{HasNoShared, HasNoTops, PutsBelow, TellsBelow, WritesAbove, tops};
 ghost use Rattle.rs_tree_insert.specs.Writing.{IsBroken, is_found};
-ghost use Rattle.rs_page_owners.specs.Calls.{Makes, WorksOn};
+ghost use Rattle.rs_page_owners.specs.Calls.{Makes, MakesOf, WorksOn};
+ghost use Rattle.rs_pages.specs.Calls.{Reads};
 
 use crate::answer::Put;
 use crate::entries::{ONE_ENTRY, TWO_ENTRIES, write_entries};
@@ -52,8 +53,7 @@ pub fn insert_below<P: Pages, S: Summary>(
         (P.store pages.old).map number levels) result pages.old pages.new }
     ensures puts { Makes P.Pages (λ old new put. PutsBelow (form_in S.Summary layout) old new number cell.now put) result
         pages.old pages.new }
-    ensures found { P.is_tied pages.old → IfOk result (λ put.
-        TellsBelow (form_in S.Summary layout) (P.store pages.old).map number cell.now put) }
+    ensures found { Reads P.Pages (λ map put. TellsBelow (form_in S.Summary layout) map number cell.now put) result pages.old }
     ensures same { Makes P.Pages (λ old new put. is_found put ≡ true → SamePages new old) result pages.old pages.new }
 {
     let mut bytes = [0; ONE_ENTRY];
@@ -98,10 +98,9 @@ fn insert_here<P: Pages, S: Summary>(
     requires at { place.at ≤ place.count }
     ensures keeps { P.keeps pages.old pages.new }
     ensures works { WorksOn P.Pages (IsBroken (P.store pages.old).map place.number) result pages.old pages.new }
-    ensures puts { P.is_tied pages.old → (page : List ℕ) → (P.store pages.old).map.page place.number ≡ Some page
-        → BelongsAt page place.number layout cell.now place.count place.at → IfOk result (λ put.
-        PutsBelow (form_in S.Summary layout) (P.store pages.old).map (P.store pages.new).map
-        place.number cell.now put) }
+    ensures puts { MakesOf P.Pages place.number (λ old new page.
+        BelongsAt page place.number layout cell.now place.count place.at → IfOk result (λ put.
+        PutsBelow (form_in S.Summary layout) old new place.number cell.now put)) pages.old pages.new }
     ensures placed { IfOk result (λ put. is_found put ≡ false) }
 {
     let edited = EditedPage {
@@ -140,13 +139,12 @@ fn insert_under<P: Pages, S: Summary>(
     ensures works { WorksOn P.Pages ((page : List ℕ) → (P.store pages.old).map.page place.number ≡ Some page
         → BelongsUnder page place.number layout cell.now entry.now place.count place.at
         → HasNoShared (form_in S.Summary layout) (P.store pages.old).map place.number levels) result pages.old pages.new }
-    ensures puts { P.is_tied pages.old → (page : List ℕ) → (P.store pages.old).map.page place.number ≡ Some page
-        → BelongsUnder page place.number layout cell.now entry.now place.count place.at → IfOk result (λ put.
-        PutsBelow (form_in S.Summary layout) (P.store pages.old).map (P.store pages.new).map
-        place.number cell.now put) }
-    ensures found { P.is_tied pages.old → (page : List ℕ) → (P.store pages.old).map.page place.number ≡ Some page
-        → BelongsUnder page place.number layout cell.now entry.now place.count place.at → IfOk result (λ put.
-        TellsBelow (form_in S.Summary layout) (P.store pages.old).map place.number cell.now put) }
+    ensures puts { MakesOf P.Pages place.number (λ old new page.
+        BelongsUnder page place.number layout cell.now entry.now place.count place.at → IfOk result (λ put.
+        PutsBelow (form_in S.Summary layout) old new place.number cell.now put)) pages.old pages.new }
+    ensures found { MakesOf P.Pages place.number (λ old _ page.
+        BelongsUnder page place.number layout cell.now entry.now place.count place.at → IfOk result (λ put.
+        TellsBelow (form_in S.Summary layout) old place.number cell.now put)) pages.old pages.new }
     ensures same { Makes P.Pages (λ old new put. is_found put ≡ true → SamePages new old) result pages.old pages.new }
 {
     let below = child(entry, layout);
@@ -188,10 +186,10 @@ fn write_above<P: Pages, S: Summary>(
     ensures works { WorksOn P.Pages (HasNoTops (form_in S.Summary layout) (P.store pages.old).map (tops below put)
         ⊎ IsBroken (P.store pages.old).map place.number) result pages.old pages.new }
     ensures placed { IfOk result (λ above. is_found above ≡ false) }
-    ensures above { P.is_tied pages.old → (page : List ℕ) → (P.store pages.old).map.page place.number ≡ Some page
-        → slice_get (records place.count (entry_bytes layout) (content page)) place.at ≡ Some entry.now → IfOk result (λ above.
-        WritesAbove (form_in S.Summary layout) (P.store pages.old).map
-        (P.store pages.new).map place.number page place.count place.at (tops below put) above) }
+    ensures above { MakesOf P.Pages place.number (λ old new page.
+        slice_get (records place.count (entry_bytes layout) (content page)) place.at ≡ Some entry.now → IfOk result (λ above.
+        WritesAbove (form_in S.Summary layout) old new place.number page place.count place.at (tops below put) above))
+        pages.old pages.new }
 {
     let width = layout.entry_width();
     let more = write_entries::<P, S>(pages, layout, below, put, entries)?;

@@ -1,13 +1,13 @@
 //! Records that fit no page, put into two.
 
-ghost use Rattle.std.specs.Prelude.{◌≡◌, ◌≤◌, ◌<◌, ◌+◌, ◌-◌, ◌*◌, ◌/◌, ℕ, List, Some, true, IfOk, OnOk, length, take};
+ghost use Rattle.std.specs.Prelude.{◌≡◌, ◌≤◌, ◌<◌, ◌+◌, ◌-◌, ◌*◌, ◌/◌, true, IfOk, OnOk, length, take};
 ghost use Rattle.rs_page.specs.Header.{page_kind};
 ghost use Rattle.rs_pages.specs.PageMap.{HasNoFit};
 ghost use Rattle.rs_records.specs.Records.{records};
 ghost use Rattle.rs_tree.specs.Content.{content};
 ghost use Rattle.rs_tree_edit.specs.Editing.{Splices};
 ghost use Rattle.rs_tree_insert.specs.Writing.{IsBroken, SplitsPage, spliced};
-ghost use Rattle.rs_page_owners.specs.Calls.{WorksOn};
+ghost use Rattle.rs_page_owners.specs.Calls.{Makes, MakesOf, WorksOn};
 
 use rs_page::{Page, PageNumber};
 use rs_pages::Pages;
@@ -38,11 +38,9 @@ pub fn split_page<P: Pages>(
     requires full { 4080 < (edited.count - edit.removed + edit.more) * edited.width }
     ensures keeps { P.keeps pages.old pages.new }
     ensures works { WorksOn P.Pages (IsBroken (P.store pages.old).map edited.number) result pages.old pages.new }
-    ensures splits { P.is_tied pages.old → (page : List ℕ) → (P.store pages.old).map.page edited.number ≡ Some page
-        → IfOk result (λ other. SplitsPage (P.store pages.old).map (P.store pages.new).map edited.number other
-        (page_kind edited.kind)
-        edited.width (spliced (records edited.count edited.width (content page)) edit.at edit.removed
-        (records edit.more edited.width added.now))) }
+    ensures splits { MakesOf P.Pages edited.number (λ old new page. IfOk result (λ other. SplitsPage old new edited.number other
+        (page_kind edited.kind) edited.width (spliced (records edited.count edited.width (content page)) edit.at edit.removed
+        (records edit.more edited.width added.now)))) pages.old pages.new }
 {
     let mut both = [0; TWO_PAGES];
     let (kind, width) = (edited.kind, edited.width);
@@ -90,13 +88,12 @@ fn keep_first<P: Pages>(
     requires size { length both.old ≡ 8160 }
     ensures keeps { P.keeps pages.old pages.new }
     ensures works { WorksOn P.Pages (HasNoFit (P.store pages.old).map edited.number) result pages.old pages.new }
-    ensures edited { P.is_tied pages.old → OnOk result (Splices (P.store pages.old).map (P.store pages.new).map edited.number
-        (page_kind edited.kind) edited.width edited.count 0 edited.count (records first edited.width (take
-        (first * edited.width) both.new))) }
-    ensures both { P.is_tied pages.old → (page : List ℕ) → (P.store pages.old).map.page edited.number ≡ Some page
-        → OnOk result (records (edited.count - edit.removed + edit.more) edited.width both.new
+    ensures edited { Makes P.Pages (λ old new _. Splices old new edited.number (page_kind edited.kind) edited.width edited.count
+        0 edited.count (records first edited.width (take (first * edited.width) both.new))) result pages.old pages.new }
+    ensures both { MakesOf P.Pages edited.number (λ _ _ page. OnOk result (
+        records (edited.count - edit.removed + edit.more) edited.width both.new
         ≡ spliced (records edited.count edited.width (content page)) edit.at edit.removed
-        (records edit.more edited.width added.now)) }
+        (records edit.more edited.width added.now))) pages.old pages.new }
 {
     let (width, count) = (edited.width, edited.count);
     let header = header_of(edited.kind, edited.number, first, width);

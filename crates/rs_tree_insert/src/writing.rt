@@ -1,10 +1,10 @@
 //! Records of a page put in the place of others, in one page or two.
 
-ghost use Rattle.std.specs.Prelude.{◌≡◌, ◌≤◌, ◌<◌, ◌+◌, ◌*◌, ℕ, List, Some, true, false, IfOk, length};
+ghost use Rattle.std.specs.Prelude.{◌≡◌, ◌≤◌, ◌<◌, ◌+◌, ◌*◌, true, false, IfOk, length};
 ghost use Rattle.rs_page.specs.Header.{page_kind};
 ghost use Rattle.rs_records.specs.Records.{records};
 ghost use Rattle.rs_tree_insert.specs.Writing.{IsBroken, PutsRecords, is_found};
-ghost use Rattle.rs_page_owners.specs.Calls.{WorksOn};
+ghost use Rattle.rs_page_owners.specs.Calls.{MakesOf, WorksOn};
 
 use crate::answer::Put;
 use crate::splitting::split_page;
@@ -31,9 +31,9 @@ pub fn put_records<P: Pages>(
     ensures keeps { P.keeps pages.old pages.new }
     ensures works { WorksOn P.Pages (IsBroken (P.store pages.old).map edited.number) result pages.old pages.new }
     ensures placed { IfOk result (λ put. is_found put ≡ false) }
-    ensures puts { P.is_tied pages.old → (page : List ℕ) → (P.store pages.old).map.page edited.number ≡ Some page
-        → IfOk result (λ put. PutsRecords (P.store pages.old).map (P.store pages.new).map edited.number page
-        (page_kind edited.kind) edited.width edited.count edit.at edit.removed (records edit.more edited.width added.now) put) }
+    ensures puts { MakesOf P.Pages edited.number (λ old new page. IfOk result (λ put. PutsRecords old new edited.number page
+        (page_kind edited.kind) edited.width edited.count edit.at edit.removed (records edit.more edited.width added.now) put))
+        pages.old pages.new }
 {
     if (edited.count - edit.removed + edit.more) * edited.width <= 4080 {
         edit_page(pages, edited, edit, added)?;

@@ -1,8 +1,10 @@
 -- What is left of a part of a tree.
-use Rattle.std.specs.Prelude.{◌≡◌, ◌≤◌, ℕ, zero, suc, Some, List, [], ◌∷◌}
+use Rattle.std.specs.Prelude.{◌≡◌, ◌≤◌, ℕ, zero, suc, Some, List, [], ◌∷◌, Result, IfOk}
 use Rattle.std.specs.List.{Contains}
+use Rattle.rs_refusal.specs.declared.refusal.Refusal.{Refusal}
 use Rattle.rs_page.specs.declared.header.PageKind.TheVariants as kind
 use Rattle.rs_pages.specs.PageMap.{PageMap, SamePages}
+use Rattle.rs_pages.specs.declared.pages.Pages.{Ghosts}
 use Rattle.rs_records.specs.Order.{Ascends}
 use Rattle.rs_page_owners.specs.Counts.{one_at, ◌&◌}
 use Rattle.rs_page_owners.specs.Owners.{Shares, Moves}
@@ -55,6 +57,11 @@ IsRemoved form old new number height before cell cells (Single top) = IsOut form
 pub record RemovesPart (form : Form) (old new : PageMap) (number : ℕ) (cell : List ℕ) (answer : Removed) : Type 0 where
   pub each : (height : ℕ) (shape : Shape height) (others : ℕ → ℕ) → IsPart form old number height shape → Ascends (cells_of height shape) → Shares old (uses height shape & others)
       → IsRemoved form old new number height (uses height shape) cell (cells_of height shape) answer
+
+-- so it is on the pages of an honest disk, where this is the working page with that number
+abbrev pub RemovesBelow : {P : Type 0} → Ghosts P → Form → ℕ → List ℕ → List ℕ → Result Removed Refusal → P → P → Type 0
+RemovesBelow pages form number page cell result old new = pages.is_tied old → (pages.store old).map.page number ≡ Some page
+    → IfOk result (RemovesPart form (pages.store old).map (pages.store new).map number cell)
 
 -- no part of so few levels has this page at its top, and its pages to itself
 pub record HasNoOwnPart (form : Form) (pages : PageMap) (number levels : ℕ) : Type 0 where

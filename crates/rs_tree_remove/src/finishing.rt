@@ -1,6 +1,6 @@
 //! An inner page whose parts gave way to fewer, or to others.
 
-ghost use Rattle.std.specs.Prelude.{◌≡◌, ◌≢◌, ◌≤◌, ◌<◌, ◌+◌, ◌-◌, ◌*◌, true, [], ◌∷◌, IfOk, OnOk, length, Err};
+ghost use Rattle.std.specs.Prelude.{◌≡◌, ◌≢◌, ◌≤◌, ◌<◌, ◌+◌, ◌-◌, ◌*◌, true, [], ◌∷◌, IfOk, length, Err};
 ghost use Rattle.rs_tree.specs.Layouts.{entry_bytes};
 ghost use Rattle.rs_tree.specs.Forms.{form_in};
 ghost use Rattle.rs_tree_remove.specs.Finishing.{CantRenew, Finishes, NoneGaveWay, Renews};
@@ -125,9 +125,8 @@ pub fn renew_two<P: Pages, S: Summary>(
         (P.store pages.old).map inner.number page.now.bytes inner.count at 2
         (tops.first ∷ tops.second ∷ [])) result pages.old pages.new }
     ensures room { result ≢ Err Refusal.FileFull }
-    ensures finishes { P.is_tied pages.old → OnOk result (Finishes
-        (form_in S.Summary layout) (P.store pages.old).map (P.store pages.new).map inner.number
-        page.now.bytes inner.count at 2 (tops.first ∷ tops.second ∷ []) Removed.Kept) }
+    ensures finishes { Makes P.Pages (λ old new _. Finishes (form_in S.Summary layout) old new inner.number page.now.bytes
+        inner.count at 2 (tops.first ∷ tops.second ∷ []) Removed.Kept) result pages.old pages.new }
 {
     let mut buffer = [0; 1_360];
     let width = layout.entry_width();
@@ -161,9 +160,8 @@ fn renew<P: Pages, S: Summary>(
     ensures keeps { P.keeps pages.old pages.new }
     ensures works { WorksOn P.Pages (CantRenew (P.store pages.old).map inner.number top layout) result pages.old pages.new }
     ensures room { result ≢ Err Refusal.FileFull }
-    ensures renews { P.is_tied pages.old → OnOk result (Renews
-        (form_in S.Summary layout) (P.store pages.old).map (P.store pages.new).map inner.number
-        inner.count stretch.at stretch.removed top) }
+    ensures renews { Makes P.Pages (λ old new _. Renews (form_in S.Summary layout) old new inner.number inner.count
+        stretch.at stretch.removed top) result pages.old pages.new }
 {
     write_entry_of::<P, S>(pages, layout, top, entry)?;
     let edited = EditedPage {

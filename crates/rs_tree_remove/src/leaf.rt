@@ -1,9 +1,9 @@
 //! A cell taken out of a leaf.
 
-ghost use Rattle.std.specs.Prelude.{◌≡◌, ◌≢◌, ℕ, true, Some, IfOk, Err};
+ghost use Rattle.std.specs.Prelude.{◌≡◌, ◌≢◌, ℕ, true, Some, Err};
 ghost use Rattle.rs_tree.specs.Node.{IsNode};
 ghost use Rattle.rs_tree.specs.Forms.{form_in};
-ghost use Rattle.rs_tree_remove.specs.Leaving.{RemovesPart, HasNoOwnPart};
+ghost use Rattle.rs_tree_remove.specs.Leaving.{RemovesBelow, HasNoOwnPart};
 ghost use Rattle.rs_page_owners.specs.Calls.{WorksOn};
 
 use crate::answer::Removed;
@@ -30,9 +30,7 @@ pub fn remove_from_leaf<P: Pages, S: Summary>(
     ensures works { WorksOn P.Pages ((P.store pages.old).map.page number ≡ Some page.now.bytes → (levels : ℕ)
         → HasNoOwnPart (form_in S.Summary layout) (P.store pages.old).map number levels) result pages.old pages.new }
     ensures room { result ≢ Err Refusal.FileFull }
-    ensures removed { P.is_tied pages.old → (P.store pages.old).map.page number ≡ Some page.now.bytes → IfOk result (RemovesPart
-        (form_in S.Summary layout) (P.store pages.old).map (P.store pages.new).map number
-        cell.now) }
+    ensures removed { RemovesBelow P.Pages (form_in S.Summary layout) number page.now.bytes cell.now result pages.old pages.new }
 {
     let bytes = content(page);
     let at = place(bytes, layout.width, count, 0, cell);

@@ -1,10 +1,10 @@
 //! The path of a cell: down to its leaf, and up again.
 
-ghost use Rattle.std.specs.Prelude.{◌≡◌, ◌≢◌, ◌<◌, Some, true, IfOk, Err};
+ghost use Rattle.std.specs.Prelude.{◌≡◌, ◌≢◌, ◌<◌, Some, true, Err};
 ghost use Rattle.rs_tree.specs.Node.{IsNode};
 ghost use Rattle.rs_tree.specs.declared.node.Node.{Node};
 ghost use Rattle.rs_tree.specs.Forms.{form_in};
-ghost use Rattle.rs_tree_remove.specs.Leaving.{RemovesPart, HasNoOwnPart};
+ghost use Rattle.rs_tree_remove.specs.Leaving.{RemovesBelow, RemovesPart, HasNoOwnPart};
 ghost use Rattle.rs_page_owners.specs.Calls.{Makes, WorksOn};
 
 use crate::finishing::{InnerPage, Stretch, drop_entry, renew_entry};
@@ -69,10 +69,8 @@ fn remove_under<P: Pages, S: Summary>(
     ensures works { WorksOn P.Pages ((P.store pages.old).map.page inner.number ≡ Some page.now.bytes
         → HasNoOwnPart (form_in S.Summary layout) (P.store pages.old).map inner.number levels) result pages.old pages.new }
     ensures room { result ≢ Err Refusal.FileFull }
-    ensures removed { P.is_tied pages.old → (P.store pages.old).map.page inner.number ≡ Some page.now.bytes
-        → IfOk result (RemovesPart
-        (form_in S.Summary layout) (P.store pages.old).map (P.store pages.new).map inner.number
-        cell.now) }
+    ensures removed { RemovesBelow P.Pages (form_in S.Summary layout) inner.number page.now.bytes cell.now result
+        pages.old pages.new }
 {
     let bytes = content(page);
     let at = entry_for(bytes, layout, inner.count, cell);

@@ -9,7 +9,7 @@ ghost use Rattle.rs_tree.specs.Form.{joined};
 ghost use Rattle.rs_tree.specs.Layouts.{entry_bytes};
 ghost use Rattle.rs_tree.specs.Forms.{form_in};
 ghost use Rattle.rs_tree_whole.specs.Checking.{Reaches, HasNoSound, ReachesEntry, HasNoSoundEntry, ReachesEntries, HasNoSoundEntries};
-ghost use Rattle.rs_pages.specs.Calls.{OnlyReads};
+ghost use Rattle.rs_pages.specs.Calls.{Lacks, OnlyReads, Reads};
 
 use crate::enter::enter;
 use crate::keys::{bound_at, least};
@@ -47,13 +47,12 @@ pub fn check_part<P: Pages, S: Summary>(
     ensures size { length reached.new ≡ length reached.old }
     ensures few { (P.store pages.old).map.fields.pages < 2 ^ 32 }
     ensures height { IfOk result (λ part. part.height ≤ levels) }
-    ensures reaches { IfOk result (λ part. P.is_tied pages.old → Reaches (joined S.unit S.join S.of)
-        (form_in S.Summary layout) (P.store pages.old).map number
-        (option_copied first.entry) (option_copied bound.entry) (taken reached.old) (taken reached.new) part.height part.total part.whole) }
+    ensures reaches { Reads P.Pages (λ map part. Reaches (joined S.unit S.join S.of) (form_in S.Summary layout) map number
+        (option_copied first.entry) (option_copied bound.entry) (taken reached.old) (taken reached.new)
+        part.height part.total part.whole) result pages.old }
     ensures refused { IfErr result (λ why. (why ≡ Refusal.Disk) ⊎ (why ≡ Refusal.DamagedFile)) }
-    ensures damaged { result ≡ Err Refusal.DamagedFile → P.is_tied pages.old
-        → HasNoSound (form_in S.Summary layout) (P.store pages.old).map number
-        (option_copied first.entry) (option_copied bound.entry) levels (taken reached.old) }
+    ensures damaged { Lacks P.Pages (λ map. HasNoSound (form_in S.Summary layout) map number
+        (option_copied first.entry) (option_copied bound.entry) levels (taken reached.old)) result pages.old }
 {
     let mut page = Page::new();
     let node = enter(pages, layout, number, reached, &mut page)?;
@@ -104,13 +103,11 @@ fn check_entries<P: Pages, S: Summary>(
     ensures rests { OnlyReads P.Pages result pages.old pages.new }
     ensures size { length reached.new ≡ length reached.old }
     ensures height { IfOk result (λ parts. parts.0 < levels) }
-    ensures reaches { IfOk result (λ parts. P.is_tied pages.old → ReachesEntries
-        (form_in S.Summary layout) (P.store pages.old).map page.now.bytes count count
-        (option_copied bound.entry) (taken reached.old) (taken reached.new) parts.0 parts.1) }
+    ensures reaches { Reads P.Pages (λ map parts. ReachesEntries (form_in S.Summary layout) map page.now.bytes count count
+        (option_copied bound.entry) (taken reached.old) (taken reached.new) parts.0 parts.1) result pages.old }
     ensures refused { IfErr result (λ why. (why ≡ Refusal.Disk) ⊎ (why ≡ Refusal.DamagedFile)) }
-    ensures damaged { result ≡ Err Refusal.DamagedFile → P.is_tied pages.old
-        → HasNoSoundEntries (form_in S.Summary layout) (P.store pages.old).map
-        page.now.bytes count (option_copied bound.entry) levels (taken reached.old) }
+    ensures damaged { Lacks P.Pages (λ map. HasNoSoundEntries (form_in S.Summary layout) map page.now.bytes count
+        (option_copied bound.entry) levels (taken reached.old)) result pages.old }
 {
     let bytes = content(page);
     let mut height = 0;
@@ -144,13 +141,11 @@ fn check_entry<P: Pages, S: Summary>(
     ensures rests { OnlyReads P.Pages result pages.old pages.new }
     ensures size { length reached.new ≡ length reached.old }
     ensures height { IfOk result (λ part. part.0 < levels) }
-    ensures reaches { IfOk result (λ part. P.is_tied pages.old → ReachesEntry
-        (form_in S.Summary layout) (P.store pages.old).map entry.now
-        (option_copied bound.entry) (taken reached.old) (taken reached.new) part.0 part.1) }
+    ensures reaches { Reads P.Pages (λ map part. ReachesEntry (form_in S.Summary layout) map entry.now
+        (option_copied bound.entry) (taken reached.old) (taken reached.new) part.0 part.1) result pages.old }
     ensures refused { IfErr result (λ why. (why ≡ Refusal.Disk) ⊎ (why ≡ Refusal.DamagedFile)) }
-    ensures damaged { result ≡ Err Refusal.DamagedFile → P.is_tied pages.old
-        → HasNoSoundEntry (form_in S.Summary layout) (P.store pages.old).map entry.now
-        (option_copied bound.entry) levels (taken reached.old) }
+    ensures damaged { Lacks P.Pages (λ map. HasNoSoundEntry (form_in S.Summary layout) map entry.now
+        (option_copied bound.entry) levels (taken reached.old)) result pages.old }
 {
     let number = child(entry, layout);
     let first = Some(least(entry, layout));

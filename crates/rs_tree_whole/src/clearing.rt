@@ -2,8 +2,8 @@
 //!
 //! It goes down so many levels at the most and reads so many pages, so that it ends on pages that are no tree.
 
-ghost use Rattle.std.specs.Prelude.{◌≡◌, ◌≢◌, ◌<◌, ◌≤◌, ◌*◌, true, Err, OnOk};
-ghost use Rattle.rs_page_owners.specs.Calls.{WorksOn};
+ghost use Rattle.std.specs.Prelude.{◌≡◌, ◌≢◌, ◌<◌, ◌≤◌, ◌*◌, true, Err};
+ghost use Rattle.rs_page_owners.specs.Calls.{Makes, WorksOn};
 ghost use Rattle.rs_tree.specs.Calls.{LeavesTree};
 ghost use Rattle.rs_tree.specs.Forms.{form_in};
 ghost use Rattle.rs_tree.specs.Layouts.{entry_bytes};
@@ -51,9 +51,8 @@ fn clear_part<P: Pages, S: Summary>(
     ensures works { WorksOn P.Pages (HasNoOwnPart (form_in S.Summary layout)
         (P.store pages.old).map number levels left.old) result pages.old pages.new }
     ensures room { result ≢ Err Refusal.FileFull }
-    ensures clears { OnOk result (P.is_tied pages.old → ClearsPart
-        (form_in S.Summary layout) (P.store pages.old).map (P.store pages.new).map number
-        left.old left.new) }
+    ensures clears { Makes P.Pages (λ old new _. ClearsPart (form_in S.Summary layout) old new number left.old left.new) result
+        pages.old pages.new }
 {
     let mut page = Page::new();
     let node = load(pages, number, layout, left, &mut page)?;
@@ -86,9 +85,8 @@ fn clear_entries<P: Pages, S: Summary>(
     ensures works { WorksOn P.Pages (HasNoOwnParts (form_in S.Summary layout)
         (P.store pages.old).map page.now.bytes count levels left.old) result pages.old pages.new }
     ensures room { result ≢ Err Refusal.FileFull }
-    ensures clears { OnOk result (P.is_tied pages.old → ClearsEntries
-        (form_in S.Summary layout) (P.store pages.old).map (P.store pages.new).map
-        page.now.bytes count left.old left.new) }
+    ensures clears { Makes P.Pages (λ old new _. ClearsEntries (form_in S.Summary layout) old new page.now.bytes count
+        left.old left.new) result pages.old pages.new }
 {
     let bytes = content(page);
     for index in 0..count {

@@ -28,7 +28,7 @@ loop-next-init g c =
     }
 
 pub returns-in_err-following-clause-damaged : goal.returns-in_err-following-clause-damaged
-returns-in_err-following-clause-damaged g c = λ tied is.
+returns-in_err-following-clause-damaged g c = λ is tied.
     let p = err_from_is_err_and c.from_residual.result c.from_residual.ensures.1 in
     let why : c.in_err-following.field-0.0 ≡ refusal.DamagedFile = cc (p.1, p.2, is) in
     let later = g.met.P.Pages.keeps_tied c.args.pages.now c.loop-next.pages c.loop-next.invariant.rests.below tied in
@@ -37,7 +37,7 @@ returns-in_err-following-clause-damaged g c = λ tied is.
     none_next (g.P.Pages.store c.args.pages.now).map c.loop-next.numbers.items c.loop-next.bytes.items c.loop-next.next (c.catalogue-first.result.1 - c.len.result) (taken c.args.reached.now) (taken c.loop-next.reached)
     (c.loop-next.invariant.reads tied) (λ none. c.loop-next-test.true (c.number.ensures ∙ none)) (omega (arith, within, left, c.loop-next.invariant.total)) c.loop-next.invariant.reached
     (no_part_before (g.P.Pages.store c.args.pages.now).map (g.P.Pages.store c.loop-next.pages).map c.loop-next.next (c.catalogue-first.result.1 - c.len.result) (taken c.loop-next.reached)
-    (c.loop-next.invariant.rests.rests.keeps.pages tied) (c.in_err-following.ensures.damaged later (ap Err why)))
+    (c.loop-next.invariant.rests.rests.keeps.pages tied) (c.in_err-following.ensures.damaged (ap Err why) later))
 
 pub loop-next-smaller : goal.loop-next-smaller
 loop-next-smaller g c =
@@ -65,7 +65,7 @@ loop-next-preserved g c =
     }
 
 pub returns-then-len-size-clause-damaged : goal.returns-then-len-size-clause-damaged
-returns-then-len-size-clause-damaged g c = λ tied is.
+returns-then-len-size-clause-damaged g c = λ is tied.
     let size : c.len-2.result ≡ length c.loop-next.bytes.items = omega (arith, c.len-2.ensures, c.loop-next.bytes.ok.0) in
     none_short (g.P.Pages.store c.args.pages.now).map c.loop-next.numbers.items c.loop-next.bytes.items c.loop-next.next (taken c.args.reached.now) (c.loop-next.invariant.reads tied)
     (sym c.number.ensures ∙ c.loop-next-test.false) (λ same. c.if-len-size.true (size ∙ same ∙ sym c.loop-next.invariant.total))

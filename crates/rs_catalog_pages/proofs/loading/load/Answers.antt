@@ -18,7 +18,7 @@ returns-in_err-numbers-clause-refused g c =
     rw (p.1, p.2) record {
       cause = c.in_err-numbers.ensures.refused;
       damaged = λ tied is. record {
-        none = λ numbers bytes catalogue holds says few. (c.in_err-numbers.ensures.damaged tied (ap Err is)).none numbers bytes holds few;
+        none = λ numbers bytes catalogue holds says few. (c.in_err-numbers.ensures.damaged (ap Err is) tied).none numbers bytes holds few;
       };
     }
 

@@ -55,26 +55,27 @@ pub walk-returns-clause-walks : goal.walk-returns-clause-walks
 walk-returns-clause-walks g t c =
     let found : FindsInner (g.P.Pages.is_tied c.args.pages.now) (g.P.Pages.store c.args.pages.now).map c.args.number c.args.wanted.now.layout c.look.new.copy.bytes c.in-Some.count = search rules in
     let same : listed c.look.new.cells ≡ listed c.args.cells.now = search rules in
-    on_ok c.walk_entries.result c.walk_entries.ensures.walks (λ walks tied test computes accepts.
+    λ tied test computes accepts.
     let later = g.met.P.Pages.keeps_tied c.args.pages.now c.look.new.pages c.in_ok-count.ensures.rests.below tied in
+    on_ok c.walk_entries.result (c.walk_entries.ensures.walks later test computes accepts) (λ walks.
     walks_inner (λ bytes cells. g.S.Summary.says bytes (joined g.S.Summary.unit g.S.Summary.join g.S.Summary.of cells)) c.args.wanted.now.layout
     (g.P.Pages.store c.args.pages.now).map c.args.number c.look.new.copy.bytes c.args.wanted.now.low.now c.args.wanted.now.high.now (λ cell. test (g.S.Summary.of cell))
     (listed c.args.cells.now) (listed c.walk_entries.new.cells) c.args.left.now c.look.new.left c.walk_entries.new.left
     c.in_ok-count.ensures.counted (found.there tied) c.in-Some.count (g.P.Pages.store c.look.new.pages).map
     (c.in_ok-count.ensures.rests.rests.keeps.pages tied) found.node
     (subst (λ before. WalksEntries (form_in g.S.Summary c.args.wanted.now.layout) (g.P.Pages.store c.look.new.pages).map c.look.new.copy.bytes c.in-Some.count
-    c.args.wanted.now.low.now c.args.wanted.now.high.now (λ cell. test (g.S.Summary.of cell)) before (listed c.walk_entries.new.cells) c.look.new.left c.walk_entries.new.left) same
-    (walks later test computes accepts)))
+    c.args.wanted.now.low.now c.args.wanted.now.high.now (λ cell. test (g.S.Summary.of cell)) before (listed c.walk_entries.new.cells) c.look.new.left c.walk_entries.new.left) same walks))
 
 pub walk-returns-clause-once : goal.walk-returns-clause-once
 walk-returns-clause-once g t c =
     let found : FindsInner (g.P.Pages.is_tied c.args.pages.now) (g.P.Pages.store c.args.pages.now).map c.args.number c.args.wanted.now.layout c.look.new.copy.bytes c.in-Some.count = search rules in
-    on_ok c.walk_entries.result c.walk_entries.ensures.once (λ once tied.
+    λ tied.
     let later = g.met.P.Pages.keeps_tied c.args.pages.now c.look.new.pages c.in_ok-count.ensures.rests.below tied in
+    on_ok c.walk_entries.result (c.walk_entries.ensures.once later) (λ once.
     once_inner (λ bytes cells. g.S.Summary.says bytes (joined g.S.Summary.unit g.S.Summary.join g.S.Summary.of cells)) c.args.wanted.now.layout
     (g.P.Pages.store c.args.pages.now).map c.args.number c.look.new.copy.bytes [] [] (λ _. true) [] [] c.args.left.now c.look.new.left c.walk_entries.new.left
     c.in_ok-count.ensures.counted (found.there tied) c.in-Some.count (g.P.Pages.store c.look.new.pages).map
-    (c.in_ok-count.ensures.rests.rests.keeps.pages tied) found.node (once later))
+    (c.in_ok-count.ensures.rests.rests.keeps.pages tied) found.node once)
 
 pub walk-returns-clause-damaged : goal.walk-returns-clause-damaged
 walk-returns-clause-damaged g t c = λ is tied.
@@ -165,9 +166,10 @@ walk_entry-returns-clause-walks g t c =
     let reads = λ (s : g.row.S.Denot) (says : g.S.Summary.says (take c.args.wanted.now.layout.summary (drop child_bytes c.args.entry.now)) s).
     c.read.ensures s (subst (λ bytes. g.S.Summary.says bytes s) (sym c.summary.ensures.bytes) says) in
     let answered : c.accepts.result ≡ true = search rules in
-    on_ok c.walk.result c.walk.ensures.walks (λ walks tied test computes accepts.
+    λ tied test computes accepts.
+    on_ok c.walk.result (c.walk.ensures.walks tied test computes accepts) (λ walks.
     let here = subst (λ n. Walks form (g.P.Pages.store c.args.pages.now).map n c.args.wanted.now.low.now c.args.wanted.now.high.now (λ cell. test (g.S.Summary.of cell)) (listed c.args.cells.now) (listed c.walk.new.cells) c.args.left.now c.walk.new.left)
-    c.child-number.ensures (walks tied test computes accepts) in
+    c.child-number.ensures walks in
     walks_accepted form (g.P.Pages.store c.args.pages.now).map c.args.entry.now c.args.wanted.now.low.now c.args.wanted.now.high.now (λ cell. test (g.S.Summary.of cell)) (listed c.args.cells.now) (listed c.walk.new.cells) c.args.left.now c.walk.new.left
     (λ height part told.
     answer_told g.S.Summary.unit g.S.Summary.join g.S.Summary.of g.S.Summary.says c.args.wanted.now.layout.summary c.args.wanted.now.layout.width (FnReturnsAt g.F.Fn c.args.wanted.now.keep.now) test c.read.result c.accepts.result c.args.entry.now

@@ -121,7 +121,8 @@ clear_part-returns-in-Leaf-clause-clears g t c =
     let below : g.P.Pages.is_tied c.args.pages.now → ClearsBelow (λ bytes cells. g.S.Summary.says bytes (joined g.S.Summary.unit g.S.Summary.join g.S.Summary.of cells)) c.args.layout (g.P.Pages.store c.args.pages.now).map c.args.number c.load.new.copy.bytes (g.P.Pages.store c.load.new.pages).map c.args.left.now c.load.new.left =
     λ tied. clears_leaf (λ bytes cells. g.S.Summary.says bytes (joined g.S.Summary.unit g.S.Summary.join g.S.Summary.of cells)) c.args.layout (g.P.Pages.store c.args.pages.now).map c.args.number c.load.new.copy.bytes (g.P.Pages.store c.load.new.pages).map c.in-Leaf.field-0 c.args.left.now c.load.new.left
     (c.in_ok-node.ensures.loaded.bytes tied) node (c.in_ok-node.ensures.rests.rests.keeps.pages tied) c.in_ok-node.ensures.counted in
-    on_ok c.release.result c.release.ensures.releases (λ releases tied. let later = g.met.P.Pages.keeps_tied c.args.pages.now c.load.new.pages c.in_ok-node.ensures.rests.below tied in
+    λ tied. let later = g.met.P.Pages.keeps_tied c.args.pages.now c.load.new.pages c.in_ok-node.ensures.rests.below tied in
+    on_ok c.release.result c.release.ensures.releases (λ releases.
     clears_top (λ bytes cells. g.S.Summary.says bytes (joined g.S.Summary.unit g.S.Summary.join g.S.Summary.of cells)) c.args.layout (g.P.Pages.store c.args.pages.now).map c.args.number c.load.new.copy.bytes (g.P.Pages.is_tied c.load.new.pages) (g.P.Pages.store c.load.new.pages) (g.P.Pages.store c.release.new.self) c.args.left.now c.load.new.left later (below tied) releases)
 
 pub clear_part-returns-in_ok-clear_entries-in-Inner-clause-works : goal.clear_part-returns-in_ok-clear_entries-in-Inner-clause-works
@@ -153,6 +154,7 @@ clear_part-returns-in_ok-clear_entries-in-Inner-clause-clears g t c =
     clears_inner (λ bytes cells. g.S.Summary.says bytes (joined g.S.Summary.unit g.S.Summary.join g.S.Summary.of cells)) c.args.layout (g.P.Pages.store c.args.pages.now).map c.args.number c.load.new.copy.bytes (g.P.Pages.store c.load.new.pages).map c.in-Inner.count c.args.left.now c.load.new.left
     (c.in_ok-node.ensures.loaded.bytes tied) node (c.in_ok-node.ensures.rests.rests.keeps.pages tied) c.in_ok-node.ensures.counted
     (g.P.Pages.store c.clear_entries.new.pages).map c.clear_entries.new.left (c.in_ok-clear_entries-in-Inner.ensures.clears later) in
-    on_ok c.release-in-Inner.result c.release-in-Inner.ensures.releases (λ releases tied. let later = g.met.P.Pages.keeps_tied c.args.pages.now c.load.new.pages c.in_ok-node.ensures.rests.below tied in
+    λ tied. let later = g.met.P.Pages.keeps_tied c.args.pages.now c.load.new.pages c.in_ok-node.ensures.rests.below tied in
     let last = g.met.P.Pages.keeps_tied c.load.new.pages c.clear_entries.new.pages c.in_ok-clear_entries-in-Inner.ensures.keeps later in
+    on_ok c.release-in-Inner.result c.release-in-Inner.ensures.releases (λ releases.
     clears_top (λ bytes cells. g.S.Summary.says bytes (joined g.S.Summary.unit g.S.Summary.join g.S.Summary.of cells)) c.args.layout (g.P.Pages.store c.args.pages.now).map c.args.number c.load.new.copy.bytes (g.P.Pages.is_tied c.clear_entries.new.pages) (g.P.Pages.store c.clear_entries.new.pages) (g.P.Pages.store c.release-in-Inner.new.self) c.args.left.now c.clear_entries.new.left last (below tied) releases)

@@ -30,5 +30,5 @@ returns-clause-leaves g c =
 pub returns-clause-clears : goal.returns-clause-clears
 returns-clause-clears g c = λ tied.
     let form : Form = form_in g.S.Summary c.args.layout in
-    on_ok c.clear_part.result c.clear_part.ensures.clears (λ clears.
-    clears_tree form (g.P.Pages.store c.args.pages.now).map c.args.root (g.P.Pages.store c.clear_part.new.pages).map c.count-left.result c.clear_part.new.left (λ zero. omega (arith, c.number.ensures, zero)) (clears tied))
+    on_ok c.clear_part.result (c.clear_part.ensures.clears tied) (λ clears.
+    clears_tree form (g.P.Pages.store c.args.pages.now).map c.args.root (g.P.Pages.store c.clear_part.new.pages).map c.count-left.result c.clear_part.new.left (λ zero. omega (arith, c.number.ensures, zero)) clears)
