@@ -3,7 +3,7 @@
 //! It reads one page a level. Each is only lent: nothing of it is copied but the number of the next page, and no memory is taken.
 
 ghost use Rattle.std.specs.Prelude.{◌≡◌, ◌≢◌, ◌++◌, ◌↔◌, ℕ, List, [], ◌∷◌, Contains, Err, IfErr, IsTrue, length};
-ghost use Rattle.rs_pages.specs.Calls.{Lacks, OnlyReads, Reads};
+ghost use Rattle.rs_pages.specs.Calls.{DamagedOnlyIf, OnlyReads, Reads};
 ghost use Rattle.rs_tree.specs.Calls.{RefusesReading};
 ghost use Rattle.rs_tree.specs.Forms.{form_in};
 ghost use Rattle.rs_tree.specs.Tree.{IsTree};
@@ -55,7 +55,7 @@ fn contains_below<P: Pages, S: Summary>(
     ensures rests { OnlyReads P.Pages result pages.old pages.new }
     ensures found { Reads P.Pages (λ map. Tells (form_in S.Summary layout) map number cell.now) result pages.old }
     ensures refused { IfErr result IsReadRefusal }
-    ensures damaged { Lacks P.Pages (λ map. HasNoTop (form_in S.Summary layout) map number levels) result pages.old }
+    ensures damaged { DamagedOnlyIf P.Pages (λ map. HasNoTop (form_in S.Summary layout) map number levels) result pages.old }
 {
     match look::<P, S>(pages, layout, number, cell, after)? {
         Step::End(found) => Ok(found),

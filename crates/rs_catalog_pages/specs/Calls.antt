@@ -39,7 +39,7 @@ module _ {P : Type 0} (pages : Ghosts P) where
   abbrev pub RefusesToLoadDirectory : Result StoredDirectory Refusal → P → Type 0
   RefusesToLoadDirectory result old = IfErr result (RefusesToRead (pages.is_tied old) (HasNoDirectory (pages.store old).map))
 
-  -- 90 on an honest disk only where the numbers of page 1 are a directory's, so that room for it was wanted
+  -- 90 on an honest disk only where page 1 says a directory, for which memory is wanted
   abbrev pub WantsMemoryForDirectory : Result StoredDirectory Refusal → P → Type 0
   WantsMemoryForDirectory result old = pages.is_tied old → result ≡ Err refusal.OutOfMemory → HasSomeDirectory (pages.store old).map
 

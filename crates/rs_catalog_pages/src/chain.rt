@@ -4,7 +4,7 @@
 
 ghost use Rattle.std.specs.Prelude.{◌≡◌, ◌⊎◌, ◌≤◌, ◌+◌, ℕ, IfErr, OnOk, Err, length};
 ghost use Rattle.rs_page_owners.specs.Counts.{◌&◌, one_at};
-ghost use Rattle.rs_pages.specs.Calls.{Lacks, OnlyReads, Reads};
+ghost use Rattle.rs_pages.specs.Calls.{DamagedOnlyIf, OnlyReads, Reads};
 ghost use Rattle.rs_page_marks.specs.Marks.{taken};
 ghost use Rattle.rs_catalog_pages.specs.Chain.{HoldsNoFreshBytes};
 ghost use Rattle.rs_catalog_pages.specs.Loading.{ReadsBytes};
@@ -30,7 +30,7 @@ pub(crate) fn read_bytes<P: Pages>(
     ensures reads { Reads P.Pages (λ map read. ReadsBytes map (taken reached.old) (taken reached.new) read.0.items read.1.items)
         result pages.old }
     ensures refused { IfErr result (λ why. (why ≡ Refusal.OutOfMemory) ⊎ (why ≡ Refusal.Disk) ⊎ (why ≡ Refusal.DamagedFile)) }
-    ensures damaged { Lacks P.Pages (λ map. HoldsNoFreshBytes map (taken reached.old)) result pages.old }
+    ensures damaged { DamagedOnlyIf P.Pages (λ map. HoldsNoFreshBytes map (taken reached.old)) result pages.old }
 {
     let (first, total) = pages.catalogue();
     let size = total as usize;
@@ -65,7 +65,7 @@ fn read_part<P: Pages>(
     ensures fresh { OnOk result (taken reached.old number ≡ 0) }
     ensures reaches { OnOk result ((n : ℕ) → taken reached.new n ≡ (taken reached.old & one_at number) n) }
     ensures refused { IfErr result (λ why. (why ≡ Refusal.OutOfMemory) ⊎ (why ≡ Refusal.Disk) ⊎ (why ≡ Refusal.DamagedFile)) }
-    ensures damaged { Lacks P.Pages (λ map. HasNoFreshPart map number left (taken reached.old)) result pages.old }
+    ensures damaged { DamagedOnlyIf P.Pages (λ map. HasNoFreshPart map number left (taken reached.old)) result pages.old }
 {
     let count = pages.count();
     if !reached.reach(number) {

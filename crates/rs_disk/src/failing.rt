@@ -64,19 +64,6 @@ impl<D: Disk> FailingDisk<D> {
             calls: CallLog::new(),
         }
     }
-
-    /// Gives back the disk below.
-    pub fn into_disk(self) -> D
-        ensures { result ≡ self.disk }
-    {
-        let FailingDisk {
-            disk,
-            calls_left: _,
-            failed_cut: _,
-            calls: _,
-        } = self;
-        disk
-    }
 }
 
 /// Counts a call, and answers whether it is the one that fails.

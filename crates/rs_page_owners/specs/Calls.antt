@@ -18,6 +18,7 @@ pub record Leaves {S T : Type 0} (pages : Ghosts S) (damaged : Type 0) (result :
 abbrev pub Makes : {S T : Type 0} → Ghosts S → (PageMap → PageMap → T → Type 0) → Result T Refusal → S → S → Type 0
 Makes pages made result old new = pages.is_tied old → IfOk result (made (pages.store old).map (pages.store new).map)
 
--- the same of the bytes of the working page with this number
-abbrev pub MakesOf : {S : Type 0} → Ghosts S → ℕ → (PageMap → PageMap → List ℕ → Type 0) → S → S → Type 0
-MakesOf pages number made old new = pages.is_tied old → (page : List ℕ) → (pages.store old).map.page number ≡ Some page → made (pages.store old).map (pages.store new).map page
+-- on an honest disk, what is so of the pages before a call and after it, and of the bytes that the working page with this number
+-- had before it, refused or not
+abbrev pub WithPage : {S : Type 0} → Ghosts S → ℕ → (PageMap → PageMap → List ℕ → Type 0) → S → S → Type 0
+WithPage pages number told old new = pages.is_tied old → (page : List ℕ) → (pages.store old).map.page number ≡ Some page → told (pages.store old).map (pages.store new).map page

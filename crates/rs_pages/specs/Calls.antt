@@ -10,10 +10,10 @@ use Rattle.rs_pages.specs.declared.pages.Pages.{Ghosts}
 abbrev pub OnlyReads : {S T : Type 0} → Ghosts S → Result T Refusal → S → S → Type 0
 OnlyReads pages result old new = RestsAfter pages.is_tied pages.store pages.keeps result old new
 
--- what a call that is not refused reads off the pages of an honest disk, with its answer
+-- on an honest disk, what is so of the pages and of the answer, where the call is not refused
 abbrev pub Reads : {S T : Type 0} → Ghosts S → (PageMap → T → Type 0) → Result T Refusal → S → Type 0
 Reads pages read result old = pages.is_tied old → IfOk result (read (pages.store old).map)
 
--- what the pages of an honest disk lack where a call is refused with 94
-abbrev pub Lacks : {S T : Type 0} → Ghosts S → (PageMap → Type 0) → Result T Refusal → S → Type 0
-Lacks pages lacking result old = result ≡ Err refusal.DamagedFile → pages.is_tied old → lacking (pages.store old).map
+-- on an honest disk, 94 comes only where this is so of the pages
+abbrev pub DamagedOnlyIf : {S T : Type 0} → Ghosts S → (PageMap → Type 0) → Result T Refusal → S → Type 0
+DamagedOnlyIf pages damaged result old = result ≡ Err refusal.DamagedFile → pages.is_tied old → damaged (pages.store old).map

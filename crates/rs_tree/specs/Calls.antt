@@ -59,7 +59,8 @@ abbrev pub Descends : {P S : Type 0} → Ghosts P → Summaries S → Form → �
 Descends {S = S} pages summaries form root low high answers result old = pages.is_tied old → (test : S → Bool) → Computes answers test → AcceptsParts summaries.join test
     → IfOk result (λ found. Finds form (pages.store old).map root low high (λ cell. test (summaries.of cell)) (listed found.0) found.1)
 
--- what a walk goes through, by the test of cells that stands for the test that is answered, if that accepts parts with their join
+-- on an honest disk, what a walk that is not refused goes through, where the test of summaries that is answered accepts a join
+-- exactly where it accepts a part: a cell passes it by its own summary
 abbrev pub WalksBy : {P S T : Type 0} → Ghosts P → Summaries S → (S → Bool → Type 0) → (PageMap → (List ℕ → Bool) → Type 0) → Result T Refusal → P → Type 0
 WalksBy {S = S} pages summaries answers walks result old = pages.is_tied old → (test : S → Bool) → Computes answers test → AcceptsParts summaries.join test
     → OnOk result (walks (pages.store old).map (λ cell. test (summaries.of cell)))

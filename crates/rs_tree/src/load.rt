@@ -12,7 +12,8 @@ use rs_pages::Pages;
 use rs_refusal::Refusal;
 
 /// Copies the page with this number, which is one of a tree's, tells what it holds, and counts it: there is one read less left. It is
-/// refused with 91, and with 94 where it is no page of a tree, or no read is left; what the copy holds then is unspecified.
+/// refused with 91, and with 94 where it is no page of a tree, or no read is left. After a refusal, what the copy holds is
+/// unspecified.
 pub fn load<P: Pages>(
     pages: &mut P,
     number: PageNumber,

@@ -5,7 +5,7 @@
 
 ghost use Rattle.std.specs.Prelude.{◌≡◌, ◌⊎◌, ◌<◌, ◌≤◌, ◌+◌, Bool, IfErr, IfNone, IfOk, IfSome, OnOk, Err};
 ghost use Rattle.std.specs.Fn.{FnReturnsAt};
-ghost use Rattle.rs_pages.specs.Calls.{Lacks, OnlyReads};
+ghost use Rattle.rs_pages.specs.Calls.{DamagedOnlyIf, OnlyReads};
 ghost use Rattle.rs_records.specs.Listed.{listed, record_width};
 ghost use Rattle.rs_tree.specs.Asking.{Computes};
 ghost use Rattle.rs_tree.specs.Looking.{FindsInner, FindsLeaf, HasInner, HasLeaf};
@@ -46,7 +46,7 @@ pub fn look<P: Pages, S: Summary, F: Fn(&S) -> bool>(
     ensures counted { OnOk result (left.old ≡ left.new + 1) }
     ensures fewer { left.new ≤ left.old }
     ensures refused { IfErr result IsWalkRefusal }
-    ensures damaged { Lacks P.Pages (λ map. 0 < left.old → HasNoNode map number wanted.now.layout) result pages.old }
+    ensures damaged { DamagedOnlyIf P.Pages (λ map. 0 < left.old → HasNoNode map number wanted.now.layout) result pages.old }
 {
     if *left == 0 {
         return Err(Refusal::DamagedFile);

@@ -12,7 +12,7 @@ ghost use Rattle.rs_tree.specs.Form.{least_from};
 ghost use Rattle.rs_tree.specs.Layouts.{entry_bytes};
 ghost use Rattle.rs_tree.specs.Walking.{Walks, WalksEntry, WalksEntries, ReadsOnce, ReadsEntryOnce, ReadsEntriesOnce, IsWalkRefusal, HasNoPart, HasNoPartOfEntry, HasNoPartsOfEntries, IsRange};
 ghost use Rattle.rs_tree.specs.Forms.{form_in};
-ghost use Rattle.rs_pages.specs.Calls.{Lacks, OnlyReads, Reads};
+ghost use Rattle.rs_pages.specs.Calls.{DamagedOnlyIf, OnlyReads, Reads};
 
 use crate::asking::accepts;
 use crate::entry::{child, summary};
@@ -47,7 +47,7 @@ pub fn walk<P: Pages, S: Summary, F: Fn(&S) -> bool>(
     ensures once { Reads P.Pages (λ map _. ReadsOnce (form_in S.Summary wanted.now.layout) map number left.old left.new) result
         pages.old }
     ensures refused { IfErr result IsWalkRefusal }
-    ensures damaged { Lacks P.Pages (λ map. HasNoPart (form_in S.Summary wanted.now.layout) map number levels left.old) result
+    ensures damaged { DamagedOnlyIf P.Pages (λ map. HasNoPart (form_in S.Summary wanted.now.layout) map number levels left.old) result
         pages.old }
 {
     let Some(count) = look(pages, number, wanted, left, cells, copy)? else {
@@ -84,7 +84,7 @@ fn walk_entries<P: Pages, S: Summary, F: Fn(&S) -> bool>(
     ensures once { Reads P.Pages (λ map _. ReadsEntriesOnce (form_in S.Summary wanted.now.layout) map page.now.bytes count
         left.old left.new) result pages.old }
     ensures refused { IfErr result IsWalkRefusal }
-    ensures damaged { Lacks P.Pages (λ map. HasNoPartsOfEntries (form_in S.Summary wanted.now.layout) map page.now.bytes count
+    ensures damaged { DamagedOnlyIf P.Pages (λ map. HasNoPartsOfEntries (form_in S.Summary wanted.now.layout) map page.now.bytes count
         levels left.old) result pages.old }
 {
     let bytes = content(page);
@@ -122,7 +122,7 @@ fn walk_entry<P: Pages, S: Summary, F: Fn(&S) -> bool>(
     ensures once { Reads P.Pages (λ map _. ReadsEntryOnce (form_in S.Summary wanted.now.layout) map entry.now left.old left.new)
         result pages.old }
     ensures refused { IfErr result IsWalkRefusal }
-    ensures damaged { Lacks P.Pages (λ map. HasNoPartOfEntry (form_in S.Summary wanted.now.layout) map entry.now levels left.old)
+    ensures damaged { DamagedOnlyIf P.Pages (λ map. HasNoPartOfEntry (form_in S.Summary wanted.now.layout) map entry.now levels left.old)
         result pages.old }
 {
     if !accepts(wanted.keep, &S::read(summary(entry, wanted.layout))) {

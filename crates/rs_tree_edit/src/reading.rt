@@ -12,7 +12,7 @@ use rs_tree::load::load;
 use rs_tree::{Layout, Node};
 
 /// Copies the page with this number, which is one of a tree's, and tells what it holds. It is refused with 91, and with 94 where it is
-/// no page of a tree; what the copy holds then is unspecified.
+/// no page of a tree. After a refusal, what the copy holds is unspecified.
 pub fn read_part<P: Pages>(
     pages: &mut P,
     number: PageNumber,

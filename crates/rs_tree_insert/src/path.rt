@@ -10,7 +10,7 @@ ghost use Rattle.rs_tree.specs.Forms.{form_in};
 ghost use Rattle.rs_tree_insert.specs.Finding.{BelongsAt, BelongsUnder};
 ghost use Rattle.rs_tree_insert.specs.Inserting.{HasNoShared, HasNoTops, PutsBelow, TellsBelow, WritesAbove, tops};
 ghost use Rattle.rs_tree_insert.specs.Writing.{IsBroken, is_found};
-ghost use Rattle.rs_page_owners.specs.Calls.{Makes, MakesOf, WorksOn};
+ghost use Rattle.rs_page_owners.specs.Calls.{Makes, WithPage, WorksOn};
 ghost use Rattle.rs_pages.specs.Calls.{Reads};
 
 use crate::answer::Put;
@@ -98,7 +98,7 @@ fn insert_here<P: Pages, S: Summary>(
     requires at { place.at ≤ place.count }
     ensures keeps { P.keeps pages.old pages.new }
     ensures works { WorksOn P.Pages (IsBroken (P.store pages.old).map place.number) result pages.old pages.new }
-    ensures puts { MakesOf P.Pages place.number (λ old new page.
+    ensures puts { WithPage P.Pages place.number (λ old new page.
         BelongsAt page place.number layout cell.now place.count place.at → IfOk result (λ put.
         PutsBelow (form_in S.Summary layout) old new place.number cell.now put)) pages.old pages.new }
     ensures placed { IfOk result (λ put. is_found put ≡ false) }
@@ -139,10 +139,10 @@ fn insert_under<P: Pages, S: Summary>(
     ensures works { WorksOn P.Pages ((page : List ℕ) → (P.store pages.old).map.page place.number ≡ Some page
         → BelongsUnder page place.number layout cell.now entry.now place.count place.at
         → HasNoShared (form_in S.Summary layout) (P.store pages.old).map place.number levels) result pages.old pages.new }
-    ensures puts { MakesOf P.Pages place.number (λ old new page.
+    ensures puts { WithPage P.Pages place.number (λ old new page.
         BelongsUnder page place.number layout cell.now entry.now place.count place.at → IfOk result (λ put.
         PutsBelow (form_in S.Summary layout) old new place.number cell.now put)) pages.old pages.new }
-    ensures found { MakesOf P.Pages place.number (λ old _ page.
+    ensures found { WithPage P.Pages place.number (λ old _ page.
         BelongsUnder page place.number layout cell.now entry.now place.count place.at → IfOk result (λ put.
         TellsBelow (form_in S.Summary layout) old place.number cell.now put)) pages.old pages.new }
     ensures same { Makes P.Pages (λ old new put. is_found put ≡ true → SamePages new old) result pages.old pages.new }
@@ -186,7 +186,7 @@ fn write_above<P: Pages, S: Summary>(
     ensures works { WorksOn P.Pages (HasNoTops (form_in S.Summary layout) (P.store pages.old).map (tops below put)
         ⊎ IsBroken (P.store pages.old).map place.number) result pages.old pages.new }
     ensures placed { IfOk result (λ above. is_found above ≡ false) }
-    ensures above { MakesOf P.Pages place.number (λ old new page.
+    ensures above { WithPage P.Pages place.number (λ old new page.
         slice_get (records place.count (entry_bytes layout) (content page)) place.at ≡ Some entry.now → IfOk result (λ above.
         WritesAbove (form_in S.Summary layout) old new place.number page place.count place.at (tops below put) above))
         pages.old pages.new }

@@ -7,7 +7,7 @@ ghost use Rattle.rs_records.specs.Records.{records};
 ghost use Rattle.rs_tree.specs.Content.{content};
 ghost use Rattle.rs_tree_edit.specs.Editing.{Splices};
 ghost use Rattle.rs_tree_insert.specs.Writing.{IsBroken, SplitsPage, spliced};
-ghost use Rattle.rs_page_owners.specs.Calls.{Makes, MakesOf, WorksOn};
+ghost use Rattle.rs_page_owners.specs.Calls.{Makes, WithPage, WorksOn};
 
 use rs_page::{Page, PageNumber};
 use rs_pages::Pages;
@@ -38,7 +38,7 @@ pub fn split_page<P: Pages>(
     requires full { 4080 < (edited.count - edit.removed + edit.more) * edited.width }
     ensures keeps { P.keeps pages.old pages.new }
     ensures works { WorksOn P.Pages (IsBroken (P.store pages.old).map edited.number) result pages.old pages.new }
-    ensures splits { MakesOf P.Pages edited.number (λ old new page. IfOk result (λ other. SplitsPage old new edited.number other
+    ensures splits { WithPage P.Pages edited.number (λ old new page. IfOk result (λ other. SplitsPage old new edited.number other
         (page_kind edited.kind) edited.width (spliced (records edited.count edited.width (content page)) edit.at edit.removed
         (records edit.more edited.width added.now)))) pages.old pages.new }
 {
@@ -90,7 +90,7 @@ fn keep_first<P: Pages>(
     ensures works { WorksOn P.Pages (HasNoFit (P.store pages.old).map edited.number) result pages.old pages.new }
     ensures edited { Makes P.Pages (λ old new _. Splices old new edited.number (page_kind edited.kind) edited.width edited.count
         0 edited.count (records first edited.width (take (first * edited.width) both.new))) result pages.old pages.new }
-    ensures both { MakesOf P.Pages edited.number (λ _ _ page. OnOk result (
+    ensures both { WithPage P.Pages edited.number (λ _ _ page. OnOk result (
         records (edited.count - edit.removed + edit.more) edited.width both.new
         ≡ spliced (records edited.count edited.width (content page)) edit.at edit.removed
         (records edit.more edited.width added.now))) pages.old pages.new }

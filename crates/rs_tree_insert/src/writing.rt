@@ -4,7 +4,7 @@ ghost use Rattle.std.specs.Prelude.{◌≡◌, ◌≤◌, ◌<◌, ◌+◌, ◌*
 ghost use Rattle.rs_page.specs.Header.{page_kind};
 ghost use Rattle.rs_records.specs.Records.{records};
 ghost use Rattle.rs_tree_insert.specs.Writing.{IsBroken, PutsRecords, is_found};
-ghost use Rattle.rs_page_owners.specs.Calls.{MakesOf, WorksOn};
+ghost use Rattle.rs_page_owners.specs.Calls.{WithPage, WorksOn};
 
 use crate::answer::Put;
 use crate::splitting::split_page;
@@ -31,7 +31,7 @@ pub fn put_records<P: Pages>(
     ensures keeps { P.keeps pages.old pages.new }
     ensures works { WorksOn P.Pages (IsBroken (P.store pages.old).map edited.number) result pages.old pages.new }
     ensures placed { IfOk result (λ put. is_found put ≡ false) }
-    ensures puts { MakesOf P.Pages edited.number (λ old new page. IfOk result (λ put. PutsRecords old new edited.number page
+    ensures puts { WithPage P.Pages edited.number (λ old new page. IfOk result (λ put. PutsRecords old new edited.number page
         (page_kind edited.kind) edited.width edited.count edit.at edit.removed (records edit.more edited.width added.now) put))
         pages.old pages.new }
 {

@@ -58,9 +58,9 @@ pub record RemovesPart (form : Form) (old new : PageMap) (number : ℕ) (cell : 
   pub each : (height : ℕ) (shape : Shape height) (others : ℕ → ℕ) → IsPart form old number height shape → Ascends (cells_of height shape) → Shares old (uses height shape & others)
       → IsRemoved form old new number height (uses height shape) cell (cells_of height shape) answer
 
--- so it is on the pages of an honest disk, where this is the working page with that number
-abbrev pub RemovesBelow : {P : Type 0} → Ghosts P → Form → ℕ → List ℕ → List ℕ → Result Removed Refusal → P → P → Type 0
-RemovesBelow pages form number page cell result old new = pages.is_tied old → (pages.store old).map.page number ≡ Some page
+-- so it is on an honest disk, where the working page with this number has these bytes and the call is not refused
+abbrev pub RemovesFrom : {P : Type 0} → Ghosts P → Form → ℕ → List ℕ → List ℕ → Result Removed Refusal → P → P → Type 0
+RemovesFrom pages form number page cell result old new = pages.is_tied old → (pages.store old).map.page number ≡ Some page
     → IfOk result (RemovesPart form (pages.store old).map (pages.store new).map number cell)
 
 -- no part of so few levels has this page at its top, and its pages to itself

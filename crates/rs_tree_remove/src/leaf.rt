@@ -3,7 +3,7 @@
 ghost use Rattle.std.specs.Prelude.{◌≡◌, ◌≢◌, ℕ, true, Some, Err};
 ghost use Rattle.rs_tree.specs.Node.{IsNode};
 ghost use Rattle.rs_tree.specs.Forms.{form_in};
-ghost use Rattle.rs_tree_remove.specs.Leaving.{RemovesBelow, HasNoOwnPart};
+ghost use Rattle.rs_tree_remove.specs.Leaving.{RemovesFrom, HasNoOwnPart};
 ghost use Rattle.rs_page_owners.specs.Calls.{WorksOn};
 
 use crate::answer::Removed;
@@ -30,7 +30,7 @@ pub fn remove_from_leaf<P: Pages, S: Summary>(
     ensures works { WorksOn P.Pages ((P.store pages.old).map.page number ≡ Some page.now.bytes → (levels : ℕ)
         → HasNoOwnPart (form_in S.Summary layout) (P.store pages.old).map number levels) result pages.old pages.new }
     ensures room { result ≢ Err Refusal.FileFull }
-    ensures removed { RemovesBelow P.Pages (form_in S.Summary layout) number page.now.bytes cell.now result pages.old pages.new }
+    ensures removed { RemovesFrom P.Pages (form_in S.Summary layout) number page.now.bytes cell.now result pages.old pages.new }
 {
     let bytes = content(page);
     let at = place(bytes, layout.width, count, 0, cell);

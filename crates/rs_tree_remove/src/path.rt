@@ -4,7 +4,7 @@ ghost use Rattle.std.specs.Prelude.{◌≡◌, ◌≢◌, ◌<◌, Some, true, E
 ghost use Rattle.rs_tree.specs.Node.{IsNode};
 ghost use Rattle.rs_tree.specs.declared.node.Node.{Node};
 ghost use Rattle.rs_tree.specs.Forms.{form_in};
-ghost use Rattle.rs_tree_remove.specs.Leaving.{RemovesBelow, RemovesPart, HasNoOwnPart};
+ghost use Rattle.rs_tree_remove.specs.Leaving.{RemovesFrom, RemovesPart, HasNoOwnPart};
 ghost use Rattle.rs_page_owners.specs.Calls.{Makes, WorksOn};
 
 use crate::finishing::{InnerPage, Stretch, drop_entry, renew_entry};
@@ -69,7 +69,7 @@ fn remove_under<P: Pages, S: Summary>(
     ensures works { WorksOn P.Pages ((P.store pages.old).map.page inner.number ≡ Some page.now.bytes
         → HasNoOwnPart (form_in S.Summary layout) (P.store pages.old).map inner.number levels) result pages.old pages.new }
     ensures room { result ≢ Err Refusal.FileFull }
-    ensures removed { RemovesBelow P.Pages (form_in S.Summary layout) inner.number page.now.bytes cell.now result
+    ensures removed { RemovesFrom P.Pages (form_in S.Summary layout) inner.number page.now.bytes cell.now result
         pages.old pages.new }
 {
     let bytes = content(page);

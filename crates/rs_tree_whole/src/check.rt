@@ -9,7 +9,7 @@ ghost use Rattle.rs_tree.specs.Form.{joined};
 ghost use Rattle.rs_tree.specs.Layouts.{entry_bytes};
 ghost use Rattle.rs_tree.specs.Forms.{form_in};
 ghost use Rattle.rs_tree_whole.specs.Checking.{Reaches, HasNoSound, ReachesEntry, HasNoSoundEntry, ReachesEntries, HasNoSoundEntries};
-ghost use Rattle.rs_pages.specs.Calls.{Lacks, OnlyReads, Reads};
+ghost use Rattle.rs_pages.specs.Calls.{DamagedOnlyIf, OnlyReads, Reads};
 
 use crate::enter::enter;
 use crate::keys::{bound_at, least};
@@ -51,7 +51,7 @@ pub fn check_part<P: Pages, S: Summary>(
         (option_copied first.entry) (option_copied bound.entry) (taken reached.old) (taken reached.new)
         part.height part.total part.whole) result pages.old }
     ensures refused { IfErr result (λ why. (why ≡ Refusal.Disk) ⊎ (why ≡ Refusal.DamagedFile)) }
-    ensures damaged { Lacks P.Pages (λ map. HasNoSound (form_in S.Summary layout) map number
+    ensures damaged { DamagedOnlyIf P.Pages (λ map. HasNoSound (form_in S.Summary layout) map number
         (option_copied first.entry) (option_copied bound.entry) levels (taken reached.old)) result pages.old }
 {
     let mut page = Page::new();
@@ -106,7 +106,7 @@ fn check_entries<P: Pages, S: Summary>(
     ensures reaches { Reads P.Pages (λ map parts. ReachesEntries (form_in S.Summary layout) map page.now.bytes count count
         (option_copied bound.entry) (taken reached.old) (taken reached.new) parts.0 parts.1) result pages.old }
     ensures refused { IfErr result (λ why. (why ≡ Refusal.Disk) ⊎ (why ≡ Refusal.DamagedFile)) }
-    ensures damaged { Lacks P.Pages (λ map. HasNoSoundEntries (form_in S.Summary layout) map page.now.bytes count
+    ensures damaged { DamagedOnlyIf P.Pages (λ map. HasNoSoundEntries (form_in S.Summary layout) map page.now.bytes count
         (option_copied bound.entry) levels (taken reached.old)) result pages.old }
 {
     let bytes = content(page);
@@ -144,7 +144,7 @@ fn check_entry<P: Pages, S: Summary>(
     ensures reaches { Reads P.Pages (λ map part. ReachesEntry (form_in S.Summary layout) map entry.now
         (option_copied bound.entry) (taken reached.old) (taken reached.new) part.0 part.1) result pages.old }
     ensures refused { IfErr result (λ why. (why ≡ Refusal.Disk) ⊎ (why ≡ Refusal.DamagedFile)) }
-    ensures damaged { Lacks P.Pages (λ map. HasNoSoundEntry (form_in S.Summary layout) map entry.now
+    ensures damaged { DamagedOnlyIf P.Pages (λ map. HasNoSoundEntry (form_in S.Summary layout) map entry.now
         (option_copied bound.entry) levels (taken reached.old)) result pages.old }
 {
     let number = child(entry, layout);

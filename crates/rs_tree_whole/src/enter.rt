@@ -4,7 +4,7 @@ ghost use Rattle.std.specs.Prelude.{◌≡◌, ◌<◌, ◌⊎◌, ◌^◌, ℕ,
 ghost use Rattle.rs_page_owners.specs.Counts.{◌&◌, one_at};
 ghost use Rattle.rs_page_marks.specs.Marks.{taken};
 ghost use Rattle.rs_tree_whole.specs.Entering.{Enters, HasNoFreshNode};
-ghost use Rattle.rs_pages.specs.Calls.{Lacks, OnlyReads};
+ghost use Rattle.rs_pages.specs.Calls.{DamagedOnlyIf, OnlyReads};
 
 use rs_page::{Page, PageNumber};
 use rs_page_marks::Reached;
@@ -14,7 +14,7 @@ use rs_tree::load::load;
 use rs_tree::{Layout, Node};
 
 /// Marks the page with this number, copies it and tells what it holds. It is refused with 91, and with 94 where it was reached before
-/// or is no page of a tree; what the copy holds then is unspecified.
+/// or is no page of a tree. After a refusal, what the copy holds is unspecified.
 pub fn enter<P: Pages>(
     pages: &mut P,
     layout: Layout,
@@ -28,7 +28,7 @@ pub fn enter<P: Pages>(
     ensures enters { IfOk result (Enters (P.is_tied pages.old) (P.store pages.old).map number layout copy.new.bytes) }
     ensures reaches { OnOk result ((n : ℕ) → taken reached.new n ≡ (taken reached.old & one_at number) n) }
     ensures refused { IfErr result (λ why. (why ≡ Refusal.Disk) ⊎ (why ≡ Refusal.DamagedFile)) }
-    ensures damaged { Lacks P.Pages (λ map. HasNoFreshNode map number layout (taken reached.old)) result pages.old }
+    ensures damaged { DamagedOnlyIf P.Pages (λ map. HasNoFreshNode map number layout (taken reached.old)) result pages.old }
 {
     let count = pages.count();
     if number.number() < 2 || number.number() >= count || !reached.reach(number) {
