@@ -392,6 +392,7 @@ impl Catalog {
     pub fn stand(&self)
         ensures { AreDefinitions self.now }
     {
+        // For the proof: what is kept is numbered, and within its limits.
         let _routes = &self.routes;
     }
 }

@@ -44,6 +44,7 @@ impl Ends {
         ensures value { result ≡ record { start = start; finish = finish } }
         ensures measured { finish ≤ GREATEST_MEASURE }
     {
+        // For the proof: the finish is a measure.
         let _in_range = finish.thousandths();
         Ends { start, finish }
     }
@@ -67,6 +68,7 @@ impl Ends {
         ensures ordered { self.start < self.finish }
         ensures measured { self.finish ≤ GREATEST_MEASURE }
     {
+        // For the proof: the finish is a measure.
         let _in_range = self.finish.thousandths();
     }
 

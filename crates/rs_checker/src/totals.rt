@@ -26,7 +26,7 @@ pub fn check_group(alloc: Global, columns: &Columns, names: &[Name]) -> Result<V
     if some_name_twice(names) {
         return Err(Refusal::ColumnTwice);
     }
-    // there are no more columns than a row has room for
+    // For the proof: there are no more columns than a row has room for.
     let _columns = columns.as_slice();
     Ok(places)
 }

@@ -7,6 +7,5 @@ pub mod Sessions
 pub mod Lines
 pub mod Clean
 pub mod Inserts
-mod QuotesDoubled
 mod Spelled
 mod Putting

@@ -7,11 +7,10 @@ ghost use Rattle.csv.specs.Records.{fields_of};
 ghost use Rattle.rs_methods.specs.Position.{expression_of};
 ghost use Rattle.rs_value.specs.Row.{Datum};
 ghost use Rattle.rs_value.specs.Row as rows;
-ghost use Rattle.rs_value.specs.Text.{quotes_doubled, datum_text};
+ghost use Rattle.rs_value.specs.Text.{datum_text};
 ghost use Rattle.rs_lexer.specs.Lexis.{IsTokenOf};
 ghost use Rattle.rs_syntax.specs.Written.{position_lexemes, AreToldOf};
-ghost use Rattle.rs_csv_lines.specs.Fields.{content, SaysName};
-ghost use Rattle.rs_csv_lines.specs.Texts.{session_text, position_text, number_text, PutsPosition, PutsDatum};
+ghost use Rattle.rs_csv_lines.specs.Texts.{session_text, position_text, number_text, PutsDatum};
 ghost use Rattle.rs_csv_lines.specs.Inserts.{Field, TellsRoute, PutsPositionAt};
 
 use crate::fields::{field_text, name_in, number_in, position_in};
@@ -21,7 +20,7 @@ use rs_lexer::Token;
 use rs_meaning::meaning::text;
 use rs_methods::{Name, Position};
 use rs_syntax::written::WrittenPosition;
-use rs_value::ColumnType;
+use rs_value::{ColumnType, push_doubled};
 use std::alloc::{AllocError, Global};
 
 /// Puts the number of a session.
@@ -35,25 +34,12 @@ pub fn put_session(line: &mut String, session: u8) -> Result<(), AllocError>
     line.push(char::from(b'0' + session % 10))
 }
 
-// Puts a text with each quote doubled.
-fn put_doubled(line: &mut String, quoted: &str) -> Result<(), AllocError>
-    ensures { OnOk result (string_bytes line.new ≡ string_bytes line.old ++ quotes_doubled quoted.now) }
-{
-    let mut rest = quoted;
-    while let Some((before, after)) = rest.split_once('\'') {
-        line.push_str(before)?;
-        line.push_str("''")?;
-        rest = after;
-    }
-    line.push_str(rest)
-}
-
 // Puts a text between quotes.
 fn put_text(line: &mut String, quoted: &str) -> Result<(), AllocError>
     ensures { OnOk result (string_bytes line.new ≡ string_bytes line.old ++ datum_text (rows.text quoted.now)) }
 {
     line.push('\'')?;
-    put_doubled(line, quoted)?;
+    push_doubled(line, quoted)?;
     line.push('\'')
 }
 

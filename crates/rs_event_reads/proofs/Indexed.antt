@@ -15,6 +15,7 @@ use Rattle.rs_cell_versions.specs.Versioned.{Standing}
 use Rattle.rs_facts.specs.Operators.{datum_at}
 use Rattle.rs_facts.specs.Runs.{Stretch}
 use Rattle.rs_interval.specs.Finding.{route_from}
+use Rattle.rs_interval.proofs.EventOrder.{within_is}
 use Rattle.rs_pages.specs.PageMap.{PageMap}
 use Rattle.rs_tree.specs.Calls.{Finds}
 use Rattle.rs_tree.specs.Cells.{is_within}
@@ -32,7 +33,6 @@ use Rattle.rs_event_reads.specs.Picked.{PicksSpans, SayNone}
 use Rattle.rs_event_reads.specs.Read.{spans_in}
 use Rattle.rs_event_reads.specs.declared.window.RouteWindow.{RouteWindow}
 use Rattle.rs_event_reads.proofs.Entries.{AreWide, found_cells, found_count, is_between}
-use Rattle.rs_event_reads.proofs.Places.{within_is}
 use Rattle.rs_event_reads.proofs.Overlaps.{picked_with, record_of}
 
 module _ (types : List ColumnType) (column : ℕ) (pages : PageMap) (standing : Standing) (index : IndexState) (datum : Datum) (is : IsColumn types column index.field) where

@@ -2,5 +2,4 @@ mod Entries
 mod Indexed
 mod Overlaps
 mod Picks
-mod Places
 mod Within

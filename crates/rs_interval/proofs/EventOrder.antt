@@ -14,9 +14,10 @@ use Rattle.rs_records.specs.Order.{is_below}
 use Rattle.rs_tree.specs.Cells.{is_within, cells_within}
 use Rattle.rs_interval.specs.EventRecords.{EventRecord, SaysRecord, overlaps}
 use Rattle.rs_interval.specs.Ends.{end_of}
+use Rattle.rs_interval.specs.Finding.{route_from}
 use Rattle.rs_interval.proofs.WordOrder.{word_cmp}
 
-then_lt : (x y : ℕ) (o : Ordering) → is_lt (ordering_then (nat_cmp x y) o) ≡ (nat_lt x y || (x == y && is_lt o))
+pub then_lt : (x y : ℕ) (o : Ordering) → is_lt (ordering_then (nat_cmp x y) o) ≡ (nat_lt x y || (x == y && is_lt o))
 then_lt x y o = by (nat_lt x y) (x == y) where
   by : (p q : Bool) → is_lt (ordering_then (cond p Less (cond q Equal Greater)) o) ≡ (p || (q && is_lt o))
   by true q = refl
@@ -24,7 +25,7 @@ then_lt x y o = by (nat_lt x y) (x == y) where
   by false false = refl
 
 -- nothing is below what has no bytes
-none_lt : (xs : List ℕ) → is_lt (slice_cmp nat_cmp xs []) ≡ false
+pub none_lt : (xs : List ℕ) → is_lt (slice_cmp nat_cmp xs []) ≡ false
 none_lt [] = refl
 none_lt (x ∷ xs) = refl
 
@@ -66,24 +67,19 @@ between_is x y f b = elim (cases_order x y) [
   ]
 ]
 
-module _ (route a b : ℕ) (known : route < 2 ^ 32) (bound : b < 2 ^ 32) where
-  abbrev low : List ℕ
-  low = to_be_bytes w32 route ++ to_be_bytes w32 0
-
-  abbrev high : List ℕ
-  high = to_be_bytes w32 route ++ to_be_bytes w32 b
-
-  -- the bounds cut where the record's route and beginning say
-  within_is : (cell : List ℕ) (event : EventRecord) → SaysRecord cell event → is_within low high cell ≡ (event.route == route && nat_lt event.from b)
-  within_is cell event says =
-      let rest : List ℕ = event.row ++ (to_be_bytes w64 event.born ++ (to_be_bytes w32 event.to ++ to_be_bytes w64 event.died)) in
-      let starts : is_below cell low ≡ (nat_lt event.route route || (event.route == route && false)) =
-      ap (λ c. is_below c low) says.bytes ∙ below_beginning event.route route event.from 0 rest says.route_fits known says.from_fits (omega arith)
-      ∙ ap (λ t. nat_lt event.route route || (event.route == route && t)) (not_before event.from) in
-      let stops : is_below cell high ≡ (nat_lt event.route route || (event.route == route && (nat_lt event.from b || (event.from == b && false)))) =
-      ap (λ c. is_below c high) says.bytes ∙ below_beginning event.route route event.from b rest says.route_fits known says.from_fits bound in
-      ap (λ t. not t && is_below cell high) starts ∙ ap (λ t. not (nat_lt event.route route || (event.route == route && false)) && t) stops
-      ∙ between_is event.route route event.from b
+-- the bounds cut where the record's route and beginning say
+pub within_is : (route to : ℕ) → route < 2 ^ 32 → to < 2 ^ 32 → (cell : List ℕ) (event : EventRecord) → SaysRecord cell event
+    → is_within (route_from route 0) (route_from route to) cell ≡ (event.route == route && nat_lt event.from to)
+within_is route to known bound cell event says =
+    let low : List ℕ = route_from route 0 in
+    let high : List ℕ = route_from route to in
+    let rest : List ℕ = event.row ++ (to_be_bytes w64 event.born ++ (to_be_bytes w32 event.to ++ to_be_bytes w64 event.died)) in
+    let starts : is_below cell low ≡ (nat_lt event.route route || (event.route == route && false)) =
+    ap (λ c. is_below c low) says.bytes ∙ below_beginning event.route route event.from 0 rest says.route_fits known says.from_fits (omega arith)
+    ∙ ap (λ t. nat_lt event.route route || (event.route == route && t)) (not_before event.from) in
+    let stops : is_below cell high ≡ (nat_lt event.route route || (event.route == route && (nat_lt event.from to || (event.from == to && false)))) =
+    ap (λ c. is_below c high) says.bytes ∙ below_beginning event.route route event.from to rest says.route_fits known says.from_fits bound in
+    ap (λ t. not t && is_below cell high) starts ∙ ap (λ t. not (nat_lt event.route route || (event.route == route && false)) && t) stops ∙ between_is event.route route event.from to
 
 -- a record ends where its cell says
 pub end_is : (cell : List ℕ) (event : EventRecord) → SaysRecord cell event → (end_of cell).end ≡ event.to
@@ -103,7 +99,7 @@ module _ (route a b : ℕ) (known : route < 2 ^ 32) (bound : b < 2 ^ 32) where
   after = filter (λ cell. nat_lt a (end_of cell).end)
 
   abbrev between : List (List ℕ) → List (List ℕ)
-  between = cells_within (to_be_bytes w32 route ++ to_be_bytes w32 0) (to_be_bytes w32 route ++ to_be_bytes w32 b)
+  between = cells_within (route_from route 0) (route_from route b)
 
   one_more : (c : List ℕ) (e : EventRecord) (rest : List (List ℕ)) (others : List EventRecord) (p q : Bool) → SaysRecord c e → AllZip SaysRecord (after rest) others
       → AllZip SaysRecord (after (cond (p && q) (c ∷ rest) rest)) (cond (p && (q && nat_lt a e.to)) (e ∷ others) others)
@@ -117,10 +113,10 @@ module _ (route a b : ℕ) (known : route < 2 ^ 32) (bound : b < 2 ^ 32) where
 
   -- what lies between the bounds and ends after a are the cells of the records that overlap
   pub selected : (cells : List (List ℕ)) (events : List EventRecord) → AllZip SaysRecord cells events
-      → AllZip SaysRecord (filter (λ cell. nat_lt a (end_of cell).end) (cells_within (to_be_bytes w32 route ++ to_be_bytes w32 0) (to_be_bytes w32 route ++ to_be_bytes w32 b) cells)) (filter (overlaps route a b) events)
+      → AllZip SaysRecord (filter (λ cell. nat_lt a (end_of cell).end) (cells_within (route_from route 0) (route_from route b) cells)) (filter (overlaps route a b) events)
   selected [] [] all = tt
   selected [] (e ∷ es) all = absurd all
   selected (c ∷ cs) [] all = absurd all
   selected (c ∷ cs) (e ∷ es) all =
-      subst (λ w. AllZip SaysRecord (after (cond w (c ∷ between cs) (between cs))) (filter (overlaps route a b) (e ∷ es))) (sym (within_is route a b known bound c e all.0))
+      subst (λ w. AllZip SaysRecord (after (cond w (c ∷ between cs) (between cs))) (filter (overlaps route a b) (e ∷ es))) (sym (within_is route b known bound c e all.0))
       (one_more c e (between cs) (filter (overlaps route a b) es) (e.route == route) (nat_lt e.from b) all.0 (selected cs es all.1))

@@ -20,7 +20,7 @@ pub greater : (x y : ℕ) → y < x → nat_cmp x y ≡ Greater
 greater x y h = sym (nat_cmp_is x y Greater h)
 
 -- a digit in front decides, where it is another
-beside : (a b unit x y : ℕ) → a < b → x < unit → a * unit + x < b * unit + y
+pub beside : (a b unit x y : ℕ) → a < b → x < unit → a * unit + x < b * unit + y
 beside a b unit x y h small =
     let whole : (a + 1) * unit ≤ b * unit = mul-le-mul_right unit (omega arith) in
     let apart : (a + 1) * unit ≡ a * unit + 1 * unit = add-mul a 1 unit in
@@ -49,11 +49,11 @@ digits_cmp a b unit x y u v small also is at = elim (cases_order a b) [
   ]
 ]
 
-above_none : (k : ℕ) → 0 < 256 ^ k
+pub above_none : (k : ℕ) → 0 < 256 ^ k
 above_none k = pow-le-pow_right {n = 256} (omega arith) {i = 0} {j = k} (omega arith)
 
 -- a number below 256 ^ (k + 1) is a byte and a number below 256 ^ k
-digit_more : (k x : ℕ) → x % 256 ^ suc k ≡ byte_at k x * 256 ^ k + x % 256 ^ k
+pub digit_more : (k x : ℕ) → x % 256 ^ suc k ≡ byte_at k x * 256 ^ k + x % 256 ^ k
 digit_more zero x = omega arith
 digit_more (suc k) x =
     let wider : 256 ^ suc (suc k) ≡ 256 * 256 ^ suc k = pow-suc 256 (suc k) ∙ mul_comm (256 ^ suc k) 256 in

@@ -45,7 +45,7 @@ pub fn express(
     // The position lies at k.
     ensures read_back { located_on route.now referents.now (expressed_on route.now referents.now method k) ≡ Ok k }
 {
-    // A measure is in its range, so its text is read back.
+    // For the proof: a measure is in its range, so its text is read back.
     let _in_range = k.thousandths();
     match method {
         Method::Absolute => write_measure(k).to_string(alloc),

@@ -112,6 +112,7 @@ impl Referents {
     pub fn stand_in_order(&self)
         ensures { AreReferents self.now }
     {
+        // For the proof: what is kept is in order.
         let _items = &self.items;
     }
 

@@ -3,9 +3,10 @@ use Rattle.std.proofs.Common.{◌≡◌, ◌⊎◌, ℕ, Result, Ok, Err, refl, 
 use Rattle.rs_refusal.specs.declared.refusal.Refusal.{Refusal}
 use Rattle.rs_refusal.specs.declared.refusal.Refusal.TheVariants as refusal
 use Rattle.rs_pages.specs.Store.{Store, Rests, CountsFailure}
+use Rattle.rs_pages.proofs.Resting.{counts_after}
 use Rattle.rs_pages.proofs.Stores.{CountsFailure-refl}
 use Rattle.rs_page_owners.specs.Changes.{Works, EndsFull, CountsNothing, WorksAfter}
-use Rattle.rs_page_owners.proofs.Working.{Rests-works, counts_after}
+use Rattle.rs_page_owners.proofs.Working.{Rests-works}
 use Rattle.rs_page_owners.proofs.Working as working
 
 -- what worked and counted nothing is a call that was not refused

@@ -4,12 +4,13 @@ use Rattle.rs_refusal.specs.Counts.{counted_on}
 use Rattle.rs_refusal.specs.declared.refusal.Refusal.{Refusal}
 use Rattle.rs_refusal.specs.declared.refusal.Refusal.TheVariants as refusal
 use Rattle.rs_page.specs.declared.file_header.FileHeader.{FileHeader}
-use Rattle.rs_pages.specs.Store.{Store, Rests, Edits, CountsFailure, KeepsCounts}
+use Rattle.rs_pages.specs.Store.{Store, Rests, Edits, KeepsCounts}
 use Rattle.rs_pages.specs.Lending.{RestsAfter, EditsAfter}
 use Rattle.rs_page.specs.declared.header.PageKind.{PageKind}
 use Rattle.rs_pages.specs.FreeList.{IsFreeList, TakesFree, TakesLast}
 use Rattle.rs_pages.specs.PageMap.{HasNoFit}
 use Rattle.rs_pages.specs.Uses.{Wants, AllocatesPage, RefusesPage, IsFull, ReleasesPage, RefusesToRelease}
+use Rattle.rs_pages.proofs.Resting.{counts_after}
 use Rattle.rs_pages.proofs.Stores.{KeepsCounts-refl, KeepsCounts-trans, CountsFailure-refl}
 use Rattle.rs_page_owners.specs.Changes.{Works, WorksAfter, EndsFull, CountsNothing}
 
@@ -34,12 +35,6 @@ Rests-works tied a b rests = same_fields-works a b rests.counts rests.keeps.fiel
 
 pub Edits-works : (tied : Type 0) (n : ℕ) (page : List ℕ) (a b : Store) → Edits tied n page a b → Works a b
 Edits-works tied n page a b edits = same_fields-works a b edits.counts edits.fields
-
-pub counts_after : (why : Refusal) (a b c : Store) → b.failures ≡ a.failures → CountsFailure why b c → CountsFailure why a c
-counts_after why a b c same counts = record {
-  disk = λ is. counts.disk is ∙ ap counted_on same;
-  other = λ isnt. counts.other isnt ∙ same;
-}
 
 -- a refusal after what counted nothing
 pub wants_after : (damaged later : Type 0) (why : Refusal) (a b c : Store) → (later → damaged) → CountsNothing a b → Wants later (EndsFull b c) why b c → Wants damaged (EndsFull a c) why a c

@@ -18,7 +18,8 @@ rests_trans tied later a b c then one other = record {
   full = other.full ∙ one.full;
 }
 
-counts_after : (why : Refusal) (a b c : Store) → b.failures ≡ a.failures → CountsFailure why b c → CountsFailure why a c
+-- a refusal after a call that counted nothing
+pub counts_after : (why : Refusal) (a b c : Store) → b.failures ≡ a.failures → CountsFailure why b c → CountsFailure why a c
 counts_after why a b c same counts = record {
   disk = λ is. counts.disk is ∙ ap counted_on same;
   other = λ isnt. counts.other isnt ∙ same;

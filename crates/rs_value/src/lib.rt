@@ -22,5 +22,5 @@ pub use encoding_laws::{
 };
 pub use fitting::fits;
 pub use row_order::{compare_rows, row_order_is_total, same_row, tied_rows_are_equal};
-pub use row_text::{push_value, push_values};
+pub use row_text::{push_doubled, push_value, push_values};
 pub use value::{Literal, Tuple, Value};

@@ -36,8 +36,8 @@ pub fn push_value(text: &mut String, value: &Value) -> Result<(), AllocError>
     }
 }
 
-// Appends a text with each quote doubled.
-fn push_doubled(text: &mut String, quoted: &str) -> Result<(), AllocError>
+/// Appends a text with each quote doubled. Where memory runs out, a part may have been appended.
+pub fn push_doubled(text: &mut String, quoted: &str) -> Result<(), AllocError>
     ensures { OnOk result (string_bytes text.new ≡ string_bytes text.old ++ quotes_doubled quoted.now) }
 {
     let mut rest = quoted;

@@ -1,16 +1,15 @@
 -- The referents of a route that a version sees, beside the cells between the bytes of its number and of the next.
-use Rattle.std.proofs.Common.{◌≡◌, ◌<◌, ◌≤◌, ◌+◌, ◌-◌, ◌*◌, ◌%◌, ◌^◌, ◌==◌, ℕ, zero, suc, Bool, true, false, not, ◌&&◌, ◌||◌, cond, nat_lt, List, [], ◌∷◌, ◌++◌, length, filter, replicate, refl, sym, ap, ◌∙◌, subst, inl, inr, arith, pow-suc, mul_comm}
-use Rattle.std.proofs.Math.Arith.{mod-mul}
-use Rattle.std.proofs.Math.Nat.{mod-lt, mod-eq_of_lt, pow-le-pow_right, mul-le-mul_right, add-mul}
+use Rattle.std.proofs.Common.{◌≡◌, ◌<◌, ◌+◌, ◌-◌, ◌*◌, ◌%◌, ◌^◌, ◌==◌, ℕ, zero, suc, Bool, true, false, not, ◌&&◌, ◌||◌, cond, nat_lt, List, [], ◌∷◌, ◌++◌, length, filter, replicate, refl, sym, ap, ◌∙◌, subst, inl, inr, arith}
+use Rattle.std.proofs.Math.Nat.{mod-lt, mod-eq_of_lt}
 use Rattle.std.proofs.lemmas.Bool.{cases_lt, cases_order, le-ltb, lt-ltb}
 use Rattle.std.proofs.lemmas.Bool.Decides.{nat_tests}
 use Rattle.std.specs.Cmp.Lexicographic.{slice_cmp}
 use Rattle.std.specs.Int.{w32, w64, to_be_bytes, byte_at, bytes_high_first}
 use Rattle.std.specs.List.{AllZip}
-use Rattle.std.specs.Ordering.{nat_cmp, ordering_then, is_lt}
-use Rattle.std.specs.declared.cmp.Ordering.{Ordering}
-use Rattle.std.specs.declared.cmp.Ordering.TheVariants.{Less, Equal, Greater}
+use Rattle.std.specs.Ordering.{nat_cmp, is_lt}
 use Rattle.rs_records.specs.Order.{is_below}
+use Rattle.rs_interval.proofs.EventOrder.{then_lt, none_lt}
+use Rattle.rs_interval.proofs.WordOrder.{beside, above_none, digit_more}
 use Rattle.rs_tree.specs.Cells.{cells_within, is_within}
 use Rattle.rs_cell_versions.specs.Version.{sees}
 use Rattle.rs_versioned.specs.Referents.{ReferentRecord, SaysReferent, is_referent_of, kept_referents, name_width}
@@ -18,13 +17,6 @@ use Rattle.rs_versioned.specs.Records.{is_seen}
 use Rattle.rs_versioned.proofs.KeptReferents.{referents_are_kept}
 use Rattle.rs_versioned.proofs.Lifting.{zip_filter}
 use Rattle.rs_versioned.proofs.Overlapping.{sees_record}
-
--- a digit in front decides, where it is another
-beside : (a b unit x y : ℕ) → a < b → x < unit → a * unit + x < b * unit + y
-beside a b unit x y h small =
-    let whole : (a + 1) * unit ≤ b * unit = mul-le-mul_right unit (omega arith) in
-    let apart : (a + 1) * unit ≡ a * unit + 1 * unit = add-mul a 1 unit in
-    omega arith
 
 -- the order by a digit and then by the rest is the order by the whole
 digits_lt : (a b unit x y u v : ℕ) → x < unit → y < unit → u ≡ a * unit + x → v ≡ b * unit + y → (nat_lt a b || (a == b && nat_lt x y)) ≡ nat_lt u v
@@ -47,28 +39,6 @@ digits_lt a b unit x y u v small also is at = elim (cases_order a b) [
         rw (no, none) (sym (le-ltb u v (omega (arith, beside b a unit y x above also))))
   ]
 ]
-
-above_none : (k : ℕ) → 0 < 256 ^ k
-above_none k = pow-le-pow_right {n = 256} (omega arith) {i = 0} {j = k} (omega arith)
-
--- a number below 256 ^ (k + 1) is a byte and a number below 256 ^ k
-digit_more : (k x : ℕ) → x % 256 ^ suc k ≡ byte_at k x * 256 ^ k + x % 256 ^ k
-digit_more zero x = omega arith
-digit_more (suc k) x =
-    let wider : 256 ^ suc (suc k) ≡ 256 * 256 ^ suc k = pow-suc 256 (suc k) ∙ mul_comm (256 ^ suc k) 256 in
-    rw (wider, mod-mul x {m = 256} {c = 256 ^ suc k} (omega arith) (above_none (suc k))) (omega arith)
-
-then_lt : (x y : ℕ) (o : Ordering) → is_lt (ordering_then (nat_cmp x y) o) ≡ (nat_lt x y || (x == y && is_lt o))
-then_lt x y o = by (nat_lt x y) (x == y) where
-  by : (p q : Bool) → is_lt (ordering_then (cond p Less (cond q Equal Greater)) o) ≡ (p || (q && is_lt o))
-  by true q = refl
-  by false true = refl
-  by false false = refl
-
--- nothing is below what has no bytes
-none_lt : (xs : List ℕ) → is_lt (slice_cmp nat_cmp xs []) ≡ false
-none_lt [] = refl
-none_lt (x ∷ xs) = refl
 
 pub below_none : (xs : List ℕ) → is_below xs [] ≡ false
 unfolding is_below
