@@ -28,7 +28,7 @@ import time
 from copies import Bench, instructions_of, make_repository, parser_of_repository
 from measuring import exponent_of
 
-STANDS_ON = ["rs_contents", "rs_attr", "rs_versioned", "rs_cell_versions", "rs_facts", "rs_value", "rs_pager", "rs_pages", "rs_page", "rs_disk", "rs_refusal", "arrayvec"]
+STANDS_ON = ["rs_file", "rs_attr", "rs_versioned", "rs_cell_versions", "rs_facts", "rs_value", "rs_pager", "rs_pages", "rs_page", "rs_disk", "rs_refusal", "arrayvec"]
 FILES = ["main.rt", "spans.rt", "table.rt", "whole_file.rt", "Fitting.antt"]
 LOADS = ["ordered", "shuffled", "searches", "check", "pass", "define", "indexed_check", "indexed_pass"]
 BENCH = Bench("records", STANDS_ON, FILES, LOADS, first_size=1200)

@@ -1,11 +1,11 @@
 -- A command that is served after a read: it is served as if the read had not been.
 use Rattle.std.proofs.Common.{◌≡◌, ◌≤◌, ℕ, Result, Ok, Err, inl, inr, arith, refl, subst}
-use Rattle.rs_contents.specs.Contents.{Contents}
 use Rattle.rs_disk.specs.declared.disk.Disk as disk
 use Rattle.rs_engine.specs.Clearing.{HasCleared, IsServedClearing, WhereDone}
 use Rattle.rs_engine.specs.Kept.{EngineState, IsMachine}
 use Rattle.rs_engine.specs.Reads.{ReadsEngine}
 use Rattle.rs_engine.specs.Serving.{IsServed}
+use Rattle.rs_file.specs.Contents.{Contents}
 use Rattle.rs_engine.proofs.Filing.{stays, stays_beside}
 use Rattle.rs_engine.proofs.Reading.{still}
 use Rattle.rs_machine.specs.Served.{Answers, CountsOn, IsUnchanged, Machine, NamesAWant, Reply}

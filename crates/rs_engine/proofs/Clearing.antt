@@ -2,7 +2,6 @@
 use Rattle.std.proofs.Common.{◌≡◌, ◌≤◌, ◌<◌, ◌+◌, ◌-◌, ◌^◌, ℕ, Result, ap, arith, refl, subst, sym}
 use Rattle.std.specs.Prelude.{min}
 use Rattle.rs_cell_versions.specs.declared.cell.TheConstants.{LIVING}
-use Rattle.rs_contents.specs.Contents.{Contents}
 use Rattle.rs_cursor.specs.Held.{IsOldest, held_of}
 use Rattle.rs_cursor.specs.declared.cursor.Cursor.{Cursor}
 use Rattle.rs_disk.specs.declared.disk.Disk as disk
@@ -10,16 +9,17 @@ use Rattle.rs_engine.specs.Clearing.{ByChange, ByClose, ClearsWhereAsked, HasCle
 use Rattle.rs_engine.specs.Kept.{EngineState, IsMachine, IsOldestIn}
 use Rattle.rs_engine.specs.Serving.{IsServed}
 use Rattle.rs_engine.specs.declared.engine.open.OpenCursors.{OpenCursors}
+use Rattle.rs_file.specs.Contents.{Contents}
+use Rattle.rs_change_laws.specs.Changing.{ClearsEnough}
 use Rattle.rs_engine.proofs.Filing.{changes_of}
 use Rattle.rs_facts.specs.Fact.{Names}
-use Rattle.rs_file_changes.specs.Clearing.{clearable}
+use Rattle.rs_file_parts.specs.Clearing.{clearable}
 use Rattle.rs_machine.specs.Lawful.{IsLawful}
 use Rattle.rs_machine.specs.Served.{Machine, Reply, refused}
 use Rattle.rs_machine.specs.State.{State}
 use Rattle.rs_machine.specs.Step.{Effect}
 use Rattle.rs_machine.specs.declared.limits.TheConstants.{CHANGES}
 use Rattle.rs_refusal.specs.declared.refusal.Refusal.{Refusal}
-use Rattle.rs_state_laws.specs.Changing.{ClearsEnough}
 use Rattle.rs_store.specs.Changing.{HasBecome}
 use Rattle.rs_store.specs.Releasing.{HasReleased}
 use Rattle.rs_syntax.specs.View.{tree_of}

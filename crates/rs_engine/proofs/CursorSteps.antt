@@ -5,11 +5,11 @@ use Rattle.std.specs.FinMap as names
 use Rattle.std.specs.Option.{option_map}
 use Rattle.std.specs.Prelude.{Contains, IfOk, is_some, string_bytes}
 use Rattle.rs_answers.specs.Versions.{LiesOnRoutes, SeenVersion}
-use Rattle.rs_contents.specs.Contents.{Contents}
 use Rattle.rs_cursor.specs.Held.{HeldCursors, IsOldest, cursors_by, held_at, held_of, lines_left}
 use Rattle.rs_cursor.specs.Kept.{AreKept}
 use Rattle.rs_cursor.specs.declared.cursor.Cursor.{Cursor}
 use Rattle.rs_cursor.specs.declared.next_lines.NextLines.{NextLines}
+use Rattle.rs_file.specs.Contents.{Contents}
 use Rattle.rs_cursor.proofs.HeldLaws.{cases_put, held_before}
 use Rattle.rs_cursor.proofs.MachineCursors.{cursors_by-insert, cursors_by-remove, get-cursors_by}
 use Rattle.rs_disk.specs.declared.disk.Disk as disk
@@ -43,8 +43,8 @@ use Rattle.rs_syntax.specs.Tree.{QueryTree}
 use Rattle.rs_syntax.specs.Tree as tree
 use Rattle.rs_refusal.specs.Counts.{Rose}
 use Rattle.rs_refusal.specs.declared.refusal.Refusal.{Refusal}
+use Rattle.rs_file_meaning.specs.Meant.{IsMeant}
 use Rattle.rs_refusal.specs.declared.refusal.Refusal.TheVariants.{NoSuchCursor}
-use Rattle.rs_standing.specs.Meant.{IsMeant}
 use Rattle.rs_store.specs.Kept.{Keeps, StoreState}
 use Rattle.rs_store.specs.Releasing.{HasReleased, LeavesReleased}
 

@@ -16,7 +16,7 @@ use Rattle.rs_machine.specs.Served.{Machine}
 use Rattle.rs_machine.specs.State.{State}
 use Rattle.rs_machine.specs.Step.{has_fact_on, some_table}
 use Rattle.rs_refusal.specs.declared.refusal.Refusal.{Refusal}
-use Rattle.rs_store_reads.specs.Reads.{SaysFactsOn}
+use Rattle.rs_store_source.specs.Reads.{SaysFactsOn}
 
 module _ {D : Type 0} (d : disk.Ghosts D) (laws : StoreLaws d) (engine : EngineState D) (machine : Machine) (is : IsMachine d engine machine) (name : Name) where
   -- the machine's route of the name is that of the catalogue

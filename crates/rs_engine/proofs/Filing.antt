@@ -6,13 +6,13 @@ use Rattle.rs_catalog.specs.Names.{map_values}
 use Rattle.rs_catalog.proofs.Names.{map_values-empty}
 use Rattle.rs_facts.specs.Fact.{Name, Names, name_cmp}
 use Rattle.std.specs.FinMap as names
-use Rattle.rs_contents.specs.Contents.{Contents}
 use Rattle.rs_cursor.specs.Held.{HeldCursors, cursors_by, held_of, lines_left}
 use Rattle.rs_cursor.specs.declared.cursor.Cursor.{Cursor}
 use Rattle.rs_disk.specs.Content.{Content}
 use Rattle.rs_disk.specs.declared.disk.Disk as disk
 use Rattle.rs_engine.specs.Ahead.{AreAhead}
 use Rattle.rs_engine.specs.declared.engine.open.OpenCursors.{OpenCursors}
+use Rattle.rs_file.specs.Contents.{Contents}
 use Rattle.rs_engine.specs.Files.{OpensMachine, machine_with}
 use Rattle.rs_engine.specs.Kept.{EngineState, IsMachine, seen_at, with_cursors}
 use Rattle.rs_engine.specs.Serving.{IsServed}
@@ -25,8 +25,8 @@ use Rattle.rs_pager.specs.Opened.{CountsFault}
 use Rattle.rs_pages.specs.declared.pages.TheConstants.{GREATEST_LIMIT}
 use Rattle.rs_refusal.specs.Counts.{Rose}
 use Rattle.rs_refusal.specs.declared.refusal.Refusal.{Refusal}
+use Rattle.rs_file_meaning.specs.Meant.{IsMeant}
 use Rattle.rs_refusal.specs.declared.refusal.Refusal.TheVariants as refusal
-use Rattle.rs_standing.specs.Meant.{IsMeant}
 use Rattle.rs_store.specs.Standing.{Stands}
 use Rattle.rs_store.specs.Calls.{OpensState}
 use Rattle.rs_store.specs.Kept.{Keeps, StandsIn, StoreState}

@@ -7,13 +7,13 @@ use Rattle.rs_catalog.specs.Definitions.{state_from}
 use Rattle.rs_catalog.specs.Referents.{referents_on}
 use Rattle.rs_command_checks.specs.States.{Unseen, state_by}
 use Rattle.rs_command_checks.specs.declared.checks.Checks.{Checks}
-use Rattle.rs_contents.specs.Contents.{Contents}
 use Rattle.rs_cursor.specs.Held.{cursors_by, held_of, lines_left}
 use Rattle.rs_cursor.specs.Kept.{AreKept}
 use Rattle.rs_cursor.specs.declared.cursor.Cursor.{Cursor}
 use Rattle.rs_disk.specs.declared.disk.Disk as disk
 use Rattle.rs_facts.specs.Fact.{Name}
 use Rattle.rs_facts.specs.Runs.{Stretch}
+use Rattle.rs_file.specs.Contents.{Contents}
 use Rattle.rs_engine.specs.Ahead.{AreAhead}
 use Rattle.rs_engine.specs.declared.engine.open.OpenCursors.{OpenCursors}
 use Rattle.rs_engine.specs.Kept.{AreChecksOf, AreLive, EngineState, IsMachine, IsOldestIn, seen_at, with_cursors}
@@ -27,9 +27,9 @@ use Rattle.rs_refusal.specs.Counts.{Rose, counted_on, last_count}
 use Rattle.rs_refusal.specs.declared.refusal.Refusal.{Refusal}
 use Rattle.rs_refusal.specs.declared.refusal.Refusal.TheVariants as refusal
 use Rattle.rs_cursor.proofs.MachineCursors.{cursors_by-agree}
-use Rattle.rs_standing.specs.Live.{KeepsLive}
-use Rattle.rs_standing.specs.Meant.{IsMeant}
-use Rattle.rs_standing.specs.Seen.{spans_seen}
+use Rattle.rs_file_meaning.specs.Live.{KeepsLive}
+use Rattle.rs_file_meaning.specs.Meant.{IsMeant}
+use Rattle.rs_file_meaning.specs.Seen.{spans_seen}
 use Rattle.rs_store.specs.Changing.{HasBecome, LeavesStore}
 use Rattle.rs_store.specs.Kept.{Keeps, StandsIn, StoreState}
 

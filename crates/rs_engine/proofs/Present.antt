@@ -14,15 +14,15 @@ use Rattle.rs_engine.specs.Laws.{StoreLaws}
 use Rattle.rs_engine.specs.Living.{shown_live, tables_same}
 use Rattle.rs_engine.specs.Reads.{IsSeenNow, StandsNow, counted_of}
 use Rattle.rs_engine.proofs.Machines.{cursors_in, spans_of}
+use Rattle.rs_file_meaning.specs.Seen.{born_by, referents_seen}
+use Rattle.rs_file_meaning.specs.States.{routes_named}
 use Rattle.rs_machine.specs.Served.{Machine}
 use Rattle.rs_machine.specs.State.{State, world_of}
 use Rattle.rs_plan.specs.declared.counts.Index.{Index}
 use Rattle.rs_planning.specs.Basis.{IndexedColumn, present_basis, runs_counted}
-use Rattle.rs_standing.specs.Seen.{born_by, referents_seen}
-use Rattle.rs_standing.specs.States.{routes_named}
 use Rattle.rs_store.specs.Kept.{StandsIn, StoreState}
 use Rattle.rs_store.specs.Reading.{living_of}
-use Rattle.rs_store_reads.specs.Shown.{Shows, numbered_as, shown_from}
+use Rattle.rs_store_source.specs.Shown.{Shows, numbered_as, shown_from}
 
 module _ {D : Type 0} (d : disk.Ghosts D) where
   -- what laws say of a store that stands in a state

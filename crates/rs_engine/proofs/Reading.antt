@@ -16,8 +16,8 @@ use Rattle.rs_refusal.specs.Counts.{Rose}
 use Rattle.rs_refusal.specs.declared.refusal.Refusal.{Refusal}
 use Rattle.rs_refusal.specs.declared.refusal.Refusal.TheVariants as refusal
 use Rattle.rs_serve.specs.ReplyView.{rows_of}
-use Rattle.rs_store_reads.proofs.Passing.{passes_refl}
-use Rattle.rs_store_reads.specs.Reads.{Passes}
+use Rattle.rs_store_source.proofs.Passing.{passes_refl}
+use Rattle.rs_store_source.specs.Reads.{Passes}
 
 module _ {D : Type 0} (d : disk.Ghosts D) where
   -- ---- what passes

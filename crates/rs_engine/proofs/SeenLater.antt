@@ -14,22 +14,22 @@ use Rattle.rs_catalog.specs.Definitions.{Definitions, no_places}
 use Rattle.rs_catalog.proofs.Names.{each_entry}
 use Rattle.rs_catalog_meaning.specs.Meaning.{AreInOrder}
 use Rattle.rs_catalog_pages.specs.Items.{TableItem}
-use Rattle.rs_contents.specs.Contents.{Contents, TableContents}
 use Rattle.rs_disk.specs.declared.disk.Disk as disk
 use Rattle.rs_engine.specs.Kept.{seen_at, tables_in}
 use Rattle.rs_exec.specs.Snapshot.{NumberedTable}
 use Rattle.rs_facts.specs.Fact.{Name, Names, Places, name_cmp}
 use Rattle.rs_facts.specs.Spans.{places_of}
+use Rattle.rs_file.specs.Contents.{Contents, TableContents}
+use Rattle.rs_file_meaning.specs.Live.{KeepsLive, SeesTheSame}
+use Rattle.rs_file_meaning.specs.Seen.{events_with, referents_seen, spans_seen}
+use Rattle.rs_file_meaning.specs.States.{named_table, routes_named, tables_named}
 use Rattle.rs_machine.specs.Lawful.{AreDistinct}
 use Rattle.rs_machine.specs.State.{State}
 use Rattle.rs_page_owners.specs.Counts.{times}
-use Rattle.rs_standing.specs.Live.{KeepsLive, SeesTheSame}
-use Rattle.rs_standing.specs.Seen.{events_with, referents_seen, spans_seen}
-use Rattle.rs_standing.specs.States.{named_table, routes_named, tables_named}
-use Rattle.rs_standing.proofs.Named.{first_there, get_there, item_of, later_there}
-use Rattle.rs_standing.proofs.Picked.{same_numbered}
+use Rattle.rs_file_meaning.proofs.Named.{first_there, get_there, item_of, later_there}
+use Rattle.rs_file_meaning.proofs.Picked.{same_numbered}
 use Rattle.rs_store.specs.Kept.{StandsIn, StoreState}
-use Rattle.rs_store_reads.specs.Shown.{is_table, table_there}
+use Rattle.rs_store_source.specs.Shown.{is_table, table_there}
 use Rattle.rs_versioned.specs.Events.{Event, spans_at}
 use Rattle.rs_versioned.specs.Referents.{referents_at}
 

@@ -5,7 +5,6 @@ use Rattle.std.specs.Prelude.{OnErr, OnOk, String, Vec}
 use Rattle.std.specs.declared.alloc.Global.{Global}
 use Rattle.rs_catalog.specs.Definitions.{Numbered}
 use Rattle.rs_catalog.specs.Referents.{HeldReferents, referents_on}
-use Rattle.rs_contents.specs.declared.opened.OpenedFile.{OpenedFile}
 use Rattle.rs_cursor.specs.Held.{HeldCursors, held_at, held_of}
 use Rattle.rs_cursor.specs.declared.cursor.Cursor.{Cursor}
 use Rattle.rs_cursor.specs.declared.place.Place.{Place}
@@ -18,7 +17,8 @@ use Rattle.rs_engine.specs.Staying.{CursorsAfter, HasCursor, HasNone, LeavesCurs
 use Rattle.rs_engine.specs.declared.engine.ahead.LinesAhead.{LinesAhead}
 use Rattle.rs_engine.specs.declared.engine.open.OpenCursors.{OpenCursors}
 use Rattle.rs_facts.specs.Fact.{Name}
-use Rattle.rs_file_changes.specs.Parts.{IsAsItWas}
+use Rattle.rs_file.specs.declared.opened.OpenedFile.{OpenedFile}
+use Rattle.rs_file_parts.specs.Parts.{IsAsItWas}
 use Rattle.rs_machine.specs.Served.{Reply, done, refused}
 use Rattle.rs_machine.specs.State.{RowText, State}
 use Rattle.rs_methods.specs.declared.position.Method.{Method}
@@ -30,8 +30,8 @@ use Rattle.rs_store.specs.Kept.{StoreState}
 use Rattle.rs_store.specs.Releasing.{LeavesReleased}
 use Rattle.rs_store.proofs.HeldChanges.{changes-refl, still_after, still_as_it_was, still_by_changes}
 use Rattle.rs_store.proofs.Results.{err_always}
-use Rattle.rs_store_reads.proofs.Passing.{passes_refl}
-use Rattle.rs_store_reads.specs.Reads.{Passes}
+use Rattle.rs_store_source.proofs.Passing.{passes_refl}
+use Rattle.rs_store_source.specs.Reads.{Passes}
 use Rattle.rs_syntax.specs.Tree as tree
 use Rattle.rs_syntax.specs.Tree.{CommandTree, QueryTree}
 use Rattle.rs_syntax.specs.View.{tree_of}

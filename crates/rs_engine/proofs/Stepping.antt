@@ -2,9 +2,9 @@
 use Rattle.std.proofs.Common.{◌≡◌, ◌∙◌, ◌<◌, ◌≤◌, ◌+◌, ◌⊎◌, ℕ, Result, Ok, Err, [], ap, false, inl, inr, refl, subst, sym, arith}
 use Rattle.rs_command_checks.specs.States.{Unseen, state_by}
 use Rattle.rs_command_checks.specs.declared.checks.Checks.{Checks}
-use Rattle.rs_contents.specs.Contents.{Contents}
 use Rattle.rs_disk.specs.declared.disk.Disk as disk
 use Rattle.rs_engine.specs.Kept.{AreChecksOf, EngineState, IsMachine, IsOldestIn, with_cursors}
+use Rattle.rs_file.specs.Contents.{Contents}
 use Rattle.rs_engine.specs.Clearing.{ByChange, IsServedClearing}
 use Rattle.rs_engine.specs.Serving.{IsServed}
 use Rattle.rs_engine.proofs.Clearing.{cleared_by_change, refused_clearing}

@@ -4,18 +4,18 @@ use Rattle.std.specs.Prelude.{IfErr, IfOk, MatchResult}
 use Rattle.rs_answers.specs.Versions.{SeenVersion}
 use Rattle.rs_catalog.specs.Definitions.{Numbered}
 use Rattle.rs_catalog.specs.Referents.{HeldReferents, referents_on}
-use Rattle.rs_contents.specs.Calls.{RefusesToLoad}
 use Rattle.rs_disk.specs.declared.disk.Disk as disk
 use Rattle.rs_engine.specs.Reads.{ShowsVersion, WantsFrom}
+use Rattle.rs_file.specs.Calls.{RefusesToLoad}
 use Rattle.rs_engine.proofs.Machines.{counted_rose}
 use Rattle.rs_machine.specs.State.{State}
 use Rattle.rs_pager.specs.Opened.{CountsFault}
 use Rattle.rs_refusal.specs.Counts.{Rose}
 use Rattle.rs_refusal.specs.declared.refusal.Refusal.{Refusal}
+use Rattle.rs_file_meaning.specs.Seen.{referents_seen}
 use Rattle.rs_refusal.specs.declared.refusal.Refusal.TheVariants as refusal
-use Rattle.rs_standing.specs.Seen.{referents_seen}
 use Rattle.rs_store.specs.Kept.{StandsIn, StoreState}
-use Rattle.rs_store_reads.specs.Reads.{WantsReading}
+use Rattle.rs_store_source.specs.Reads.{WantsReading}
 
 module _ {D : Type 0} (d : disk.Ghosts D) (oldest : ℕ) (old new : StoreState D) where
   -- a store that stands in no state stands in none from that version on

@@ -5,7 +5,6 @@ use Rattle.std.specs.FinMap as names
 use Rattle.rs_answers.specs.Versions.{LiesOnRoutes, SeenVersion}
 use Rattle.rs_catalog.specs.Definitions.{Definitions, no_definitions}
 use Rattle.rs_command_checks.specs.declared.checks.Checks.{Checks}
-use Rattle.rs_contents.specs.Contents.{Contents}
 use Rattle.rs_cursor.specs.Held.{IsOldest, cursors_by, held_of, lines_left}
 use Rattle.rs_cursor.specs.declared.cursor.Cursor.{Cursor}
 use Rattle.rs_disk.specs.declared.disk.Disk as disk
@@ -13,14 +12,15 @@ use Rattle.rs_engine.specs.Ahead.{AreAhead}
 use Rattle.rs_engine.specs.contracts.engine.open.OpenCursors as open_cursors
 use Rattle.rs_engine.specs.declared.engine.open.OpenCursors.{OpenCursors}
 use Rattle.rs_facts.specs.Fact.{Name}
+use Rattle.rs_file.specs.Contents.{Contents}
+use Rattle.rs_file_meaning.specs.Seen.{born_by, referents_seen}
+use Rattle.rs_file_meaning.specs.States.{routes_named, tables_named}
 use Rattle.rs_machine.specs.Lawful.{IsLawful}
 use Rattle.rs_machine.specs.Served.{Machine}
 use Rattle.rs_machine.specs.State.{Cursors, State}
 use Rattle.rs_pages.specs.declared.pages.TheConstants.{GREATEST_LIMIT}
-use Rattle.rs_standing.specs.Seen.{born_by, referents_seen}
-use Rattle.rs_standing.specs.States.{routes_named, tables_named}
 use Rattle.rs_store.specs.Kept.{StandsIn, StoreState}
-use Rattle.rs_store_reads.specs.Shown.{snapshot_at}
+use Rattle.rs_store_source.specs.Shown.{snapshot_at}
 
 -- the store of the file, the oldest version that is looked at, and the cursors of each session with lines that one gives next
 pub record EngineState (D : Type 0) : Type 0 where

@@ -4,9 +4,9 @@ use Rattle.rs_catalog.specs.Definitions.{state_from}
 use Rattle.rs_catalog.specs.Referents.{referents_on}
 use Rattle.rs_disk.specs.declared.disk.Disk as disk
 use Rattle.rs_engine.specs.Kept.{seen_at}
+use Rattle.rs_file_meaning.specs.Live.{KeepsLive}
+use Rattle.rs_file_meaning.specs.Seen.{spans_seen}
 use Rattle.rs_machine.specs.State.{State, no_cursors}
-use Rattle.rs_standing.specs.Live.{KeepsLive}
-use Rattle.rs_standing.specs.Seen.{spans_seen}
 use Rattle.rs_store.specs.Kept.{StandsIn, StoreState}
 
 module _ {D : Type 0} (d : disk.Ghosts D) where

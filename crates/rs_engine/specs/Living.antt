@@ -5,23 +5,23 @@ use Rattle.std.specs.Prelude.{if◌then◌else◌, nat_le}
 use Rattle.rs_catalog.specs.Definitions.{Definitions, no_definitions, no_places}
 use Rattle.rs_catalog_pages.specs.Items.{RouteItem}
 use Rattle.rs_answers.specs.Versions.{SeenVersion}
-use Rattle.rs_contents.specs.Contents.{Contents}
-use Rattle.rs_contents.specs.declared.opened.OpenedFile.{OpenedFile}
 use Rattle.rs_disk.specs.declared.disk.Disk as disk
 use Rattle.rs_engine.specs.Kept.{tables_in}
 use Rattle.rs_engine.specs.Reads.{ReadsFrom, ShowsVersion, WantsFrom}
 use Rattle.rs_exec.specs.Snapshot.{Snapshots}
+use Rattle.rs_file.specs.Contents.{Contents}
+use Rattle.rs_file.specs.declared.opened.OpenedFile.{OpenedFile}
+use Rattle.rs_file_meaning.specs.Seen.{born_by, is_born}
+use Rattle.rs_file_meaning.specs.States.{named_route, tables_named}
 use Rattle.rs_machine.specs.State.{State}
 use Rattle.rs_machine.specs.declared.limits.TheConstants.{ROUTES}
 use Rattle.rs_refusal.proofs.CountLemmas.{Rose-after_le}
 use Rattle.rs_refusal.specs.declared.refusal.Refusal.{Refusal}
-use Rattle.rs_standing.specs.Seen.{born_by, is_born}
-use Rattle.rs_standing.specs.States.{named_route, tables_named}
-use Rattle.rs_standing.proofs.Named.{len_by, order_kept}
+use Rattle.rs_file_meaning.proofs.Named.{len_by, order_kept}
 use Rattle.rs_store.specs.Kept.{StandsIn, StoreState}
-use Rattle.rs_store_reads.proofs.Passing.{stands_on}
-use Rattle.rs_store_reads.proofs.States.{stands_shown}
-use Rattle.rs_store_reads.specs.Shown.{Shows, no_snapshot, places_seen, shown_from, snapshot_at, table_there}
+use Rattle.rs_store_source.proofs.Passing.{stands_on}
+use Rattle.rs_store_source.proofs.States.{stands_shown}
+use Rattle.rs_store_source.specs.Shown.{Shows, no_snapshot, places_seen, shown_from, snapshot_at, table_there}
 
 -- ---- snapshots
 

@@ -16,8 +16,8 @@ use Rattle.rs_refusal.specs.declared.refusal.Refusal.{Refusal}
 use Rattle.rs_refusal.specs.declared.refusal.Refusal.TheVariants as refusal
 use Rattle.rs_store.specs.Kept.{StandsIn, StoreState}
 use Rattle.rs_store.specs.Reading.{living_of}
-use Rattle.rs_store_reads.specs.Reads.{Passes}
-use Rattle.rs_store_reads.specs.Shown.{Shows}
+use Rattle.rs_store_source.specs.Reads.{Passes}
+use Rattle.rs_store_source.specs.Shown.{Shows}
 
 -- what the plans of a store are chosen by
 abbrev pub counted_of : {D : Type 0} → StoreState D → List Index → Counted

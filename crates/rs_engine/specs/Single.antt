@@ -7,22 +7,22 @@ use Rattle.std.proofs.Math.Path.{fun_ext}
 use Rattle.rs_catalog.specs.Definitions.{state_from}
 use Rattle.rs_catalog.specs.Referents.{referents_on}
 use Rattle.rs_catalog_pages.specs.Items.{CatalogueItems, TableItem}
-use Rattle.rs_contents.specs.Contents.{Contents, SameContents, SameTable, TableContents}
-use Rattle.rs_contents.proofs.One.{one_thing}
+use Rattle.rs_file.specs.Contents.{Contents, SameContents, SameTable, TableContents}
 use Rattle.rs_disk.specs.declared.disk.Disk as disk
+use Rattle.rs_file.proofs.One.{one_thing}
 use Rattle.rs_answers.specs.Versions.{SeenVersion}
 use Rattle.rs_catalog.specs.Definitions.{no_definitions, no_places}
 use Rattle.rs_cursor.specs.Held.{cursors_by, lines_left}
 use Rattle.rs_engine.specs.Kept.{EngineState, IsMachine, seen_at, with_cursors}
 use Rattle.rs_facts.specs.Runs.{Stretch}
 use Rattle.rs_facts.specs.Spans.{places_of}
+use Rattle.rs_file_meaning.specs.Seen.{born_by, events_with, spans_seen}
+use Rattle.rs_file_meaning.specs.States.{routes_named, tables_named}
 use Rattle.rs_machine.specs.Served.{Machine}
 use Rattle.rs_machine.specs.State.{State, no_cursors}
 use Rattle.rs_pager.specs.Maps.{committed}
-use Rattle.rs_standing.specs.Seen.{born_by, events_with, spans_seen}
-use Rattle.rs_standing.specs.States.{routes_named, tables_named}
 use Rattle.rs_store.specs.Kept.{StoreState}
-use Rattle.rs_store_reads.specs.Shown.{table_there}
+use Rattle.rs_store_source.specs.Shown.{table_there}
 use Rattle.rs_versioned.specs.Events.{Event, spans_at}
 use Rattle.rs_versioned.specs.Referents.{referents_at}
 

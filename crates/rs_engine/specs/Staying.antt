@@ -9,7 +9,7 @@ use Rattle.rs_disk.specs.declared.disk.Disk as disk
 use Rattle.rs_engine.specs.Clearing.{WhereDone}
 use Rattle.rs_engine.specs.Kept.{EngineState}
 use Rattle.rs_facts.specs.Fact.{Name}
-use Rattle.rs_file_changes.specs.Parts.{IsAsItWas}
+use Rattle.rs_file_parts.specs.Parts.{IsAsItWas}
 use Rattle.rs_machine.specs.Served.{Reply, done, refused}
 use Rattle.rs_methods.specs.declared.position.Method.{Method}
 use Rattle.rs_pager.specs.Maps.{KeepsChanges}

@@ -17,8 +17,8 @@ use Rattle.rs_machine.specs.State.{State}
 use Rattle.rs_store.specs.Calls.{OpensState}
 use Rattle.rs_store.specs.Kept.{StoreState}
 use Rattle.rs_store.specs.Standing.{Stands}
-use Rattle.rs_store_reads.proofs.States.{StateIs}
-use Rattle.rs_store_reads.proofs.Within.{NoneLeftOut, RowsWithin}
+use Rattle.rs_store_source.proofs.States.{StateIs}
+use Rattle.rs_store_source.proofs.Within.{NoneLeftOut, RowsWithin}
 
 -- what the law says of what is written
 abbrev pub IsADump : Type 0

@@ -3,29 +3,29 @@ use Rattle.std.proofs.Common.{◌≡◌, ◌∙◌, ℕ, Some, List, ap, refl, s
 use Rattle.std.specs.FinMap as names
 use Rattle.rs_catalog.specs.Definitions.{Numbered, ViewItem}
 use Rattle.rs_catalog.specs.Referents.{HeldReferents, referents_on}
-use Rattle.rs_contents.specs.Contents.{Contents}
-use Rattle.rs_contents.specs.declared.opened.OpenedFile.{OpenedFile}
 use Rattle.rs_disk.specs.declared.disk.Disk as disk
 use Rattle.rs_dump.specs.Shown.{Many, Shown}
+use Rattle.rs_file.specs.Contents.{Contents}
+use Rattle.rs_file.specs.declared.opened.OpenedFile.{OpenedFile}
 use Rattle.rs_dump.specs.Shown.Many.{none, more}
 use Rattle.rs_dump.specs.States.{HasDefiningLine, IsStateOf}
-use Rattle.rs_event_reads.specs.Read.{spans_in}
 use Rattle.rs_facts.specs.Fact.{Name}
 use Rattle.rs_facts.specs.Runs.{Stretch}
 use Rattle.rs_facts.specs.Spans.{AreAllRunsOf}
 use Rattle.rs_file_dump.specs.Files.{ShowsFile, whole_route}
+use Rattle.rs_file_meaning.specs.Seen.{events_of, spans_seen}
+use Rattle.rs_file_meaning.specs.States.{IsViewOf}
 use Rattle.rs_machine.specs.Lawful.{IsLawful}
 use Rattle.rs_machine.specs.State.{State, no_cursors}
-use Rattle.rs_standing.specs.Seen.{events_of, spans_seen}
-use Rattle.rs_standing.specs.States.{IsViewOf}
-use Rattle.rs_standing.proofs.Picked.{beside}
+use Rattle.rs_table_reads.specs.Read.{spans_in}
+use Rattle.rs_file_meaning.proofs.Picked.{beside}
 use Rattle.rs_store.specs.Kept.{StandsIn, StoreState}
 use Rattle.rs_store.specs.Reading.{ReadsStore}
 use Rattle.rs_store.proofs.Placed.{entry_there}
-use Rattle.rs_store_reads.proofs.Facts.{runs_at, whole_read}
-use Rattle.rs_store_reads.proofs.Passing.{passes_refl, passes_trans, stands_on}
-use Rattle.rs_store_reads.proofs.States.{StateIs}
-use Rattle.rs_store_reads.proofs.Within.{NoneLeftOut, RowsWithin}
+use Rattle.rs_store_source.proofs.Facts.{runs_at, whole_read}
+use Rattle.rs_store_source.proofs.Passing.{passes_refl, passes_trans, stands_on}
+use Rattle.rs_store_source.proofs.States.{StateIs}
+use Rattle.rs_store_source.proofs.Within.{NoneLeftOut, RowsWithin}
 use Rattle.rs_syntax.specs.QueryView.{query_tree}
 use Rattle.rs_syntax.specs.Tree.{define_view}
 use Rattle.rs_machine.specs.Request.{Asks, command}

@@ -30,9 +30,9 @@ use Rattle.rs_refusal.specs.declared.refusal.Refusal.TheVariants as refusal
 use Rattle.rs_store.specs.Calls.{OpensState}
 use Rattle.rs_store.specs.Kept.{StoreState}
 use Rattle.rs_store.specs.Standing.{Stands}
-use Rattle.rs_store_reads.proofs.States.{StateIs}
-use Rattle.rs_store_reads.proofs.Within.{NoneLeftOut, RowsWithin}
-use Rattle.rs_store_reads.specs.Reads.{WantsReading}
+use Rattle.rs_store_source.proofs.States.{StateIs}
+use Rattle.rs_store_source.proofs.Within.{NoneLeftOut, RowsWithin}
+use Rattle.rs_store_source.specs.Reads.{WantsReading}
 
 -- ---- reasons
 

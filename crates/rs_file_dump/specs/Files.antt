@@ -11,13 +11,13 @@ use Rattle.rs_dump.specs.States.{IsStateOf}
 use Rattle.rs_dump.specs.Written.{StopsWriting}
 use Rattle.rs_dump.specs.declared.stop.Stop.{Stop}
 use Rattle.rs_dump.specs.declared.stop.Stop.TheVariants.{Refused}
-use Rattle.rs_event_reads.specs.Read.{spans_in}
-use Rattle.rs_event_reads.specs.declared.window.RouteWindow.{RouteWindow}
 use Rattle.rs_facts.specs.Fact.{Name}
 use Rattle.rs_machine.specs.State.{State}
 use Rattle.rs_refusal.specs.declared.refusal.Refusal.{Refusal}
+use Rattle.rs_table_reads.specs.Read.{spans_in}
+use Rattle.rs_table_reads.specs.declared.window.RouteWindow.{RouteWindow}
+use Rattle.rs_file_meaning.specs.Seen.{events_of}
 use Rattle.rs_refusal.specs.declared.refusal.Refusal.TheVariants as refusal
-use Rattle.rs_standing.specs.Seen.{events_of}
 use Rattle.rs_store.specs.Calls.{IsLeftOpen, IsNoFileOfAny, WantsOpening}
 use Rattle.rs_store.specs.Kept.{StandsIn, StoreState}
 use Rattle.rs_store.specs.Standing.{Stands}

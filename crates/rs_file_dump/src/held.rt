@@ -6,11 +6,11 @@ ghost use Rattle.rs_file_dump.specs.Files.{whole_route};
 use rs_catalog::{Catalog, RouteReferents};
 use rs_disk::Disk;
 use rs_dump::{Held, NamedRoute, NamedTable};
-use rs_event_reads::RouteWindow;
 use rs_facts::Span;
 use rs_methods::Referent;
 use rs_refusal::Refusal;
 use rs_store::Store;
+use rs_table_reads::RouteWindow;
 use rs_value::Kind;
 use std::alloc::Global;
 
@@ -23,8 +23,8 @@ pub struct HeldFile<D: Disk> {
 impl<D: Disk> Held for HeldFile<D> {
     ghost use Rattle.rs_file_dump.specs.Files.{ShowsFile};
     ghost use Rattle.rs_store.specs.Reading.{ReadsStore};
-    ghost use Rattle.rs_store_reads.proofs.Passing.{wants_later};
-    ghost use Rattle.rs_store_reads.specs.Reads.{WantsReading};
+    ghost use Rattle.rs_store_source.proofs.Passing.{wants_later};
+    ghost use Rattle.rs_store_source.specs.Reads.{WantsReading};
 
     ghost catalog = { λ held. held.store.catalog };
 

@@ -2,8 +2,8 @@
 use Rattle.std.proofs.Common.{◌≡◌, ◌≤◌, ◌∙◌, ℕ, IsTrue, false, refl, sym, ap, subst, inl, inr, arith}
 use Rattle.std.specs.Prelude.{◌≢◌, Result}
 use Rattle.std.proofs.lemmas.Bool.{cases_lt, eqb-false}
-use Rattle.rs_contents.specs.Contents.{Contents, HoldsAll}
 use Rattle.rs_disk.specs.Content.{Content}
+use Rattle.rs_file.specs.Contents.{Contents, HoldsAll}
 use Rattle.rs_machine.specs.State.{State}
 use Rattle.rs_page.specs.FileHeader.{is_masked}
 use Rattle.rs_page.specs.declared.file_header.TheConstants.{FLAG_OFFSET}

@@ -11,30 +11,30 @@ use Rattle.rs_catalog.specs.Referents.{HeldReferents, referents_on}
 use Rattle.rs_catalog_meaning.specs.Meaning.{AreMeant, IsTable, ends_of}
 use Rattle.rs_catalog_pages.specs.Items.{CatalogueItems, RouteItem, TableItem, ViewItem}
 use Rattle.rs_catalog_pages.specs.Said.{said_catalogue}
-use Rattle.rs_contents.specs.Contents.{Contents, HoldsAll}
-use Rattle.rs_contents.specs.Meant.{route_spans, span_of_route}
-use Rattle.rs_contents.specs.Opening.{IsFile}
-use Rattle.rs_contents.specs.declared.opened.OpenedFile.{OpenedFile}
-use Rattle.rs_definitions.specs.Listing.{listing_of}
-use Rattle.rs_definitions.specs.Made.{without_views}
-use Rattle.rs_definitions.specs.Referents.{IsSpan, OfThose}
 use Rattle.rs_facts.specs.Fact.{Names}
 use Rattle.rs_facts.specs.Query.{Piece}
 use Rattle.rs_facts.specs.Runs.{Stretch}
-use Rattle.rs_file_changes.specs.Parts.{IsCommitted}
+use Rattle.rs_file.specs.Contents.{Contents, HoldsAll}
+use Rattle.rs_file.specs.Meant.{route_spans, span_of_route}
+use Rattle.rs_file.specs.Opening.{IsFile}
+use Rattle.rs_file.specs.declared.opened.OpenedFile.{OpenedFile}
+use Rattle.rs_file_meaning.specs.Meant.{IsMeant}
+use Rattle.rs_file_meaning.specs.Seen.{born_by, referents_seen, spans_seen}
+use Rattle.rs_file_meaning.specs.States.{AreDefinitionsAt, IsState, named_table, tables_named}
+use Rattle.rs_file_parts.specs.Parts.{IsCommitted}
 use Rattle.rs_machine.specs.Lawful.{AreColumnsOfTable, AreViewsMeant, Each, IsRoute}
 use Rattle.rs_machine.specs.State.{State, no_cursors}
 use Rattle.rs_machine.specs.declared.limits.TheConstants.{ROUTES}
 use Rattle.rs_pages.specs.PageMap.{PageMap}
-use Rattle.rs_standing.specs.Meant.{IsMeant}
-use Rattle.rs_standing.specs.Seen.{born_by, referents_seen, spans_seen}
-use Rattle.rs_standing.specs.States.{AreDefinitionsAt, IsState, named_table, tables_named}
-use Rattle.rs_standing.proofs.Named.{item_of}
-use Rattle.rs_state_changes.specs.Calls.{MayChange}
+use Rattle.rs_stored_catalog.specs.Listing.{listing_of}
+use Rattle.rs_stored_catalog.specs.Made.{without_views}
+use Rattle.rs_stored_catalog.specs.Referents.{IsSpan, OfThose}
+use Rattle.rs_changes.specs.Calls.{MayChange}
+use Rattle.rs_file_meaning.proofs.Named.{item_of}
 use Rattle.rs_store.specs.Kept.{IsAtRest}
 use Rattle.rs_store.specs.Loading.{BringsState, HasNoState, HoldsOpened}
-use Rattle.rs_definitions.specs.Views.{AreMeantIn, HasViews}
 use Rattle.rs_store.proofs.Same.{meant_of_records, records_of_meant}
+use Rattle.rs_stored_catalog.specs.Views.{AreMeantIn, HasViews}
 use Rattle.rs_cell_versions.specs.Versioned.{Standing}
 use Rattle.rs_versioned.specs.Meant.{AreReferentsMeant}
 use Rattle.rs_versioned.specs.Records.{HoldsRecords}

@@ -3,11 +3,11 @@ use Rattle.std.proofs.Common.{◌≡◌, ◌∙◌, ℕ, Bool, Ok, Err, true, ap
 use Rattle.std.specs.Prelude.{◌≢◌, ◌⊎◌}
 use Rattle.rs_catalog.specs.Definitions.{Definitions, Numbered}
 use Rattle.rs_catalog.specs.Referents.{HeldReferents}
-use Rattle.rs_contents.specs.Contents.{Contents}
-use Rattle.rs_contents.specs.declared.opened.OpenedFile.{OpenedFile}
-use Rattle.rs_contents.proofs.Loaded.{same_map}
+use Rattle.rs_file.specs.Contents.{Contents}
+use Rattle.rs_file.specs.declared.opened.OpenedFile.{OpenedFile}
 use Rattle.rs_disk.specs.Content.{Content}
 use Rattle.rs_disk.specs.declared.disk.Disk as disk
+use Rattle.rs_file.proofs.Loaded.{same_map}
 use Rattle.rs_machine.specs.State.{State, fresh}
 use Rattle.rs_page.specs.declared.file_header.TheConstants.{FLAG_OFFSET}
 use Rattle.rs_pager.specs.Maps.{committed, working}
@@ -17,9 +17,9 @@ use Rattle.rs_pager.specs.Stored.{IsNoFile, Stores}
 use Rattle.rs_pages.specs.PageMap.{PageMap, SamePages}
 use Rattle.rs_pages.proofs.Stores.{SamePages-trans}
 use Rattle.rs_refusal.specs.declared.refusal.Refusal.{Refusal}
+use Rattle.rs_file_meaning.specs.Meant.{IsMeant}
+use Rattle.rs_file_meaning.specs.Standing.{StandsFor}
 use Rattle.rs_refusal.specs.declared.refusal.Refusal.TheVariants as refusal
-use Rattle.rs_standing.specs.Meant.{IsMeant}
-use Rattle.rs_standing.specs.Standing.{StandsFor}
 use Rattle.rs_store.specs.Standing.{IsFileOf}
 use Rattle.rs_store.specs.Calls.{IsClosedFile, IsLeftOpen, IsNoFileOfAny, LeavesAllButFlag, Looks, Opens, OpensState, SameButFlag}
 use Rattle.rs_store.specs.Kept.{StoreState}

@@ -14,12 +14,12 @@ use Rattle.rs_catalog.proofs.Names.{each_entry}
 use Rattle.rs_catalog_pages.specs.Items.{IndexItem, RouteItem, TableItem}
 use Rattle.rs_catalog_pages.specs.declared.directory_items.TheConstants.{INDEXES, TABLES}
 use Rattle.rs_catalog_pages.proofs.Counting.{times-cons, times-none}
-use Rattle.rs_contents.specs.Contents.{AreGivenOnce, table_numbers}
-use Rattle.rs_definitions.specs.Listing.{listed_index, listed_table, listing_of}
 use Rattle.rs_facts.specs.Fact.{Name, Names, name_cmp}
+use Rattle.rs_file.specs.Contents.{AreGivenOnce, table_numbers}
 use Rattle.rs_page_owners.specs.Counts.{one_at, times}
+use Rattle.rs_stored_catalog.specs.Listing.{listed_index, listed_table, listing_of}
+use Rattle.rs_file_meaning.proofs.Named.{above, itself}
 use Rattle.rs_page_owners.proofs.Moving.{one_at-other, one_at-same, same_number}
-use Rattle.rs_standing.proofs.Named.{above, itself}
 use Rattle.rs_store.specs.Rewriting.{AreNumbersSmall}
 use Rattle.rs_store.proofs.Placed.{entry_there}
 

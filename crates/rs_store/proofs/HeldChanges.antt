@@ -1,10 +1,10 @@
 -- The changes that a pager holds, as others are begun and taken back, and what is open as it is.
 use Rattle.std.proofs.Common.{◌≡◌, ◌≤◌, ◌<◌, ◌∙◌, ◌⊎◌, ◌∷◌, ℕ, List, Option, None, Result, Ok, Err, [], true, ap, inl, inr, length, refl, subst, sym}
 use Rattle.std.proofs.lemmas.Bool.{cases_lt}
-use Rattle.rs_contents.specs.declared.opened.OpenedFile.{OpenedFile}
-use Rattle.rs_contents.specs.declared.opened.OpenedTable.{OpenedTable}
 use Rattle.rs_disk.specs.declared.disk.Disk as disk
-use Rattle.rs_file_changes.specs.Parts.{IsAsItWas, SameOpened}
+use Rattle.rs_file.specs.declared.opened.OpenedFile.{OpenedFile}
+use Rattle.rs_file.specs.declared.opened.OpenedTable.{OpenedTable}
+use Rattle.rs_file_parts.specs.Parts.{IsAsItWas, SameOpened}
 use Rattle.rs_pager.specs.Maps.{HoldsNoChange, IsTied, KeepsBelow, KeepsChanges, KeepsMaps, committed, pager_store, working}
 use Rattle.rs_pager.specs.Opened.{Abandons}
 use Rattle.rs_pager.specs.Paged.{Paged, held}

@@ -12,24 +12,24 @@ use Rattle.rs_catalog.proofs.NameOrder.{name_cmp-total}
 use Rattle.rs_catalog_pages.specs.Items.{CatalogueItems, TableItem}
 use Rattle.rs_catalog_pages.specs.Said.{said_catalogue}
 use Rattle.rs_cell_versions.specs.declared.cell.TheConstants.{LIVING}
-use Rattle.rs_contents.specs.Contents.{Contents, IsTable, table_numbers}
-use Rattle.rs_contents.specs.declared.opened.OpenedFile.{OpenedFile}
-use Rattle.rs_definitions.specs.Listing.{listing_of}
+use Rattle.rs_change_laws.specs.Changing.{GivesState}
+use Rattle.rs_change_laws.specs.Parts.{ChangesIndexes}
+use Rattle.rs_change_laws.specs.Standing.{StandsAt}
 use Rattle.rs_disk.specs.declared.disk.Disk as disk
 use Rattle.rs_facts.specs.Fact.{Name, Names}
+use Rattle.rs_file.specs.Contents.{Contents, IsTable, table_numbers}
+use Rattle.rs_file.specs.declared.opened.OpenedFile.{OpenedFile}
+use Rattle.rs_file_meaning.proofs.Named.{itself}
 use Rattle.rs_machine.specs.Lawful.{IsLawful}
 use Rattle.rs_machine.specs.State.{State, has}
 use Rattle.rs_machine.specs.Step as machine
 use Rattle.rs_machine.specs.declared.limits.TheConstants.{CHANGES}
 use Rattle.rs_pager.specs.Maps.{committed}
 use Rattle.rs_pages.specs.PageMap.{PageMap}
-use Rattle.rs_standing.proofs.Named.{itself}
-use Rattle.rs_state_laws.specs.Changing.{GivesState}
-use Rattle.rs_state_laws.specs.Parts.{ChangesIndexes}
-use Rattle.rs_state_laws.specs.Standing.{StandsAt}
 use Rattle.rs_store.specs.Indexing.{ChangesListed}
 use Rattle.rs_store.specs.Kept.{StandsIn, StoreState}
 use Rattle.rs_store.specs.Rewriting.{CanBeKept, GoesOn}
+use Rattle.rs_stored_catalog.specs.Listing.{listing_of}
 use Rattle.rs_store.proofs.Redefined.{IsLineReadable, next_lives, stands_still}
 use Rattle.rs_store.proofs.Referred.{taken_again}
 use Rattle.rs_store.proofs.TableLess.{split}

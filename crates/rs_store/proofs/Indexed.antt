@@ -13,17 +13,17 @@ use Rattle.rs_catalog.specs.Definitions.{AreDefinitions, Definitions, IsColumnOf
 use Rattle.rs_catalog_pages.specs.Items.{CatalogueItems, IndexItem, TableItem}
 use Rattle.rs_catalog_pages.specs.Said.{said_catalogue, said_index}
 use Rattle.rs_catalog_pages.proofs.Counting.{times-cons}
-use Rattle.rs_contents.specs.Contents.{index_numbers, table_numbers, type_of}
-use Rattle.rs_contents.specs.Slots.{indexes_on}
-use Rattle.rs_definitions.specs.Listing.{listed_column, listed_index, listed_table, listing_of}
-use Rattle.rs_definitions.specs.Relisting.{HasIndexMore}
 use Rattle.rs_facts.specs.Fact.{Name, Names}
 use Rattle.rs_facts.specs.Query.{Column}
+use Rattle.rs_file.specs.Contents.{index_numbers, table_numbers, type_of}
+use Rattle.rs_file.specs.Slots.{indexes_on}
 use Rattle.rs_machine.specs.Checks.{column_types}
 use Rattle.rs_machine.specs.Lawful.{AreColumnsOfTable}
 use Rattle.rs_page_owners.specs.Counts.{one_at, times}
+use Rattle.rs_stored_catalog.specs.Listing.{listed_column, listed_index, listed_table, listing_of}
+use Rattle.rs_stored_catalog.specs.Relisting.{HasIndexMore}
+use Rattle.rs_changes.specs.Tables.{HasIndexAt, HasIndexOfAt}
 use Rattle.rs_page_owners.proofs.Moving.{one_at-same}
-use Rattle.rs_state_changes.specs.Tables.{HasIndexAt, HasIndexOfAt}
 use Rattle.rs_store.specs.Indexing.{HasIndexListed, position_among, those_before, without_index_numbered}
 use Rattle.rs_store.proofs.Given.{found_once}
 use Rattle.rs_store.proofs.Placed.{at_place, columns_listed, entry_there}

@@ -11,13 +11,13 @@ use Rattle.std.proofs.lemmas.Bool.{and_from}
 use Rattle.std.proofs.lemmas.Bool.Decides.{nat_tests}
 use Rattle.std.proofs.lemmas.List.{map-append}
 use Rattle.rs_catalog.proofs.NameOrder.{name_cmp-antisymmetric, name_cmp-total}
-use Rattle.rs_definitions.specs.Referents.{IsSpan}
-use Rattle.rs_definitions.proofs.MeantReferents.{has_number, none_elsewhere}
+use Rattle.rs_stored_catalog.specs.Referents.{IsSpan}
 use Rattle.rs_facts.specs.Fact.{Name, name_cmp}
 use Rattle.rs_machine.specs.Lawful.{AreDistinct}
 use Rattle.rs_methods.specs.Referents.{mark_of}
 use Rattle.rs_methods.specs.declared.referents.Referent.{Referent}
 use Rattle.rs_store.specs.Listing.{marks_said}
+use Rattle.rs_stored_catalog.proofs.MeantReferents.{has_number, none_elsewhere}
 use Rattle.rs_tree.proofs.Lists.{take_next}
 use Rattle.rs_versioned.specs.Meant.{AreReferentsMeant}
 use Rattle.rs_versioned.specs.Referents.{AreInNameOrder, ReferentRecord, referents_at}

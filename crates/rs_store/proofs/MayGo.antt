@@ -4,11 +4,11 @@ use Rattle.std.proofs.lemmas.List.Sums.{sum_by-cons}
 use Rattle.std.specs.List.{AllByRecursion, AllZip, sum_by}
 use Rattle.rs_cell_versions.specs.declared.cell.TheConstants.{LIVING}
 use Rattle.rs_cell_versions.specs.Versioned.{Standing}
-use Rattle.rs_contents.specs.Contents.{Contents, LiesTable, TableContents}
-use Rattle.rs_contents.specs.Opening.{IsOpened}
-use Rattle.rs_contents.specs.declared.opened.OpenedTable.{OpenedTable}
 use Rattle.rs_disk.specs.declared.disk.Disk as disk
-use Rattle.rs_file_changes.specs.Clearing.{clearable, clearable_events}
+use Rattle.rs_file.specs.Contents.{Contents, LiesTable, TableContents}
+use Rattle.rs_file.specs.Opening.{IsOpened}
+use Rattle.rs_file.specs.declared.opened.OpenedTable.{OpenedTable}
+use Rattle.rs_file_parts.specs.Clearing.{clearable, clearable_events}
 use Rattle.rs_pager.specs.Maps.{committed}
 use Rattle.rs_pages.specs.PageMap.{PageMap}
 use Rattle.rs_versioned.specs.Events.{kept_events}

@@ -8,12 +8,12 @@ use Rattle.rs_catalog_pages.proofs.Counting.{times-cons}
 use Rattle.rs_catalog_pages.specs.Items as items
 use Rattle.rs_catalog_pages.specs.Said.{said_table}
 use Rattle.rs_catalog_pages.specs.declared.items.StoredTable.{StoredTable}
-use Rattle.rs_contents.specs.Contents.{TableContents}
-use Rattle.rs_contents.specs.Opening.{IsOpened}
-use Rattle.rs_contents.specs.declared.opened.OpenedTable.{OpenedTable}
+use Rattle.rs_file.specs.Contents.{TableContents}
+use Rattle.rs_file.specs.Opening.{IsOpened}
+use Rattle.rs_file.specs.declared.opened.OpenedTable.{OpenedTable}
+use Rattle.rs_file_meaning.specs.Seen.{events_with}
 use Rattle.rs_page_owners.proofs.Moving.{one_at-same}
 use Rattle.rs_page_owners.specs.Counts.{one_at, times}
-use Rattle.rs_standing.specs.Seen.{events_with}
 use Rattle.rs_versioned.specs.Events.{Event}
 use Rattle.rs_store.specs.Placing.{HasNoNumber}
 use Rattle.rs_store.specs.Reading.{living_with}

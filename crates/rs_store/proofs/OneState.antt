@@ -3,18 +3,18 @@ use Rattle.std.proofs.Common.{◌≡◌, ◌∙◌, ℕ, List, refl, subst, sym,
 use Rattle.std.proofs.Math.Path.{fun_ext}
 use Rattle.rs_catalog.specs.Definitions.{state_from}
 use Rattle.rs_catalog.specs.Referents.{referents_on}
-use Rattle.rs_contents.specs.Contents.{Contents}
 use Rattle.rs_disk.specs.Content.{Content}
 use Rattle.rs_disk.specs.declared.disk.Disk as disk
 use Rattle.rs_facts.specs.Fact.{Names}
+use Rattle.rs_file.specs.Contents.{Contents}
 use Rattle.rs_machine.specs.State.{State, no_cursors}
 use Rattle.rs_pager.specs.Maps.{committed}
 use Rattle.rs_pager.specs.Stored.{Stores}
 use Rattle.rs_pages.specs.PageMap.{PageMap, SamePages}
-use Rattle.rs_contents.proofs.Loaded.{same_map}
-use Rattle.rs_standing.specs.Seen.{referents_seen, spans_seen}
-use Rattle.rs_standing.specs.Standing.{StandsFor}
-use Rattle.rs_standing.specs.States.{IsStateAt}
+use Rattle.rs_file.proofs.Loaded.{same_map}
+use Rattle.rs_file_meaning.specs.Seen.{referents_seen, spans_seen}
+use Rattle.rs_file_meaning.specs.Standing.{StandsFor}
+use Rattle.rs_file_meaning.specs.States.{IsStateAt}
 use Rattle.rs_store.specs.Kept.{StandsIn, StoreState}
 use Rattle.rs_store.specs.Standing.{IsFileOf}
 use Rattle.rs_store.proofs.Same.{FileHoldsOne, SameSays, SameState, state_moves}

@@ -14,18 +14,18 @@ use Rattle.rs_catalog_pages.specs.Items as items
 use Rattle.rs_catalog_pages.specs.Items.{CatalogueItems}
 use Rattle.rs_catalog_pages.specs.Said.{said_catalogue, said_table}
 use Rattle.rs_catalog_pages.specs.declared.items.StoredTable.{StoredTable}
-use Rattle.rs_contents.specs.Contents.{type_of}
-use Rattle.rs_contents.specs.Slots.{IsOfItem}
-use Rattle.rs_contents.specs.declared.opened.OpenedFile.{OpenedFile}
-use Rattle.rs_contents.specs.declared.opened.OpenedTable.{OpenedTable}
-use Rattle.rs_definitions.specs.Listing.{listed_column, listed_table}
 use Rattle.rs_facts.specs.Fact.{Name, Names, name_cmp}
 use Rattle.rs_facts.specs.Query.{Column}
+use Rattle.rs_file.specs.Contents.{type_of}
+use Rattle.rs_file.specs.Slots.{IsOfItem}
+use Rattle.rs_file.specs.declared.opened.OpenedFile.{OpenedFile}
+use Rattle.rs_file.specs.declared.opened.OpenedTable.{OpenedTable}
+use Rattle.rs_file_meaning.proofs.Named.{later_there, same_name}
 use Rattle.rs_machine.specs.Checks.{column_types}
 use Rattle.rs_machine.specs.State.{has}
-use Rattle.rs_standing.proofs.Named.{later_there, same_name}
 use Rattle.rs_store.specs.Kept.{IsAtRest}
 use Rattle.rs_store.specs.Placing.{HasNoNumber, IsNumberedAt, IsPlaceOf}
+use Rattle.rs_stored_catalog.specs.Listing.{listed_column, listed_table}
 use Rattle.rs_syntax.specs.Sound.{AreColumns}
 use Rattle.rs_value.specs.declared.column.ColumnType.{ColumnType}
 use Rattle.rs_value.specs.declared.column.ColumnType.TheVariants.{Int, Text}

@@ -12,12 +12,14 @@ use Rattle.rs_catalog.specs.Definitions.{Definitions, Numbered}
 use Rattle.rs_catalog.specs.Referents.{HeldReferents}
 use Rattle.rs_catalog_pages.specs.Items.{ViewItem}
 use Rattle.rs_cell_versions.specs.declared.cell.TheConstants.{LIVING}
-use Rattle.rs_contents.specs.Contents.{Contents}
-use Rattle.rs_contents.specs.declared.opened.OpenedFile.{OpenedFile}
-use Rattle.rs_definitions.specs.Listing.{listing_of}
+use Rattle.rs_change_laws.specs.Changing.{GivesState}
+use Rattle.rs_change_laws.specs.Standing.{StandsAt}
 use Rattle.rs_disk.specs.declared.disk.Disk as disk
 use Rattle.rs_facts.specs.Fact.{Name, Names}
-use Rattle.rs_file_changes.specs.Calls.{ChangesDefinitions}
+use Rattle.rs_file.specs.Contents.{Contents}
+use Rattle.rs_file.specs.declared.opened.OpenedFile.{OpenedFile}
+use Rattle.rs_file_meaning.specs.States.{HasLine, IsViewOf}
+use Rattle.rs_file_parts.specs.Calls.{ChangesDefinitions}
 use Rattle.rs_machine.specs.Lawful.{AreColumnsOfTable, AreViewsMeant, Each}
 use Rattle.rs_machine.specs.Request.{Asks, command}
 use Rattle.rs_machine.specs.State.{State, has}
@@ -26,12 +28,10 @@ use Rattle.rs_machine_laws.specs.ViewLines.{IsReadable, shortest_view_line}
 use Rattle.rs_pager.specs.Maps.{committed}
 use Rattle.rs_pager.specs.Paged.{Paged}
 use Rattle.rs_refusal.specs.declared.refusal.Refusal.{Refusal}
-use Rattle.rs_standing.specs.States.{HasLine, IsViewOf}
-use Rattle.rs_state_laws.specs.Changing.{GivesState}
-use Rattle.rs_state_laws.specs.Standing.{StandsAt}
 use Rattle.rs_store.specs.Changing.{HasBecome, LeavesStore}
 use Rattle.rs_store.specs.Kept.{IsAtRest, StandsIn, StoreState}
 use Rattle.rs_store.specs.Rewriting.{CanBeKept, GoesOn, Redefines, Rewrites, WhereKept}
+use Rattle.rs_stored_catalog.specs.Listing.{listing_of}
 use Rattle.rs_store.proofs.Keeping.{store_over}
 use Rattle.rs_store.proofs.Results.{err_always}
 use Rattle.rs_syntax.specs.QueryView.{query_tree}

@@ -9,8 +9,8 @@ use Rattle.rs_catalog.specs.Definitions.{Definitions, RouteItem, on_numbered, re
 use Rattle.rs_catalog.specs.Referents.{at_number}
 use Rattle.rs_catalog.proofs.NameOrder.{name_cmp-antisymmetric, name_cmp-total}
 use Rattle.rs_facts.specs.Fact.{Name, Names, name_cmp}
+use Rattle.rs_file_meaning.proofs.Named.{same_name}
 use Rattle.rs_machine.specs.State.{has}
-use Rattle.rs_standing.proofs.Named.{same_name}
 
 not_there : {X : Type 0} (found : Option X) → is_some found ≡ false → found ≡ None
 not_there None none = refl

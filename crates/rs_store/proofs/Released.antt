@@ -6,14 +6,14 @@ use Rattle.rs_catalog.specs.Definitions.{Definitions, Numbered}
 use Rattle.rs_catalog.specs.Referents.{HeldReferents}
 use Rattle.rs_catalog_pages.specs.Said.{said_catalogue}
 use Rattle.rs_catalog_pages.specs.Storing.{StoresAfter}
-use Rattle.rs_contents.specs.Contents.{Contents, HoldsAll, SameContents, SameTable}
-use Rattle.rs_contents.specs.declared.opened.OpenedFile.{OpenedFile}
-use Rattle.rs_contents.specs.declared.opened.OpenedTable.{OpenedTable}
-use Rattle.rs_contents.proofs.Loaded.{same_map}
+use Rattle.rs_file.specs.Contents.{Contents, HoldsAll, SameContents, SameTable}
+use Rattle.rs_file.specs.declared.opened.OpenedFile.{OpenedFile}
+use Rattle.rs_file.specs.declared.opened.OpenedTable.{OpenedTable}
 use Rattle.rs_disk.specs.declared.disk.Disk as disk
-use Rattle.rs_file_changes.specs.Clearing.{ClearsReferents, ClearsTable}
-use Rattle.rs_file_changes.specs.Parts.{IsAsItWas, IsCommitted, KeepsCommitted, SameOpened}
-use Rattle.rs_file_changes.proofs.Lists.{each_then}
+use Rattle.rs_file.proofs.Loaded.{same_map}
+use Rattle.rs_file_parts.specs.Clearing.{ClearsReferents, ClearsTable}
+use Rattle.rs_file_parts.specs.Parts.{IsAsItWas, IsCommitted, KeepsCommitted, SameOpened}
+use Rattle.rs_file_parts.proofs.Lists.{each_then}
 use Rattle.rs_machine.specs.State.{State}
 use Rattle.rs_pager.specs.Maps.{IsTied, KeepsBelow, KeepsChanges, committed, pager_store, working}
 use Rattle.rs_pager.specs.Paged.{Paged}
@@ -21,11 +21,11 @@ use Rattle.rs_pages.specs.PageMap.{PageMap}
 use Rattle.rs_pages.proofs.Stores.{SamePages-trans}
 use Rattle.rs_refusal.specs.Counts.{counted_on}
 use Rattle.rs_refusal.specs.declared.refusal.Refusal.{Refusal}
+use Rattle.rs_change_laws.specs.Changing.{HoldsNoFile}
+use Rattle.rs_change_laws.specs.Clearing.{ClearsFile, HoldsFewer, LosesRecords, StandsFewer}
+use Rattle.rs_change_laws.specs.Standing.{StandsAt}
+use Rattle.rs_changes.specs.Calls.{MayChange}
 use Rattle.rs_refusal.specs.declared.refusal.Refusal.TheVariants as refusal
-use Rattle.rs_state_changes.specs.Calls.{MayChange}
-use Rattle.rs_state_laws.specs.Changing.{HoldsNoFile}
-use Rattle.rs_state_laws.specs.Clearing.{ClearsFile, HoldsFewer, LosesRecords, StandsFewer}
-use Rattle.rs_state_laws.specs.Standing.{StandsAt}
 use Rattle.rs_store.specs.Calls.{KeepsStore}
 use Rattle.rs_store.specs.Changing.{Always}
 use Rattle.rs_store.specs.Kept.{IsAtRest, Keeps, StandsIn, StoreState}

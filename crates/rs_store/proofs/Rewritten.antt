@@ -8,19 +8,19 @@ use Rattle.rs_catalog_pages.specs.Items.{CatalogueItems}
 use Rattle.rs_catalog_pages.specs.Said.{said_catalogue}
 use Rattle.rs_catalog_pages.specs.Storing.{StoresAfter}
 use Rattle.rs_catalog_pages.specs.declared.items.StoredCatalogue.{StoredCatalogue}
-use Rattle.rs_contents.specs.Contents.{Contents}
-use Rattle.rs_contents.specs.declared.opened.OpenedFile.{OpenedFile}
 use Rattle.rs_disk.specs.declared.disk.Disk as disk
-use Rattle.rs_file_changes.specs.Parts.{IsCommitted, KeepsCommitted}
+use Rattle.rs_file.specs.Contents.{Contents}
+use Rattle.rs_file.specs.declared.opened.OpenedFile.{OpenedFile}
+use Rattle.rs_file_parts.specs.Parts.{IsCommitted, KeepsCommitted}
 use Rattle.rs_machine.specs.State.{State}
 use Rattle.rs_machine.specs.declared.limits.TheConstants.{CHANGES}
 use Rattle.rs_pager.specs.Maps.{IsTied, KeepsBelow, KeepsChanges, KeepsDiskMasked, KeepsMaps, pager_store, working}
 use Rattle.rs_pager.specs.Paged.{Paged}
 use Rattle.rs_refusal.specs.Counts.{counted_on}
 use Rattle.rs_refusal.specs.declared.refusal.Refusal.{Refusal}
+use Rattle.rs_change_laws.specs.Changing.{ChangesFile, HoldsNoFile}
+use Rattle.rs_changes.specs.Calls.{IsNext}
 use Rattle.rs_refusal.specs.declared.refusal.Refusal.TheVariants as refusal
-use Rattle.rs_state_changes.specs.Calls.{IsNext}
-use Rattle.rs_state_laws.specs.Changing.{ChangesFile, HoldsNoFile}
 use Rattle.rs_store.specs.Changing.{LeavesStore}
 use Rattle.rs_store.specs.Kept.{StoreState}
 use Rattle.rs_store.specs.Rewriting.{GoesOn, Rewrites, WhereKept}

@@ -19,26 +19,26 @@ use Rattle.rs_catalog.proofs.StateLaws.{get-tables_from}
 use Rattle.rs_catalog_meaning.specs.Meaning.{named_by}
 use Rattle.rs_catalog_meaning.specs.Stating.{kind_of}
 use Rattle.rs_catalog_pages.specs.Items.{RouteItem, TableItem}
-use Rattle.rs_contents.specs.Contents.{Contents, HoldsAll, LiesTable, TableContents}
 use Rattle.rs_disk.specs.declared.disk.Disk as disk
 use Rattle.rs_facts.specs.Fact.{Name, Names, Places, RowSet, contains, items, name_cmp, thousandths}
 use Rattle.rs_facts.specs.Operators.{are_none, has_none}
 use Rattle.rs_facts.specs.Query.{Table}
 use Rattle.rs_facts.specs.Runs.{IsMaximalRun, LieWithin, Stretch}
 use Rattle.rs_facts.specs.Spans.{places_of}
+use Rattle.rs_file.specs.Contents.{Contents, HoldsAll, LiesTable, TableContents}
 use Rattle.rs_facts.proofs.Counting.{thousandths-first, thousandths-split}
 use Rattle.rs_facts.proofs.RowSets.{contains-items}
 use Rattle.rs_facts.proofs.Rows.{same_row}
 use Rattle.rs_facts.proofs.SpanLaws.{Covers-from_contains}
+use Rattle.rs_file_meaning.specs.Meant.{IsMeant, IsTableMeant}
+use Rattle.rs_file_meaning.specs.Seen.{born_by, events_of, events_with, is_born, routes_at, span_of_route, spans_seen}
+use Rattle.rs_file_meaning.specs.States.{AreDefinitionsAt, named_route, named_table, routes_named}
 use Rattle.rs_machine.specs.State.{State, no_cursors}
 use Rattle.rs_machine.specs.Step.{has_fact_on, some_table}
 use Rattle.rs_pager.specs.Maps.{committed}
 use Rattle.rs_pages.specs.PageMap.{PageMap}
-use Rattle.rs_standing.specs.Meant.{IsMeant, IsTableMeant}
-use Rattle.rs_standing.specs.Seen.{born_by, events_of, events_with, is_born, routes_at, span_of_route, spans_seen}
-use Rattle.rs_standing.specs.States.{AreDefinitionsAt, named_route, named_table, routes_named}
-use Rattle.rs_standing.proofs.Named.{HasItem, first_there, item_of, later_there, to_T}
-use Rattle.rs_standing.proofs.Picked.{born_all, each_kept, kept_passes, kept_there, same_numbered, shown_there, source_of, table_of}
+use Rattle.rs_file_meaning.proofs.Named.{HasItem, first_there, item_of, later_there, to_T}
+use Rattle.rs_file_meaning.proofs.Picked.{born_all, each_kept, kept_passes, kept_there, same_numbered, shown_there, source_of, table_of}
 use Rattle.rs_store.specs.Kept.{StandsIn, StoreState}
 use Rattle.rs_store.specs.Routing.{HasNoFactOn}
 use Rattle.rs_value.specs.Row.{Row}

@@ -14,26 +14,26 @@ use Rattle.rs_catalog_meaning.specs.Meaning.{AreMeant}
 use Rattle.rs_catalog_pages.specs.Items.{CatalogueItems, ViewItem}
 use Rattle.rs_catalog_pages.specs.Said.{said_catalogue}
 use Rattle.rs_cell_versions.specs.declared.cell.TheConstants.{LIVING}
-use Rattle.rs_contents.specs.Contents.{Contents}
-use Rattle.rs_contents.specs.declared.opened.OpenedFile.{OpenedFile}
-use Rattle.rs_definitions.specs.Listing.{listing_of}
-use Rattle.rs_definitions.specs.Relisting.{AreLawful}
 use Rattle.rs_disk.specs.declared.disk.Disk as disk
 use Rattle.rs_facts.specs.Fact.{Name, Names}
 use Rattle.rs_facts.specs.Runs.{Stretch}
 use Rattle.rs_facts.specs.Spans.{places_of}
+use Rattle.rs_file.specs.Contents.{Contents}
+use Rattle.rs_file.specs.declared.opened.OpenedFile.{OpenedFile}
+use Rattle.rs_file_meaning.specs.Seen.{spans_seen}
+use Rattle.rs_file_meaning.specs.States.{HasLine, IsViewOf}
 use Rattle.rs_machine.specs.Lawful.{Each, IsLawful}
 use Rattle.rs_machine.specs.State.{State, no_cursors}
 use Rattle.rs_machine.specs.Step as machine
 use Rattle.rs_machine.specs.declared.limits.TheConstants.{CHANGES}
 use Rattle.rs_pager.specs.Maps.{committed}
 use Rattle.rs_pages.specs.PageMap.{PageMap}
-use Rattle.rs_standing.specs.Seen.{spans_seen}
-use Rattle.rs_standing.specs.States.{HasLine, IsViewOf}
-use Rattle.rs_standing.proofs.Picked.{beside}
-use Rattle.rs_state_laws.specs.Changing.{GivesState}
-use Rattle.rs_state_laws.specs.Parts.{DropsRoute}
-use Rattle.rs_state_laws.specs.Standing.{StandsAt}
+use Rattle.rs_stored_catalog.specs.Listing.{listing_of}
+use Rattle.rs_stored_catalog.specs.Relisting.{AreLawful}
+use Rattle.rs_change_laws.specs.Changing.{GivesState}
+use Rattle.rs_change_laws.specs.Parts.{DropsRoute}
+use Rattle.rs_change_laws.specs.Standing.{StandsAt}
+use Rattle.rs_file_meaning.proofs.Picked.{beside}
 use Rattle.rs_store.specs.Kept.{StandsIn, StoreState}
 use Rattle.rs_store.specs.Rewriting.{CanBeKept, GoesOn}
 use Rattle.rs_store.specs.Routing.{HasNoFactOn}

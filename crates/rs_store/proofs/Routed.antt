@@ -11,23 +11,23 @@ use Rattle.rs_catalog.proofs.MapLaws.{none_some, same_name-true}
 use Rattle.rs_catalog.proofs.Names.{each_entry, get-map_values}
 use Rattle.rs_catalog_pages.specs.Items as items
 use Rattle.rs_catalog_pages.specs.Items.{CatalogueItems}
-use Rattle.rs_contents.specs.declared.opened.OpenedFile.{OpenedFile}
-use Rattle.rs_definitions.specs.Listing.{listing_of}
-use Rattle.rs_definitions.specs.Relisting.{HasRouteMore}
+use Rattle.rs_change_laws.specs.Parts.{DropsRoute}
 use Rattle.rs_disk.specs.declared.disk.Disk as disk
 use Rattle.rs_facts.specs.Fact.{Name}
 use Rattle.rs_facts.specs.Insert.{same_name}
 use Rattle.rs_facts.specs.Query.{Piece, RouteEnds}
 use Rattle.rs_facts.specs.WellFormed.{ArePiecesOn}
+use Rattle.rs_file.specs.declared.opened.OpenedFile.{OpenedFile}
 use Rattle.rs_machine.specs.Lawful.{AreColumnsOfTable, Each}
 use Rattle.rs_machine.specs.Opening.{piece_on}
 use Rattle.rs_machine.specs.State.{has}
 use Rattle.rs_pager.specs.Paged.{Paged}
 use Rattle.rs_refusal.specs.declared.refusal.Refusal.{Refusal}
-use Rattle.rs_state_laws.specs.Parts.{DropsRoute}
 use Rattle.rs_store.specs.Kept.{IsAtRest}
 use Rattle.rs_store.specs.Rewriting.{Rewrites}
 use Rattle.rs_store.specs.Routing.{ErasesRoute}
+use Rattle.rs_stored_catalog.specs.Listing.{listing_of}
+use Rattle.rs_stored_catalog.specs.Relisting.{HasRouteMore}
 
 -- ---- answers
 

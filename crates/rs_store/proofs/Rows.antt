@@ -8,10 +8,13 @@ use Rattle.rs_catalog.specs.Referents.{HeldReferents}
 use Rattle.rs_catalog_pages.specs.Items.{CatalogueItems}
 use Rattle.rs_catalog_pages.specs.Said.{said_catalogue}
 use Rattle.rs_cell_versions.specs.declared.cell.TheConstants.{LIVING}
-use Rattle.rs_contents.specs.Contents.{Contents, table_numbers}
-use Rattle.rs_contents.specs.declared.opened.OpenedFile.{OpenedFile}
 use Rattle.rs_disk.specs.declared.disk.Disk as disk
+use Rattle.rs_file.specs.Contents.{Contents, table_numbers}
+use Rattle.rs_file.specs.declared.opened.OpenedFile.{OpenedFile}
 use Rattle.rs_spans.specs.Removal.{goes_by}
+use Rattle.rs_change_laws.specs.Changing.{ChangesFile, Completes, GivesState}
+use Rattle.rs_change_laws.specs.Parts.{InsertsRow, RemovesRows}
+use Rattle.rs_change_laws.specs.Standing.{StandsAt}
 use Rattle.rs_facts.specs.Fact.{Name}
 use Rattle.rs_facts.specs.Insert.{new_facts}
 use Rattle.rs_facts.specs.Query.{Table}
@@ -26,9 +29,6 @@ use Rattle.rs_pager.specs.Maps.{KeepsBelow, working}
 use Rattle.rs_pager.specs.Paged.{Paged}
 use Rattle.rs_pages.specs.PageMap.{PageMap}
 use Rattle.rs_refusal.specs.declared.refusal.Refusal.{Refusal}
-use Rattle.rs_state_laws.specs.Changing.{ChangesFile, Completes, GivesState}
-use Rattle.rs_state_laws.specs.Parts.{InsertsRow, RemovesRows}
-use Rattle.rs_state_laws.specs.Standing.{StandsAt}
 use Rattle.rs_store.specs.Changing.{HasBecome}
 use Rattle.rs_store.specs.Kept.{StandsIn, StoreState}
 use Rattle.rs_store.specs.Settling.{HasBegun, IsKept, Settles}

@@ -3,17 +3,17 @@ use Rattle.std.proofs.Common.{◌≡◌, ◌≤◌, ℕ, List, ap, subst, sym, a
 use Rattle.std.specs.Prelude.{map as list_map}
 use Rattle.std.specs.List.{AllZip}
 use Rattle.rs_catalog_pages.specs.Items.{RouteItem}
-use Rattle.rs_contents.specs.Contents.{Contents, HoldsAll, SameContents}
-use Rattle.rs_contents.specs.Meant.{HasMeantRecords, route_spans}
-use Rattle.rs_contents.specs.Meant as plain
+use Rattle.rs_file.specs.Contents.{Contents, HoldsAll, SameContents}
+use Rattle.rs_file.specs.Meant.{HasMeantRecords, route_spans}
+use Rattle.rs_file.specs.Meant as plain
 use Rattle.rs_catalog_meaning.specs.Meaning.{AreMeant}
+use Rattle.rs_file_meaning.specs.Changed.{SaysTheSame}
+use Rattle.rs_file_meaning.specs.Meant.{AreRecordsMeant, IsMeant}
+use Rattle.rs_file_meaning.specs.Seen.{routes_at, span_of_route}
+use Rattle.rs_file_meaning.specs.States.{IsState, IsStateAt}
 use Rattle.rs_machine.specs.State.{State}
 use Rattle.rs_pages.specs.PageMap.{PageMap}
-use Rattle.rs_standing.specs.Changed.{SaysTheSame}
-use Rattle.rs_standing.specs.Meant.{AreRecordsMeant, IsMeant}
-use Rattle.rs_standing.specs.Seen.{routes_at, span_of_route}
-use Rattle.rs_standing.specs.States.{IsState, IsStateAt}
-use Rattle.rs_standing.proofs.Picked.{born_all}
+use Rattle.rs_file_meaning.proofs.Picked.{born_all}
 use Rattle.rs_versioned.specs.Meant.{AreReferentsMeant}
 use Rattle.rs_versioned.specs.declared.route_span.RouteSpan.{RouteSpan}
 

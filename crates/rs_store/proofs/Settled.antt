@@ -14,19 +14,19 @@ use Rattle.rs_catalog_pages.specs.Said.{said_catalogue}
 use Rattle.rs_catalog_pages.specs.Storing.{StoresAfter}
 use Rattle.rs_catalog_pages.specs.declared.items.StoredCatalogue.{StoredCatalogue}
 use Rattle.rs_cell_versions.specs.Version.{HaveDiedBy}
-use Rattle.rs_contents.specs.Contents.{AreNumbered, Contents, HoldsAll, HoldsParts, IsIndex, IsTable, SameContents, SameTable, TableContents, index_roots}
-use Rattle.rs_contents.specs.declared.opened.OpenedFile.{OpenedFile}
-use Rattle.rs_contents.specs.declared.opened.OpenedTable.{OpenedTable}
-use Rattle.rs_contents.proofs.Loaded.{same_map}
-use Rattle.rs_definitions.specs.Listing.{listing_of}
+use Rattle.rs_file.specs.Contents.{AreNumbered, Contents, HoldsAll, HoldsParts, IsIndex, IsTable, SameContents, SameTable, TableContents, index_roots}
+use Rattle.rs_file.specs.declared.opened.OpenedFile.{OpenedFile}
+use Rattle.rs_file.specs.declared.opened.OpenedTable.{OpenedTable}
 use Rattle.rs_disk.specs.Content.{Content}
 use Rattle.rs_disk.specs.declared.disk.Disk as disk
-use Rattle.rs_file_changes.specs.Clearing.{ClearsAsMany, ClearsReferents, ClearsTable, records_in}
-use Rattle.rs_file_changes.specs.Parts as parts
-use Rattle.rs_file_changes.specs.Parts.{HaveAllDiedBy, IsAsItWas, IsCommitted, IsReady, KeepsCommitted, SameOpened}
-use Rattle.rs_file_changes.proofs.AsItWas.{still_opened}
-use Rattle.rs_file_changes.proofs.Lists.{each_then}
-use Rattle.rs_file_changes.proofs.Ready.{ready_after}
+use Rattle.rs_file.proofs.Loaded.{same_map}
+use Rattle.rs_file_parts.specs.Clearing.{ClearsAsMany, ClearsReferents, ClearsTable, records_in}
+use Rattle.rs_file_parts.specs.Parts as parts
+use Rattle.rs_file_parts.specs.Parts.{HaveAllDiedBy, IsAsItWas, IsCommitted, IsReady, KeepsCommitted, SameOpened}
+use Rattle.rs_stored_catalog.specs.Listing.{listing_of}
+use Rattle.rs_file_parts.proofs.AsItWas.{still_opened}
+use Rattle.rs_file_parts.proofs.Lists.{each_then}
+use Rattle.rs_file_parts.proofs.Ready.{ready_after}
 use Rattle.rs_machine.specs.Lawful.{AreColumnsOfTable, AreViewsMeant, Each}
 use Rattle.rs_machine.specs.State.{State}
 use Rattle.rs_machine.specs.declared.limits.TheConstants.{CHANGES}
@@ -37,12 +37,12 @@ use Rattle.rs_pages.specs.PageMap.{PageMap, SamePages}
 use Rattle.rs_pages.proofs.Stores.{SamePages-trans}
 use Rattle.rs_refusal.specs.Counts.{counted_on}
 use Rattle.rs_refusal.specs.declared.refusal.Refusal.{Refusal}
+use Rattle.rs_change_laws.specs.Changing.{Becomes, ClearsEnough, Completes, GivesState, HoldsNoFile}
+use Rattle.rs_change_laws.specs.Standing.{AreInMemory, IsOpenedFile, StandsAt}
+use Rattle.rs_changes.specs.Calls.{IsNext, MayChange}
+use Rattle.rs_file_meaning.specs.Live.{KeepsEvents, KeepsLive, KeepsRecords, KeepsReferents}
+use Rattle.rs_file_meaning.specs.States.{AreDefinitionsAt}
 use Rattle.rs_refusal.specs.declared.refusal.Refusal.TheVariants as refusal
-use Rattle.rs_standing.specs.Live.{KeepsEvents, KeepsLive, KeepsRecords, KeepsReferents}
-use Rattle.rs_standing.specs.States.{AreDefinitionsAt}
-use Rattle.rs_state_changes.specs.Calls.{IsNext, MayChange}
-use Rattle.rs_state_laws.specs.Changing.{Becomes, ClearsEnough, Completes, GivesState, HoldsNoFile}
-use Rattle.rs_state_laws.specs.Standing.{AreInMemory, IsOpenedFile, StandsAt}
 use Rattle.rs_store.specs.Calls.{KeepsStore}
 use Rattle.rs_store.specs.Changing.{HasBecome, LeavesStore}
 use Rattle.rs_store.specs.Kept.{IsAtRest, Keeps, StandsIn, StoreState}

@@ -15,24 +15,24 @@ use Rattle.rs_catalog_pages.specs.Items.{CatalogueItems, IndexItem, TableItem}
 use Rattle.rs_catalog_pages.specs.Said.{said_catalogue}
 use Rattle.rs_catalog_pages.proofs.Counting.{times-cons}
 use Rattle.rs_cell_versions.specs.declared.cell.TheConstants.{LIVING}
-use Rattle.rs_contents.specs.Contents.{Contents, IsTable, TableContents, table_numbers}
-use Rattle.rs_contents.specs.declared.opened.OpenedFile.{OpenedFile}
-use Rattle.rs_definitions.specs.Listing.{listed_table, listing_of}
-use Rattle.rs_definitions.specs.Relisting.{LosesTable}
 use Rattle.rs_disk.specs.declared.disk.Disk as disk
 use Rattle.rs_facts.specs.Fact.{Name, Names}
+use Rattle.rs_file.specs.Contents.{Contents, IsTable, TableContents, table_numbers}
+use Rattle.rs_file.specs.declared.opened.OpenedFile.{OpenedFile}
 use Rattle.rs_machine.specs.Lawful.{AreColumnsOfTable, Each, IsLawful}
 use Rattle.rs_machine.specs.State.{State}
 use Rattle.rs_machine.specs.Step as machine
 use Rattle.rs_machine.specs.declared.limits.TheConstants.{CHANGES}
 use Rattle.rs_page_owners.specs.Counts.{one_at, times}
+use Rattle.rs_stored_catalog.specs.Listing.{listed_table, listing_of}
+use Rattle.rs_stored_catalog.specs.Relisting.{LosesTable}
+use Rattle.rs_change_laws.specs.Changing.{GivesState}
+use Rattle.rs_change_laws.specs.Parts.{TakesTable}
+use Rattle.rs_change_laws.specs.Standing.{StandsAt}
+use Rattle.rs_changes.specs.Tables.{LosesTableAt}
 use Rattle.rs_page_owners.proofs.Moving.{one_at-same}
 use Rattle.rs_pager.specs.Maps.{committed}
 use Rattle.rs_pages.specs.PageMap.{PageMap}
-use Rattle.rs_state_changes.specs.Tables.{LosesTableAt}
-use Rattle.rs_state_laws.specs.Changing.{GivesState}
-use Rattle.rs_state_laws.specs.Parts.{TakesTable}
-use Rattle.rs_state_laws.specs.Standing.{StandsAt}
 use Rattle.rs_store.specs.Kept.{StandsIn, StoreState}
 use Rattle.rs_store.specs.Rewriting.{CanBeKept, GoesOn}
 use Rattle.rs_store.specs.Tabling.{TakesNamed, without_number}

@@ -17,11 +17,14 @@ use Rattle.rs_catalog_meaning.specs.Meaning.{AreMeant}
 use Rattle.rs_catalog_pages.specs.Items.{CatalogueItems, IndexItem, TableItem, ViewItem}
 use Rattle.rs_catalog_pages.specs.Said.{said_catalogue}
 use Rattle.rs_cell_versions.specs.declared.cell.TheConstants.{LIVING}
-use Rattle.rs_contents.specs.Contents.{Contents, IsTable, TableContents, table_numbers}
-use Rattle.rs_contents.specs.declared.opened.OpenedFile.{OpenedFile}
-use Rattle.rs_definitions.specs.Listing.{listing_of}
+use Rattle.rs_change_laws.specs.Changing.{GivesState}
+use Rattle.rs_change_laws.specs.Parts.{PutsTable}
+use Rattle.rs_change_laws.specs.Standing.{StandsAt}
 use Rattle.rs_disk.specs.declared.disk.Disk as disk
 use Rattle.rs_facts.specs.Fact.{Name}
+use Rattle.rs_file.specs.Contents.{Contents, IsTable, TableContents, table_numbers}
+use Rattle.rs_file.specs.declared.opened.OpenedFile.{OpenedFile}
+use Rattle.rs_file_meaning.specs.States.{IsViewOf}
 use Rattle.rs_machine.specs.Lawful.{AreViewsMeant, IsLawful}
 use Rattle.rs_machine.specs.State.{State, has}
 use Rattle.rs_machine.specs.Step as machine
@@ -29,13 +32,10 @@ use Rattle.rs_machine.specs.declared.limits.TheConstants.{CHANGES}
 use Rattle.rs_page_owners.specs.Counts.{times}
 use Rattle.rs_pager.specs.Maps.{committed}
 use Rattle.rs_pages.specs.PageMap.{PageMap}
-use Rattle.rs_standing.specs.States.{IsViewOf}
-use Rattle.rs_state_laws.specs.Changing.{GivesState}
-use Rattle.rs_state_laws.specs.Parts.{PutsTable}
-use Rattle.rs_state_laws.specs.Standing.{StandsAt}
 use Rattle.rs_store.specs.Kept.{StandsIn, StoreState}
 use Rattle.rs_store.specs.Rewriting.{CanBeKept, GoesOn}
 use Rattle.rs_store.specs.Tabling.{HasNumberedMore, PutsNumbered}
+use Rattle.rs_stored_catalog.specs.Listing.{listing_of}
 use Rattle.rs_store.proofs.Redefined.{IsLineReadable, next_lives, stands_still, texts_short}
 use Rattle.rs_store.proofs.Tabled.{there_listed}
 use Rattle.rs_value.specs.declared.column.ColumnType.{ColumnType}

@@ -11,21 +11,21 @@ use Rattle.rs_catalog.specs.Referents.{HeldReferents}
 use Rattle.rs_catalog_pages.specs.Items.{CatalogueItems}
 use Rattle.rs_catalog_pages.specs.Said.{said_catalogue, said_table}
 use Rattle.rs_cell_versions.specs.Versioned.{Standing}
-use Rattle.rs_contents.specs.Calls.{RefusesToLoad}
-use Rattle.rs_contents.specs.Contents.{Contents, LiesTable, table_numbers}
-use Rattle.rs_contents.specs.declared.opened.OpenedFile.{OpenedFile}
-use Rattle.rs_contents.specs.declared.opened.OpenedTable.{OpenedTable}
-use Rattle.rs_contents.proofs.Loaded.{same_map}
+use Rattle.rs_file.specs.Calls.{RefusesToLoad}
+use Rattle.rs_file.specs.Contents.{Contents, LiesTable, table_numbers}
+use Rattle.rs_file.specs.declared.opened.OpenedFile.{OpenedFile}
+use Rattle.rs_file.specs.declared.opened.OpenedTable.{OpenedTable}
 use Rattle.rs_disk.specs.Content.{Content}
 use Rattle.rs_disk.specs.declared.disk.Disk as disk
+use Rattle.rs_file.proofs.Loaded.{same_map}
 use Rattle.rs_attr.specs.Entries.{FitsPages, HoldsIndex, IsColumn}
 use Rattle.rs_attr.specs.Tables.{HoldsTable, IndexState}
-use Rattle.rs_contents.specs.Slots.{IsIndexOf, IsOfItem, indexes_on}
-use Rattle.rs_event_reads.specs.Found.{FindsSpans, HoldsNoEntries, IsIndexed, spans_with}
-use Rattle.rs_event_reads.specs.Read.{HoldsNoEvents, ReadsSpans, spans_in}
-use Rattle.rs_event_reads.specs.declared.window.ColumnIndex.{ColumnIndex}
-use Rattle.rs_event_reads.specs.declared.window.RouteWindow.{RouteWindow}
-use Rattle.rs_file_changes.specs.Parts.{IsReady}
+use Rattle.rs_file.specs.Slots.{IsIndexOf, IsOfItem, indexes_on}
+use Rattle.rs_file_parts.specs.Parts.{IsReady}
+use Rattle.rs_table_reads.specs.Found.{FindsSpans, HoldsNoEntries, IsIndexed, spans_with}
+use Rattle.rs_table_reads.specs.Read.{HoldsNoEvents, ReadsSpans, spans_in}
+use Rattle.rs_table_reads.specs.declared.window.ColumnIndex.{ColumnIndex}
+use Rattle.rs_table_reads.specs.declared.window.RouteWindow.{RouteWindow}
 use Rattle.rs_value.specs.Row.{Datum}
 use Rattle.rs_facts.specs.Fact.{Name}
 use Rattle.rs_facts.specs.Runs.{Stretch}
@@ -36,12 +36,12 @@ use Rattle.rs_page.specs.declared.file_header.TheConstants.{FLAG_OFFSET}
 use Rattle.rs_page_owners.specs.Counts.{times}
 use Rattle.rs_pager.specs.Maps.{IsTied, KeepsBelow, committed, pager_store, working}
 use Rattle.rs_pager.specs.Paged.{Paged}
+use Rattle.rs_file_meaning.specs.Seen.{events_of, events_with}
 use Rattle.rs_pager.specs.Opened.{CountsFault}
 use Rattle.rs_pages.specs.Lending.{RestsAfter}
 use Rattle.rs_pages.specs.PageMap.{PageMap}
 use Rattle.rs_refusal.proofs.CountLemmas.{counted_on_le}
 use Rattle.rs_refusal.specs.declared.refusal.Refusal.{Refusal}
-use Rattle.rs_standing.specs.Seen.{events_of, events_with}
 use Rattle.rs_value.specs.Values.{IsRowOf}
 use Rattle.rs_value.specs.declared.column.ColumnType.{ColumnType}
 use Rattle.rs_versioned.proofs.KeptRecords.{events_are_kept}

@@ -15,23 +15,23 @@ use Rattle.rs_catalog_pages.specs.Items.{CatalogueItems, TableItem}
 use Rattle.rs_catalog_pages.specs.Said.{said_catalogue, said_table}
 use Rattle.rs_catalog_pages.specs.declared.items.StoredCatalogue.{StoredCatalogue}
 use Rattle.rs_catalog_pages.specs.declared.items.StoredTable.{StoredTable}
-use Rattle.rs_contents.specs.Contents.{Contents, table_numbers, type_of}
-use Rattle.rs_contents.specs.declared.opened.OpenedFile.{OpenedFile}
-use Rattle.rs_definitions.specs.Listing.{listed_column, listed_table, listing_of}
-use Rattle.rs_definitions.specs.Relisting.{HasTableMore}
+use Rattle.rs_change_laws.specs.Changing.{ChangesFile}
+use Rattle.rs_change_laws.specs.Standing.{IsOpenedFile}
+use Rattle.rs_changes.specs.Tables.{HasTableAt}
 use Rattle.rs_facts.specs.Fact.{Name, Names}
 use Rattle.rs_facts.specs.Query.{Column}
+use Rattle.rs_file.specs.Contents.{Contents, table_numbers, type_of}
+use Rattle.rs_file.specs.declared.opened.OpenedFile.{OpenedFile}
 use Rattle.rs_machine.specs.Checks.{column_types}
 use Rattle.rs_machine.specs.Lawful.{AreColumnsOfTable, Each}
 use Rattle.rs_machine.specs.State.{has}
 use Rattle.rs_page_owners.specs.Counts.{times}
 use Rattle.rs_pages.specs.PageMap.{PageMap}
 use Rattle.rs_refusal.specs.declared.refusal.Refusal.{Refusal}
-use Rattle.rs_state_changes.specs.Tables.{HasTableAt}
-use Rattle.rs_state_laws.specs.Changing.{ChangesFile}
-use Rattle.rs_state_laws.specs.Standing.{IsOpenedFile}
 use Rattle.rs_store.specs.Placing.{HasNoNumber}
 use Rattle.rs_store.specs.Tabling.{HasColumnsAt, HasNumbered, HasNumberedMore}
+use Rattle.rs_stored_catalog.specs.Listing.{listed_column, listed_table, listing_of}
+use Rattle.rs_stored_catalog.specs.Relisting.{HasTableMore}
 use Rattle.rs_store.proofs.Given.{place_of}
 use Rattle.rs_store.proofs.Placed.{columns_listed, comes_from}
 use Rattle.rs_syntax.specs.Sound.{AreColumns}

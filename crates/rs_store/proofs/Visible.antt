@@ -13,21 +13,21 @@ use Rattle.rs_catalog.proofs.Names.{entries-from_entries, entries-map_values}
 use Rattle.rs_catalog_meaning.specs.Meaning.{AreInOrder}
 use Rattle.rs_catalog_pages.specs.Items.{RouteItem}
 use Rattle.rs_cell_versions.specs.Versioned.{Standing}
-use Rattle.rs_contents.proofs.Loaded.{same_map}
-use Rattle.rs_definitions.specs.Referents.{IsSpan, OfThose}
-use Rattle.rs_definitions.specs.RouteReferents.{HasAlone}
 use Rattle.rs_disk.specs.declared.disk.Disk as disk
 use Rattle.rs_facts.specs.Fact.{Name, name_cmp}
+use Rattle.rs_file.proofs.Loaded.{same_map}
+use Rattle.rs_file_meaning.specs.Seen.{born_by, is_born, referents_seen, routes_at, span_of_route}
+use Rattle.rs_file_meaning.specs.States.{named_route, routes_named}
 use Rattle.rs_machine.specs.State.{State}
 use Rattle.rs_methods.specs.Referents.{mark_of}
 use Rattle.rs_methods.specs.declared.referents.Referent.{Referent}
 use Rattle.rs_pager.specs.Maps.{committed, working}
 use Rattle.rs_pages.specs.PageMap.{PageMap}
 use Rattle.rs_refusal.specs.declared.refusal.Refusal.{Refusal}
-use Rattle.rs_standing.specs.Seen.{born_by, is_born, referents_seen, routes_at, span_of_route}
-use Rattle.rs_standing.specs.States.{named_route, routes_named}
-use Rattle.rs_standing.proofs.Named.{order_kept, to_T}
-use Rattle.rs_standing.proofs.Picked.{born_all}
+use Rattle.rs_stored_catalog.specs.Referents.{IsSpan, OfThose}
+use Rattle.rs_stored_catalog.specs.RouteReferents.{HasAlone}
+use Rattle.rs_file_meaning.proofs.Named.{order_kept, to_T}
+use Rattle.rs_file_meaning.proofs.Picked.{born_all}
 use Rattle.rs_versioned.proofs.NameOrder.{held_by_name}
 use Rattle.rs_versioned.specs.Meant.{AreReferentsMeant}
 use Rattle.rs_versioned.specs.Records.{HoldsRecords}

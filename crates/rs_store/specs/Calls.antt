@@ -1,8 +1,8 @@
 -- What the calls of a store do, and why they are refused.
 use Rattle.std.specs.Prelude.{◌≡◌, ◌≢◌, ◌≤◌, ◌⊎◌, ℕ, true, false, Err, IfErr, IfOk, IsTrue, MatchResult, OnErr, OnOk, Result}
-use Rattle.rs_contents.specs.Contents.{Contents, SameContents}
 use Rattle.rs_disk.specs.Content.{Content}
 use Rattle.rs_disk.specs.declared.disk.Disk as disk
+use Rattle.rs_file.specs.Contents.{Contents, SameContents}
 use Rattle.rs_machine.specs.State.{State, fresh}
 use Rattle.rs_page.specs.declared.file_header.TheConstants.{FLAG_OFFSET}
 use Rattle.rs_page.specs.declared.page.TheConstants.{PAGE_SIZE}

@@ -4,12 +4,12 @@ use Rattle.std.specs.FinMap as names
 use Rattle.rs_catalog.specs.Definitions.{Definitions, RouteItem, TableItem}
 use Rattle.rs_catalog.specs.Events.{behind}
 use Rattle.rs_catalog.specs.Referents.{referents_on}
-use Rattle.rs_contents.specs.Contents.{Contents}
 use Rattle.rs_disk.specs.declared.disk.Disk as disk
 use Rattle.rs_facts.specs.Fact.{Name}
 use Rattle.rs_facts.specs.Runs.{Stretch}
 use Rattle.rs_facts.specs.Spans.{IsPlaced}
-use Rattle.rs_file_changes.specs.Parts.{IsAsItWas}
+use Rattle.rs_file.specs.Contents.{Contents}
+use Rattle.rs_file_parts.specs.Parts.{IsAsItWas}
 use Rattle.rs_machine.specs.Checks.{column_types}
 use Rattle.rs_machine.specs.State.{State}
 use Rattle.rs_pager.specs.Maps.{HoldsNoChange, KeepsChanges}
@@ -17,9 +17,9 @@ use Rattle.rs_pager.specs.Opened.{CountsFault}
 use Rattle.rs_pager.specs.Paged.{Paged}
 use Rattle.rs_refusal.specs.Counts.{counted_on}
 use Rattle.rs_refusal.specs.declared.refusal.Refusal.{Refusal}
+use Rattle.rs_change_laws.specs.Changing.{ClearsEnough, HasTurned}
+use Rattle.rs_file_meaning.specs.Live.{KeepsLive}
 use Rattle.rs_refusal.specs.declared.refusal.Refusal.TheVariants as refusal
-use Rattle.rs_standing.specs.Live.{KeepsLive}
-use Rattle.rs_state_laws.specs.Changing.{ClearsEnough, HasTurned}
 use Rattle.rs_store.specs.Kept.{Keeps, StandsIn, StoreState}
 use Rattle.rs_value.specs.Values.{IsRowOf}
 

@@ -3,12 +3,12 @@ use Rattle.std.specs.Prelude.{◌≡◌, ◌<◌, ◌==◌, ℕ, List, [], ◌�
 use Rattle.rs_attr.specs.Entries.{FitsPages}
 use Rattle.rs_catalog.specs.Definitions as catalog
 use Rattle.rs_catalog_pages.specs.Items.{CatalogueItems, IndexItem, TableItem}
-use Rattle.rs_contents.specs.Contents.{Contents, type_of}
-use Rattle.rs_contents.specs.Slots.{indexes_on}
-use Rattle.rs_definitions.specs.Listing.{listed_index}
-use Rattle.rs_definitions.specs.Relisting.{HasIndexMore}
+use Rattle.rs_change_laws.specs.Parts.{ChangesIndexes}
 use Rattle.rs_facts.specs.Fact.{Name}
-use Rattle.rs_state_laws.specs.Parts.{ChangesIndexes}
+use Rattle.rs_file.specs.Contents.{Contents, type_of}
+use Rattle.rs_file.specs.Slots.{indexes_on}
+use Rattle.rs_stored_catalog.specs.Listing.{listed_index}
+use Rattle.rs_stored_catalog.specs.Relisting.{HasIndexMore}
 
 -- the indexes before the one of this number
 abbrev pub those_before : ℕ → List IndexItem → List IndexItem

@@ -4,11 +4,15 @@ use Rattle.std.specs.List.{AllByRecursion}
 use Rattle.rs_catalog.specs.Definitions.{Definitions, Numbered}
 use Rattle.rs_catalog.specs.Referents.{HeldReferents}
 use Rattle.rs_catalog_pages.specs.Said.{said_catalogue}
-use Rattle.rs_contents.specs.Contents.{Contents, HoldsAll}
-use Rattle.rs_contents.specs.declared.opened.OpenedFile.{OpenedFile}
-use Rattle.rs_definitions.specs.Listing.{listing_of}
+pub use Rattle.rs_change_laws.specs.Standing.{AreInMemory, IsOpenedFile}
+use Rattle.rs_changes.specs.Calls.{MayChange}
+pub use Rattle.rs_changes.specs.Garbage.{dead_of, garbage_of}
 use Rattle.rs_disk.specs.declared.disk.Disk as disk
-use Rattle.rs_file_changes.specs.Parts.{IsCommitted}
+use Rattle.rs_file.specs.Contents.{Contents, HoldsAll}
+use Rattle.rs_file.specs.declared.opened.OpenedFile.{OpenedFile}
+use Rattle.rs_file_meaning.specs.Meant.{IsMeant}
+use Rattle.rs_file_meaning.specs.States.{IsState}
+use Rattle.rs_file_parts.specs.Parts.{IsCommitted}
 use Rattle.rs_machine.specs.Lawful.{AreColumnsOfTable, AreViewsMeant, Each}
 use Rattle.rs_machine.specs.State.{State}
 use Rattle.rs_machine.specs.declared.limits.TheConstants.{CHANGES}
@@ -17,11 +21,7 @@ use Rattle.rs_page_cache.specs.declared.clean.TheConstants.{MOST_CLEAN}
 use Rattle.rs_pager.specs.Maps.{IsTied, committed, working}
 use Rattle.rs_pager.specs.Paged.{Paged}
 use Rattle.rs_pages.specs.PageMap.{SamePages}
-use Rattle.rs_standing.specs.Meant.{IsMeant}
-use Rattle.rs_standing.specs.States.{IsState}
-use Rattle.rs_state_changes.specs.Calls.{MayChange}
-pub use Rattle.rs_state_changes.specs.Garbage.{dead_of, garbage_of}
-pub use Rattle.rs_state_laws.specs.Standing.{AreInMemory, IsOpenedFile}
+use Rattle.rs_stored_catalog.specs.Listing.{listing_of}
 
 -- the pages over the disk, what is open of the file, the definitions and the referents in memory, and whether the disk says that
 -- the file is open

@@ -2,12 +2,12 @@
 use Rattle.std.specs.Prelude.{◌≡◌, ℕ, Err, IfOk, List, Result, Vec, map}
 use Rattle.std.specs.List.{AllByRecursion}
 use Rattle.std.specs.declared.alloc.Global.{Global}
-use Rattle.rs_definitions.specs.Referents.{IsSpan, OfThose}
 use Rattle.rs_facts.specs.Fact.{Name}
 use Rattle.rs_methods.specs.Referents.{mark_of}
 use Rattle.rs_methods.specs.declared.referents.Referent.{Referent}
 use Rattle.rs_pages.specs.declared.pages.Pages.{Ghosts}
 use Rattle.rs_refusal.specs.declared.refusal.Refusal.{Refusal}
+use Rattle.rs_stored_catalog.specs.Referents.{IsSpan, OfThose}
 use Rattle.rs_refusal.specs.declared.refusal.Refusal.TheVariants as refusal
 use Rattle.rs_versioned.specs.Meant.{AreReferentsMeant}
 use Rattle.rs_versioned.specs.Referents.{ReferentRecord, referents_at}

@@ -2,18 +2,18 @@
 use Rattle.std.specs.Prelude.{◌≡◌, Err, IfOk, Result}
 use Rattle.rs_catalog.specs.Definitions.{Definitions, Numbered}
 use Rattle.rs_catalog.specs.Referents.{HeldReferents}
-use Rattle.rs_contents.specs.Contents.{Contents, HoldsAll}
-use Rattle.rs_contents.specs.Meant.{HasMeantRecords}
-use Rattle.rs_contents.specs.declared.opened.OpenedFile.{OpenedFile}
+use Rattle.rs_file.specs.Contents.{Contents, HoldsAll}
+use Rattle.rs_file.specs.Meant.{HasMeantRecords}
+use Rattle.rs_file.specs.declared.opened.OpenedFile.{OpenedFile}
 use Rattle.rs_machine.specs.Lawful.{AreViewsMeant}
 use Rattle.rs_machine.specs.State.{State}
 use Rattle.rs_pages.specs.PageMap.{PageMap}
 use Rattle.rs_pages.specs.declared.pages.Pages.{Ghosts}
 use Rattle.rs_refusal.specs.declared.refusal.Refusal.{Refusal}
+use Rattle.rs_file_meaning.specs.Meant.{IsMeant}
+use Rattle.rs_file_meaning.specs.Standing.{StandsFor}
+use Rattle.rs_file_meaning.specs.States.{IsState}
 use Rattle.rs_refusal.specs.declared.refusal.Refusal.TheVariants as refusal
-use Rattle.rs_standing.specs.Meant.{IsMeant}
-use Rattle.rs_standing.specs.Standing.{StandsFor}
-use Rattle.rs_standing.specs.States.{IsState}
 use Rattle.rs_store.specs.Kept.{AreInMemory, IsOpenedFile}
 use Rattle.rs_store.specs.declared.loading.Loaded.{Loaded}
 

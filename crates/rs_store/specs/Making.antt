@@ -2,14 +2,14 @@
 use Rattle.std.specs.Prelude.{◌≡◌, true}
 use Rattle.rs_catalog.specs.Definitions.{Definitions, Numbered}
 use Rattle.rs_catalog.specs.Referents.{HeldReferents}
-use Rattle.rs_contents.specs.Contents.{Contents}
-use Rattle.rs_contents.specs.declared.opened.OpenedFile.{OpenedFile}
 use Rattle.rs_disk.specs.declared.disk.Disk as disk
+use Rattle.rs_file.specs.Contents.{Contents}
+use Rattle.rs_file.specs.declared.opened.OpenedFile.{OpenedFile}
+use Rattle.rs_file_meaning.specs.Standing.{StandsFor}
 use Rattle.rs_machine.specs.State.{fresh}
 use Rattle.rs_pager.specs.Maps.{IsTied, committed, working}
 use Rattle.rs_pager.specs.Paged.{Paged}
 use Rattle.rs_pages.specs.PageMap.{SamePages}
-use Rattle.rs_standing.specs.Standing.{StandsFor}
 use Rattle.rs_store.specs.Kept.{StandsIn, StoreState}
 
 module _ {D : Type 0} (d : disk.Ghosts D) where

@@ -6,16 +6,16 @@ use Rattle.rs_catalog_pages.specs.Items.{IndexItem}
 use Rattle.rs_catalog_pages.specs.Said.{said_catalogue}
 use Rattle.rs_catalog_pages.specs.declared.items.StoredTable.{StoredTable}
 use Rattle.rs_cell_versions.specs.declared.cell.TheConstants.{LIVING}
-use Rattle.rs_contents.specs.Slots.{indexes_on}
-use Rattle.rs_contents.specs.declared.opened.OpenedFile.{OpenedFile}
-use Rattle.rs_contents.specs.declared.opened.OpenedTable.{OpenedTable}
 use Rattle.rs_disk.specs.declared.disk.Disk as disk
+use Rattle.rs_file.specs.Slots.{indexes_on}
+use Rattle.rs_file.specs.declared.opened.OpenedFile.{OpenedFile}
+use Rattle.rs_file.specs.declared.opened.OpenedTable.{OpenedTable}
 use Rattle.rs_pager.specs.Maps.{IsTied, KeepsChanges, committed, working}
-use Rattle.rs_event_reads.specs.Found.{may_have, pages_to, spans_with}
-use Rattle.rs_event_reads.specs.Read.{pages_over, spans_in, touches}
-use Rattle.rs_event_reads.specs.declared.window.RouteWindow.{RouteWindow}
 use Rattle.rs_facts.specs.Runs.{Stretch}
 use Rattle.rs_pages.specs.PageMap.{PageMap, SamePages}
+use Rattle.rs_table_reads.specs.Found.{may_have, pages_to, spans_with}
+use Rattle.rs_table_reads.specs.Read.{pages_over, spans_in, touches}
+use Rattle.rs_table_reads.specs.declared.window.RouteWindow.{RouteWindow}
 use Rattle.rs_value.specs.Encoding.{SaysDatum}
 use Rattle.rs_value.specs.Row.{Datum}
 use Rattle.rs_versioned.specs.Events.{Event, kept_events}

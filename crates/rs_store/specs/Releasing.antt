@@ -1,15 +1,15 @@
 -- What clearing records makes of a store while nothing else changes.
 use Rattle.std.specs.Prelude.{◌≡◌, ◌≢◌, ◌≤◌, ℕ, Err, Result, MatchResult, OnErr}
-use Rattle.rs_contents.specs.Calls.{RefusesToLoad}
-use Rattle.rs_contents.specs.Contents.{Contents}
 use Rattle.rs_disk.specs.declared.disk.Disk as disk
-use Rattle.rs_file_changes.specs.Parts.{IsAsItWas}
+use Rattle.rs_file.specs.Calls.{RefusesToLoad}
+use Rattle.rs_file.specs.Contents.{Contents}
+use Rattle.rs_file_parts.specs.Parts.{IsAsItWas}
 use Rattle.rs_machine.specs.State.{State}
 use Rattle.rs_pager.specs.Opened.{CountsFault}
 use Rattle.rs_refusal.specs.declared.refusal.Refusal.{Refusal}
+use Rattle.rs_change_laws.specs.Clearing.{LosesRecords}
+use Rattle.rs_file_meaning.specs.Live.{KeepsLive}
 use Rattle.rs_refusal.specs.declared.refusal.Refusal.TheVariants as refusal
-use Rattle.rs_standing.specs.Live.{KeepsLive}
-use Rattle.rs_state_laws.specs.Clearing.{LosesRecords}
 use Rattle.rs_store.specs.Changing.{StillHolds}
 use Rattle.rs_store.specs.Kept.{Keeps, StandsIn, StoreState}
 

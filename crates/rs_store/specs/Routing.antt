@@ -2,18 +2,18 @@
 use Rattle.std.specs.Prelude.{◌≡◌, ℕ, OnErr, OnOk, Result, Some, false}
 use Rattle.std.specs.FinMap as names
 use Rattle.rs_catalog.specs.Definitions.{Definitions}
-use Rattle.rs_contents.specs.declared.opened.OpenedFile.{OpenedFile}
-use Rattle.rs_definitions.specs.Listing.{listing_of}
+use Rattle.rs_change_laws.specs.Parts.{DropsRoute}
 use Rattle.rs_disk.specs.declared.disk.Disk as disk
 use Rattle.rs_facts.specs.Fact.{Name}
 use Rattle.rs_facts.specs.Query.{RouteEnds}
+use Rattle.rs_file.specs.declared.opened.OpenedFile.{OpenedFile}
 use Rattle.rs_machine.specs.State.{State}
 use Rattle.rs_machine.specs.Step.{has_fact_on, some_table}
 use Rattle.rs_pager.specs.Paged.{Paged}
 use Rattle.rs_refusal.specs.declared.refusal.Refusal.{Refusal}
-use Rattle.rs_state_laws.specs.Parts.{DropsRoute}
 use Rattle.rs_store.specs.Kept.{IsAtRest}
 use Rattle.rs_store.specs.Rewriting.{Rewrites}
+use Rattle.rs_stored_catalog.specs.Listing.{listing_of}
 
 -- no table of the state has a fact on the route between its ends
 abbrev pub HasNoFactOn : Name → State → Type 0

@@ -1,9 +1,9 @@
 -- What becomes of the pages and of what is open once a change was made or refused.
 use Rattle.std.specs.Prelude.{◌≡◌, ℕ, MatchResult, None, Result}
-use Rattle.rs_contents.specs.declared.opened.OpenedFile.{OpenedFile}
 use Rattle.rs_disk.specs.declared.disk.Disk as disk
-use Rattle.rs_file_changes.specs.Calls.{StaysOpened}
-use Rattle.rs_file_changes.specs.Parts.{HaveAllDiedBy, IsAsItWas, IsCommitted, IsReady, KeepsCommitted}
+use Rattle.rs_file.specs.declared.opened.OpenedFile.{OpenedFile}
+use Rattle.rs_file_parts.specs.Calls.{StaysOpened}
+use Rattle.rs_file_parts.specs.Parts.{HaveAllDiedBy, IsAsItWas, IsCommitted, IsReady, KeepsCommitted}
 use Rattle.rs_pager.specs.Maps.{IsTied, committed, working}
 use Rattle.rs_pager.specs.Opened.{Abandons, Commits}
 use Rattle.rs_pager.specs.Paged.{Paged, held}

@@ -5,11 +5,11 @@ use Rattle.rs_catalog.specs.Definitions as catalog
 use Rattle.rs_catalog_pages.specs.Items.{CatalogueItems, TableItem}
 use Rattle.rs_catalog_pages.specs.Said.{said_table}
 use Rattle.rs_catalog_pages.specs.declared.items.StoredTable.{StoredTable}
-use Rattle.rs_contents.specs.Contents.{Contents, table_numbers, type_of}
-use Rattle.rs_definitions.specs.Relisting.{HasTableMore}
+use Rattle.rs_change_laws.specs.Parts.{PutsTable, TakesTable}
 use Rattle.rs_facts.specs.Fact.{Name, Names}
-use Rattle.rs_state_laws.specs.Parts.{PutsTable, TakesTable}
+use Rattle.rs_file.specs.Contents.{Contents, table_numbers, type_of}
 use Rattle.rs_store.specs.Placing.{HasNoNumber}
+use Rattle.rs_stored_catalog.specs.Relisting.{HasTableMore}
 use Rattle.rs_value.specs.declared.column.ColumnType.{ColumnType}
 use Rattle.rs_value.specs.declared.column.TheConstants.{COLUMNS}
 use Rattle.rs_versioned.specs.Events.{event_width}

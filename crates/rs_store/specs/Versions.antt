@@ -2,11 +2,11 @@
 use Rattle.std.specs.Prelude.{◌≡◌, ℕ, List, filter, map, nat_le}
 use Rattle.std.specs.FinMap as names
 use Rattle.rs_catalog.specs.Definitions.{Definitions, RouteItem}
-use Rattle.rs_contents.specs.Contents.{Contents}
 use Rattle.rs_facts.specs.Fact.{Name}
 use Rattle.rs_facts.specs.Query.{RouteEnds}
-use Rattle.rs_standing.specs.Seen.{born_by}
-use Rattle.rs_standing.specs.States.{routes_named, world_at}
+use Rattle.rs_file.specs.Contents.{Contents}
+use Rattle.rs_file_meaning.specs.Seen.{born_by}
+use Rattle.rs_file_meaning.specs.States.{routes_named, world_at}
 use Rattle.rs_store.specs.declared.versions.NamedRoute.{NamedRoute}
 
 abbrev pub entry_of : NamedRoute → Name × RouteItem

@@ -4,7 +4,7 @@ ghost use Rattle.std.specs.Prelude.{◌≡◌, ◌≤◌, ◌<◌, ◌+◌, ℕ,
 ghost use Rattle.rs_catalog.specs.Changes as changes;
 ghost use Rattle.rs_catalog.specs.Definitions.{pieces_of, routes_of};
 ghost use Rattle.rs_catalog_pages.specs.Said.{said_catalogue};
-ghost use Rattle.rs_definitions.specs.Listing.{listing_of};
+ghost use Rattle.rs_stored_catalog.specs.Listing.{listing_of};
 ghost use Rattle.rs_facts.specs.WellFormed.{ArePiecesOn};
 ghost use Rattle.rs_machine.specs.Lawful.{IsLawful};
 ghost use Rattle.rs_machine.specs.State.{State, has};
@@ -18,14 +18,14 @@ use crate::rewriting::{is_name, rewrite, write_definitions_of};
 use crate::store::Store;
 use rs_catalog::Catalog;
 use rs_catalog_pages::StoredCatalogue;
-use rs_contents::OpenedFile;
-use rs_definitions::stored_of;
+use rs_change_laws::definitions::alignment_listed_gives_its_state;
 use rs_disk::Disk;
+use rs_file::OpenedFile;
 use rs_machine_laws::view_lines::shortest_line_defines_the_view;
 use rs_methods::Name;
 use rs_pager::Pager;
 use rs_refusal::Refusal;
-use rs_state_laws::definitions::alignment_listed_gives_its_state;
+use rs_stored_catalog::stored_of;
 use rs_syntax::Piece;
 use std::alloc::{AllocError, Global};
 

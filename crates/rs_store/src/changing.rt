@@ -20,13 +20,13 @@ use crate::placing::table_place;
 use crate::settling::{kept_change_gives_its_state, settle};
 use crate::store::Store;
 use rs_catalog::Catalog;
-use rs_contents::OpenedFile;
+use rs_change_laws::rows::{row_put_gives_its_state, rows_taken_away_give_their_state};
+use rs_changes::{Insertion, Removal};
 use rs_disk::Disk;
 use rs_facts::{Condition, Span};
+use rs_file::OpenedFile;
 use rs_methods::Name;
 use rs_refusal::Refusal;
-use rs_state_changes::{Insertion, Removal};
-use rs_state_laws::rows::{row_put_gives_its_state, rows_taken_away_give_their_state};
 use std::alloc::Global;
 
 /// A section of a route, in thousandths.
@@ -65,13 +65,7 @@ impl<D: Disk> Store<D> {
         let insertion = insertion_of(&self.file, &self.catalog, table, route, span);
         self.mark()?;
         self.pager.begin()?;
-        let made = rs_state_changes::insert(
-            alloc,
-            &mut self.pager,
-            &mut self.file,
-            oldest,
-            &insertion,
-        );
+        let made = rs_changes::insert(alloc, &mut self.pager, &mut self.file, oldest, &insertion);
         settle(&mut self.pager, &mut self.file, made)
     }
 
@@ -107,13 +101,7 @@ impl<D: Disk> Store<D> {
         };
         self.mark()?;
         self.pager.begin()?;
-        let made = rs_state_changes::remove(
-            alloc,
-            &mut self.pager,
-            &mut self.file,
-            oldest,
-            &removal,
-        );
+        let made = rs_changes::remove(alloc, &mut self.pager, &mut self.file, oldest, &removal);
         settle(&mut self.pager, &mut self.file, made)
     }
 }

@@ -1,7 +1,7 @@
 //! This module writes what a store keeps to its disk: it is saved, read anew, and closed.
 
 ghost use Rattle.std.specs.Prelude.{◌≡◌, ◌≢◌, ℕ, true, false, Err, IsOkUnless, IsTrue, MatchResult, OnErr, OnOk};
-ghost use Rattle.rs_contents.specs.Calls.{RefusesToLoad};
+ghost use Rattle.rs_file.specs.Calls.{RefusesToLoad};
 ghost use Rattle.rs_disk.specs.Counts.{Counts};
 ghost use Rattle.rs_machine.specs.State.{State};
 ghost use Rattle.rs_pager.specs.Maps.{HoldsNoChange, KeepsChanges};
@@ -13,12 +13,12 @@ ghost use Rattle.rs_store.specs.Kept.{StandsIn};
 
 use crate::loading::{Loaded, load_whole};
 use crate::store::Store;
-use rs_contents::laws::file_holds_one_thing;
 use rs_disk::Disk;
+use rs_file::laws::file_holds_one_thing;
+use rs_file_meaning::changes::meant_contents_stay_meant;
+use rs_file_meaning::standing::contents_have_one_state;
 use rs_pager::laws::masked_bytes_are_in_no_map;
 use rs_refusal::Refusal;
-use rs_standing::changes::meant_contents_stay_meant;
-use rs_standing::standing::contents_have_one_state;
 use std::alloc::Global;
 
 impl<D: Disk> Store<D> {

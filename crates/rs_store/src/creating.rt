@@ -10,13 +10,13 @@ ghost use Rattle.rs_store.specs.Making.{HasFresh, IsFreshFile};
 use crate::loading::{Loaded, load_state};
 use crate::opening::store_of;
 use crate::store::Store;
-use rs_contents::laws::file_holds_one_thing;
 use rs_disk::Disk;
+use rs_file::laws::file_holds_one_thing;
+use rs_file_meaning::changes::meant_contents_stay_meant;
+use rs_file_meaning::standing::{contents_have_one_state, created_file_stands_for_the_fresh_state};
 use rs_pager::Pager;
 use rs_pages::{GREATEST_LIMIT, LEAST_LIMIT};
 use rs_refusal::Refusal;
-use rs_standing::changes::meant_contents_stay_meant;
-use rs_standing::standing::{contents_have_one_state, created_file_stands_for_the_fresh_state};
 use std::alloc::Global;
 
 impl<D: Disk> Store<D> {
@@ -81,7 +81,7 @@ fn write_nothing<D: Disk>(alloc: Global, pager: &mut Pager<D>) -> Result<(), Ref
         (λ why. CountsFault why (D.failures pager.old.disk) (D.failures pager.new.disk)) }
 {
     pager.begin()?;
-    if let Err(refusal) = rs_contents::create(alloc, pager) {
+    if let Err(refusal) = rs_file::create(alloc, pager) {
         pager.abandon();
         return Err(refusal);
     }

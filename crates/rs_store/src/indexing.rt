@@ -6,13 +6,13 @@ ghost use Rattle.std.specs.List.{AllByRecursion};
 ghost use Rattle.rs_catalog.specs.Changes as changes;
 ghost use Rattle.rs_catalog.specs.Definitions.{IndexItem, IsColumnOf};
 ghost use Rattle.rs_catalog_pages.specs.Said.{said_catalogue, said_index};
-ghost use Rattle.rs_definitions.specs.Listing.{listing_of};
-ghost use Rattle.rs_file_changes.specs.Parts.{IsCommitted};
+ghost use Rattle.rs_stored_catalog.specs.Listing.{listing_of};
+ghost use Rattle.rs_file_parts.specs.Parts.{IsCommitted};
 ghost use Rattle.rs_machine.specs.Lawful.{IsLawful};
 ghost use Rattle.rs_machine.specs.State.{State, has};
 ghost use Rattle.rs_machine.specs.Step.{with_index, without_index};
 ghost use Rattle.rs_machine.specs.declared.limits.TheConstants.{CHANGES, INDEXES};
-ghost use Rattle.rs_state_changes.specs.Calls.{MayChange};
+ghost use Rattle.rs_changes.specs.Calls.{MayChange};
 ghost use Rattle.rs_store.specs.Changing.{HasBecome, LeavesStore};
 ghost use Rattle.rs_store.specs.Indexing.{ChangesListed, HasIndexListed, position_among, without_index_numbered};
 ghost use Rattle.rs_store.specs.Kept.{IsAtRest, StandsIn};
@@ -24,17 +24,17 @@ use crate::settling::{kept_change_gives_its_state, settle};
 use crate::store::Store;
 use rs_catalog::Catalog;
 use rs_catalog_pages::{StoredCatalogue, StoredIndex, StoredRoute};
-use rs_contents::OpenedFile;
-use rs_contents::laws::tables_of_lines_fit_pages;
-use rs_definitions::listing_laws::one_index_is_listed_more_or_less;
-use rs_definitions::stored_of;
+use rs_change_laws::tables::index_listed_gives_its_state;
+use rs_changes::{IndexPlace, NewIndex};
 use rs_disk::Disk;
+use rs_file::OpenedFile;
+use rs_file::laws::tables_of_lines_fit_pages;
 use rs_machine_laws::view_lines::shortest_line_defines_the_view;
 use rs_methods::Name;
 use rs_pager::Pager;
 use rs_refusal::Refusal;
-use rs_state_changes::{IndexPlace, NewIndex};
-use rs_state_laws::tables::index_listed_gives_its_state;
+use rs_stored_catalog::listing_laws::one_index_is_listed_more_or_less;
+use rs_stored_catalog::stored_of;
 use std::alloc::{AllocError, Global};
 
 impl<D: Disk> Store<D> {
@@ -152,7 +152,7 @@ fn write_index<D: Disk>(
         position,
         column,
     };
-    let made = rs_state_changes::define_index(alloc, pager, file, oldest, stored, at, &routes);
+    let made = rs_changes::define_index(alloc, pager, file, oldest, stored, at, &routes);
     settle(pager, file, made)
 }
 
@@ -193,7 +193,7 @@ fn erase_index<D: Disk>(
         table: place,
         position,
     };
-    let made = rs_state_changes::drop_index(alloc, pager, file, oldest, stored, at);
+    let made = rs_changes::drop_index(alloc, pager, file, oldest, stored, at);
     settle(pager, file, made)
 }
 

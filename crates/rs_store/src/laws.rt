@@ -3,22 +3,22 @@
 ghost use Rattle.std.specs.Prelude.{◌≡◌, ℕ};
 ghost use Rattle.rs_catalog.specs.Definitions.{state_from};
 ghost use Rattle.rs_catalog.specs.Referents.{referents_on};
-ghost use Rattle.rs_contents.specs.Contents.{Contents};
+ghost use Rattle.rs_file.specs.Contents.{Contents};
 ghost use Rattle.rs_disk.specs.Content.{Content};
-ghost use Rattle.rs_file_changes.specs.Clearing.{clearable};
+ghost use Rattle.rs_file_parts.specs.Clearing.{clearable};
 ghost use Rattle.rs_machine.specs.Lawful.{IsLawful};
 ghost use Rattle.rs_machine.specs.State.{State, no_cursors};
-ghost use Rattle.rs_standing.specs.Seen.{spans_seen};
+ghost use Rattle.rs_file_meaning.specs.Seen.{spans_seen};
 ghost use Rattle.rs_store.specs.Kept.{Keeps, StandsIn, StoreState, garbage_of};
 ghost use Rattle.rs_store.specs.Standing.{IsFileOf, Stands};
 
-use rs_contents::laws::file_holds_one_thing;
 use rs_disk::Disk;
-use rs_pager::laws::disk_stands_for_one_map;
-use rs_standing::changes::meant_contents_stay_meant;
-use rs_standing::standing::{
+use rs_file::laws::file_holds_one_thing;
+use rs_file_meaning::changes::meant_contents_stay_meant;
+use rs_file_meaning::standing::{
     contents_have_one_state, pages_stand_for_one_state, what_stands_is_lawful,
 };
+use rs_pager::laws::disk_stands_for_one_map;
 
 /// A store stands in one state at the most. That is the state of its catalogue, of the referents in memory, and of the spans that the
 /// version accepted last sees.

@@ -4,8 +4,8 @@ ghost use Rattle.std.specs.Prelude.{◌≡◌, ◌≢◌, ◌⊎◌, ℕ, List, 
 ghost use Rattle.std.specs.FinMap as names;
 ghost use Rattle.std.specs.List.{AllByRecursion, AllZip};
 ghost use Rattle.rs_catalog.specs.Referents.{referents_on};
-ghost use Rattle.rs_contents.specs.Calls.{RefusesToLoad};
-ghost use Rattle.rs_definitions.specs.Referents.{IsReferent};
+ghost use Rattle.rs_file.specs.Calls.{RefusesToLoad};
+ghost use Rattle.rs_stored_catalog.specs.Referents.{IsReferent};
 ghost use Rattle.rs_machine.specs.State.{State};
 ghost use Rattle.rs_methods.specs.Referents.{mark_of};
 ghost use Rattle.rs_pager.specs.Opened.{CountsFault};

@@ -3,11 +3,11 @@
 ghost use Rattle.std.specs.Prelude.{◌≡◌, ◌⊎◌, [], Err, IfErr, IfOk, OnOk, map};
 ghost use Rattle.rs_catalog_meaning.specs.Meaning.{AreMeant};
 ghost use Rattle.rs_catalog_pages.specs.Said.{said_catalogue, said_route};
-ghost use Rattle.rs_contents.specs.Calls.{RefusesToLoad};
-ghost use Rattle.rs_contents.specs.Contents.{AreGivenOnce};
-ghost use Rattle.rs_contents.specs.Meant.{span_of_route};
-ghost use Rattle.rs_contents.specs.Opening.{IsFile};
-ghost use Rattle.rs_definitions.specs.Made.{without_views};
+ghost use Rattle.rs_file.specs.Calls.{RefusesToLoad};
+ghost use Rattle.rs_file.specs.Contents.{AreGivenOnce};
+ghost use Rattle.rs_file.specs.Meant.{span_of_route};
+ghost use Rattle.rs_file.specs.Opening.{IsFile};
+ghost use Rattle.rs_stored_catalog.specs.Made.{without_views};
 ghost use Rattle.rs_page_cache.specs.declared.clean.TheConstants.{MOST_CLEAN};
 ghost use Rattle.rs_pager.specs.Maps.{IsTied, KeepsBelow, pager_store, working};
 ghost use Rattle.rs_pages.specs.Calls.{OnlyReads};
@@ -18,18 +18,18 @@ ghost use Rattle.rs_store.specs.Loading.{Brings, BringsNone, Loads, LoadsNone, L
 use rs_catalog::{Catalog, RouteReferents};
 use rs_catalog_meaning::check_meaning;
 use rs_catalog_pages::{StoredCatalogue, StoredRoute};
-use rs_contents::laws::{file_holds_one_thing, loaded_file_has_its_directory};
-use rs_contents::opened::OpenedFile;
-use rs_definitions::laws::listed_definitions_are_a_catalogues;
-use rs_definitions::listing_laws::definitions_of_a_file_list_its_items;
-use rs_definitions::{add_views, catalog_of, referents_of};
 use rs_disk::Disk;
-use rs_file_changes::laws::loaded_file_can_be_changed;
+use rs_file::laws::{file_holds_one_thing, loaded_file_has_its_directory};
+use rs_file::opened::OpenedFile;
+use rs_file_meaning::changes::meant_contents_stay_meant;
+use rs_file_meaning::standing::contents_have_one_state;
+use rs_file_parts::laws::loaded_file_can_be_changed;
 use rs_pager::Pager;
 use rs_pages::Pages;
 use rs_refusal::Refusal;
-use rs_standing::changes::meant_contents_stay_meant;
-use rs_standing::standing::contents_have_one_state;
+use rs_stored_catalog::laws::listed_definitions_are_a_catalogues;
+use rs_stored_catalog::listing_laws::definitions_of_a_file_list_its_items;
+use rs_stored_catalog::{add_views, catalog_of, referents_of};
 use rs_versioned::RouteSpan;
 use std::alloc::{AllocError, Global};
 
@@ -70,7 +70,7 @@ pub(crate) fn load_state<P: Pages>(alloc: Global, pages: &mut P) -> Result<Loade
     file_holds_one_thing();
     contents_have_one_state();
     meant_contents_stay_meant();
-    let file = rs_contents::load(alloc, pages)?;
+    let file = rs_file::load(alloc, pages)?;
     let (catalog, referents) = bring(alloc, pages, &file)?;
     Ok(Loaded {
         file,

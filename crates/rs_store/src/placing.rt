@@ -9,7 +9,7 @@ ghost use Rattle.rs_store.specs.Placing.{HasNoNumber, IsNumberedAt, IsPlaceOf};
 
 use rs_catalog::Catalog;
 use rs_catalog_pages::StoredTable;
-use rs_contents::OpenedFile;
+use rs_file::OpenedFile;
 use rs_methods::Name;
 
 /// The place of the table of this name among the file's, whose catalogue is in memory.

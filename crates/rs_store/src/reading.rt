@@ -5,18 +5,18 @@ ghost use Rattle.std.specs.FinMap as names;
 ghost use Rattle.std.specs.List.{AllByRecursion};
 ghost use Rattle.rs_catalog.specs.Definitions.{TableItem};
 ghost use Rattle.rs_catalog_pages.specs.Said.{said_catalogue, said_index};
-ghost use Rattle.rs_contents.specs.Calls.{RefusesToLoad};
-ghost use Rattle.rs_contents.specs.Contents.{Contents};
-ghost use Rattle.rs_contents.specs.declared.opened.OpenedTable.{OpenedTable};
-ghost use Rattle.rs_event_reads.specs.Found.{IsIndexed};
-ghost use Rattle.rs_event_reads.specs.Read.{spans_in};
+ghost use Rattle.rs_file.specs.Calls.{RefusesToLoad};
+ghost use Rattle.rs_file.specs.Contents.{Contents};
+ghost use Rattle.rs_file.specs.declared.opened.OpenedTable.{OpenedTable};
+ghost use Rattle.rs_table_reads.specs.Found.{IsIndexed};
+ghost use Rattle.rs_table_reads.specs.Read.{spans_in};
 ghost use Rattle.rs_facts.specs.Fact.{Name};
 ghost use Rattle.rs_facts.specs.Spans.{ArePlaced, seen};
-ghost use Rattle.rs_file_changes.specs.Parts.{IsReady};
+ghost use Rattle.rs_file_parts.specs.Parts.{IsReady};
 ghost use Rattle.rs_machine.specs.Checks.{column_types};
 ghost use Rattle.rs_pager.specs.Maps.{IsTied, working};
 ghost use Rattle.rs_pager.specs.Opened.{CountsFault};
-ghost use Rattle.rs_standing.specs.Seen.{events_of};
+ghost use Rattle.rs_file_meaning.specs.Seen.{events_of};
 ghost use Rattle.rs_store.specs.Kept.{Keeps};
 ghost use Rattle.rs_store.specs.Placing.{HasNoNumber};
 ghost use Rattle.rs_store.specs.Reading.{GivesValue, HasNoIndex, HasRead, HasReadIndex, IsIndexAt, IsTableNumbered, ReadsStore, is_of_key, lives, living_of};
@@ -26,11 +26,11 @@ ghost use Rattle.rs_value.specs.View.{literal_datum};
 use crate::placing::numbered_at;
 use crate::store::Store;
 use rs_catalog_pages::StoredIndex;
-use rs_contents::{OpenedFile, OpenedTable};
 use rs_disk::Disk;
-use rs_event_reads::{ColumnIndex, RouteWindow};
 use rs_facts::Span;
+use rs_file::{OpenedFile, OpenedTable};
 use rs_refusal::Refusal;
+use rs_table_reads::{ColumnIndex, RouteWindow};
 use rs_value::Literal;
 use std::alloc::Global;
 
@@ -71,7 +71,7 @@ impl<D: Disk> Store<D> {
     {
         self.catalog.stand();
         match numbered(&self.file, table) {
-            Some(opened) => rs_event_reads::spans(alloc, &mut self.pager, opened, window),
+            Some(opened) => rs_table_reads::spans(alloc, &mut self.pager, opened, window),
             None => Ok((Vec::new(alloc), 0)),
         }
     }
@@ -105,9 +105,9 @@ impl<D: Disk> Store<D> {
             return Ok((Vec::new(alloc), 0));
         };
         let Some(at) = indexed_at(&self.file, key) else {
-            return rs_event_reads::spans(alloc, &mut self.pager, opened, window);
+            return rs_table_reads::spans(alloc, &mut self.pager, opened, window);
         };
-        rs_event_reads::spans_with(alloc, &mut self.pager, opened, at, value, window)
+        rs_table_reads::spans_with(alloc, &mut self.pager, opened, at, value, window)
     }
 
     /// How many events of the table with this number live; 0 where no table has it.

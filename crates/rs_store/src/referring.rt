@@ -11,8 +11,8 @@ ghost use Rattle.rs_machine.specs.State.{State, has};
 ghost use Rattle.rs_machine.specs.Step.{with_referents};
 ghost use Rattle.rs_machine.specs.declared.limits.TheConstants.{CHANGES};
 ghost use Rattle.rs_methods.specs.Position.{start_name};
-ghost use Rattle.rs_state_changes.specs.Calls.{Changes, ComesNext, LeavesFile, MayAccept};
-ghost use Rattle.rs_state_laws.specs.Parts.{PutsReferent};
+ghost use Rattle.rs_changes.specs.Calls.{Changes, ComesNext, LeavesFile, MayAccept};
+ghost use Rattle.rs_change_laws.specs.Parts.{PutsReferent};
 ghost use Rattle.rs_store.specs.Changing.{Always, HasBecome, LeavesStore};
 ghost use Rattle.rs_store.specs.Kept.{StandsIn};
 
@@ -20,16 +20,16 @@ use crate::laws::store_stands_in_one_state;
 use crate::settling::{kept_change_gives_its_state, settle};
 use crate::store::Store;
 use rs_catalog::RouteReferents;
-use rs_contents::OpenedFile;
+use rs_change_laws::referents::{
+    referent_ended_gives_its_state, referent_moved_gives_its_state, referent_put_gives_its_state,
+};
 use rs_disk::Disk;
-use rs_file_changes::laws::changed_file_can_be_changed;
+use rs_file::OpenedFile;
+use rs_file_parts::laws::changed_file_can_be_changed;
 use rs_measure::Measure;
 use rs_methods::{Name, Referent};
 use rs_pages::Pages;
 use rs_refusal::Refusal;
-use rs_state_laws::referents::{
-    referent_ended_gives_its_state, referent_moved_gives_its_state, referent_put_gives_its_state,
-};
 use std::alloc::Global;
 
 impl<D: Disk> Store<D> {
@@ -57,7 +57,7 @@ impl<D: Disk> Store<D> {
         let number = self.catalog.route(route).unwrap().number();
         self.mark()?;
         self.pager.begin()?;
-        let made = rs_state_changes::drop_referent(
+        let made = rs_changes::drop_referent(
             alloc,
             &mut self.pager,
             &mut self.file,
@@ -161,7 +161,7 @@ impl<D: Disk> Store<D> {
         referent_moved_gives_its_state();
         self.mark()?;
         self.pager.begin()?;
-        let made = rs_state_changes::move_referent(
+        let made = rs_changes::move_referent(
             alloc,
             &mut self.pager,
             &mut self.file,
@@ -198,7 +198,7 @@ fn define_in_both<P: Pages>(
 {
     changed_file_can_be_changed();
     referents.put(referent.route, referent.name, referent.measure)?;
-    let made = rs_state_changes::define_referent(alloc, pages, file, oldest, referent);
+    let made = rs_changes::define_referent(alloc, pages, file, oldest, referent);
     if made.is_err() {
         referents.remove(referent.route, &referent.name);
     }

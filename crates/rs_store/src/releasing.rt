@@ -7,15 +7,15 @@ ghost use Rattle.rs_store.specs.Releasing.{HasReleased, LeavesReleased};
 
 use crate::settling::settle;
 use crate::store::Store;
+use rs_change_laws::clearing::cleared_file_stands_for_the_same_state;
+use rs_changes::clear_only;
 use rs_disk::Disk;
-use rs_refusal::Refusal;
-use rs_standing::changes::meant_contents_stay_meant;
-use rs_standing::live::{
+use rs_file_meaning::changes::meant_contents_stay_meant;
+use rs_file_meaning::live::{
     live_versions_see_the_same, live_versions_see_their_events, live_versions_see_their_referents,
 };
-use rs_standing::standing::contents_have_one_state;
-use rs_state_changes::clear_only;
-use rs_state_laws::clearing::cleared_file_stands_for_the_same_state;
+use rs_file_meaning::standing::contents_have_one_state;
+use rs_refusal::Refusal;
 use std::alloc::Global;
 
 impl<D: Disk> Store<D> {

@@ -4,12 +4,12 @@ ghost use Rattle.std.specs.Prelude.{◌≡◌, ◌≤◌, ◌<◌, ◌+◌, ◌^
 ghost use Rattle.std.specs.List.{AllByRecursion};
 ghost use Rattle.rs_catalog_pages.specs.Fitting.{FitsCatalogue, IsShort};
 ghost use Rattle.rs_catalog_pages.specs.Said.{said_catalogue};
-ghost use Rattle.rs_definitions.specs.Listing.{listing_of};
+ghost use Rattle.rs_stored_catalog.specs.Listing.{listing_of};
 ghost use Rattle.rs_facts.specs.Insert.{same_name};
-ghost use Rattle.rs_file_changes.specs.Calls.{ChangesDefinitions};
-ghost use Rattle.rs_file_changes.specs.Parts.{IsCommitted};
+ghost use Rattle.rs_file_parts.specs.Calls.{ChangesDefinitions};
+ghost use Rattle.rs_file_parts.specs.Parts.{IsCommitted};
 ghost use Rattle.rs_machine.specs.declared.limits.TheConstants.{CHANGES};
-ghost use Rattle.rs_state_changes.specs.Calls.{MayChange};
+ghost use Rattle.rs_changes.specs.Calls.{MayChange};
 ghost use Rattle.rs_store.specs.Rewriting.{AreNumbersSmall, CanBeKept, HasTablesOf, Rewrites};
 
 use crate::settling::{kept_change_gives_its_state, settle};
@@ -17,13 +17,13 @@ use rs_catalog::Catalog;
 use rs_catalog_meaning::check_meaning;
 use rs_catalog_meaning::laws::{meant_definitions_are_short, meant_definitions_fit};
 use rs_catalog_pages::{StoredCatalogue, StoredView};
-use rs_contents::OpenedFile;
-use rs_definitions::stored_of;
+use rs_changes::redefine;
 use rs_disk::Disk;
+use rs_file::OpenedFile;
 use rs_methods::Name;
 use rs_pager::Pager;
 use rs_refusal::Refusal;
-use rs_state_changes::redefine;
+use rs_stored_catalog::stored_of;
 use std::alloc::Global;
 
 /// Writes the definitions of this catalogue into the file, which has the same tables and indexes. It is refused with 90, with 91, with 92

@@ -6,15 +6,15 @@ ghost use Rattle.std.specs.List.{AllByRecursion};
 ghost use Rattle.rs_catalog.specs.Changes as changes;
 ghost use Rattle.rs_catalog.specs.Uses.{some_piece_on};
 ghost use Rattle.rs_catalog_pages.specs.Said.{said_catalogue};
-ghost use Rattle.rs_definitions.specs.Listing.{listing_of};
-ghost use Rattle.rs_file_changes.specs.Calls.{ChangesDefinitions};
-ghost use Rattle.rs_file_changes.specs.Parts.{IsCommitted};
+ghost use Rattle.rs_stored_catalog.specs.Listing.{listing_of};
+ghost use Rattle.rs_file_parts.specs.Calls.{ChangesDefinitions};
+ghost use Rattle.rs_file_parts.specs.Parts.{IsCommitted};
 ghost use Rattle.rs_machine.specs.Lawful.{IsLawful};
 ghost use Rattle.rs_machine.specs.State.{State, has};
 ghost use Rattle.rs_machine.specs.Step.{with_route, without_route};
 ghost use Rattle.rs_machine.specs.declared.limits.TheConstants.{CHANGES, ROUTES};
-ghost use Rattle.rs_state_changes.specs.Calls.{MayChange};
-ghost use Rattle.rs_state_laws.specs.Parts.{DropsRoute};
+ghost use Rattle.rs_changes.specs.Calls.{MayChange};
+ghost use Rattle.rs_change_laws.specs.Parts.{DropsRoute};
 ghost use Rattle.rs_store.specs.Changing.{HasBecome, LeavesStore};
 ghost use Rattle.rs_store.specs.Kept.{IsAtRest, StandsIn};
 ghost use Rattle.rs_store.specs.Rewriting.{HasTablesOf, Rewrites};
@@ -27,18 +27,18 @@ use crate::store::Store;
 use rs_catalog::Catalog;
 use rs_catalog_laws::definitions::state_has_one_route_more_or_less;
 use rs_catalog_pages::StoredCatalogue;
-use rs_contents::OpenedFile;
-use rs_definitions::listing_laws::{
-    listed_definitions_of_a_lawful_catalogue_are_meant, one_route_is_listed_more_or_less,
-};
-use rs_definitions::stored_of;
+use rs_change_laws::definitions::{route_defined_gives_its_state, route_dropped_gives_its_state};
 use rs_disk::Disk;
+use rs_file::OpenedFile;
 use rs_machine_laws::view_lines::shortest_line_defines_the_view;
 use rs_measure::Measure;
 use rs_methods::Name;
 use rs_pager::Pager;
 use rs_refusal::Refusal;
-use rs_state_laws::definitions::{route_defined_gives_its_state, route_dropped_gives_its_state};
+use rs_stored_catalog::listing_laws::{
+    listed_definitions_of_a_lawful_catalogue_are_meant, one_route_is_listed_more_or_less,
+};
+use rs_stored_catalog::stored_of;
 use std::alloc::{AllocError, Global};
 
 impl<D: Disk> Store<D> {
@@ -193,7 +193,7 @@ fn erase_route<D: Disk>(
     kept_change_gives_its_state::<D>();
     check_definitions(&definitions)?;
     pager.begin()?;
-    let made = rs_state_changes::drop_route(alloc, pager, file, oldest, definitions, number);
+    let made = rs_changes::drop_route(alloc, pager, file, oldest, definitions, number);
     settle(pager, file, made)
 }
 

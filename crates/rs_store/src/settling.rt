@@ -3,28 +3,28 @@
 ghost use Rattle.std.specs.Prelude.{◌≡◌, ◌≤◌, ◌+◌, ℕ, Bool, true, false};
 ghost use Rattle.rs_catalog.specs.Definitions.{Definitions, Numbered};
 ghost use Rattle.rs_catalog.specs.Referents.{HeldReferents};
-ghost use Rattle.rs_contents.specs.Contents.{Contents};
-ghost use Rattle.rs_contents.specs.declared.opened.OpenedFile.{OpenedFile};
+ghost use Rattle.rs_file.specs.Contents.{Contents};
+ghost use Rattle.rs_file.specs.declared.opened.OpenedFile.{OpenedFile};
 ghost use Rattle.rs_machine.specs.Lawful.{AreViewsMeant};
 ghost use Rattle.rs_machine.specs.State.{State};
 ghost use Rattle.rs_pager.specs.Maps.{KeepsBelow, working};
 ghost use Rattle.rs_pager.specs.Paged.{Paged};
-ghost use Rattle.rs_state_laws.specs.Changing.{Completes, GivesState};
+ghost use Rattle.rs_change_laws.specs.Changing.{Completes, GivesState};
 ghost use Rattle.rs_store.specs.Changing.{HasBecome};
 ghost use Rattle.rs_store.specs.Kept.{StandsIn, StoreState};
 ghost use Rattle.rs_store.specs.Settling.{HasBegun, IsKept, Settles};
 
-use rs_contents::OpenedFile;
+use rs_change_laws::completing::completed_change_has_its_state;
 use rs_disk::Disk;
-use rs_file_changes::{keep, take_back};
-use rs_pager::Pager;
-use rs_refusal::Refusal;
-use rs_standing::changes::meant_contents_stay_meant;
-use rs_standing::live::{
+use rs_file::OpenedFile;
+use rs_file_meaning::changes::meant_contents_stay_meant;
+use rs_file_meaning::live::{
     live_versions_see_the_same, live_versions_see_their_events, live_versions_see_their_referents,
 };
-use rs_standing::standing::contents_have_one_state;
-use rs_state_laws::completing::completed_change_has_its_state;
+use rs_file_meaning::standing::contents_have_one_state;
+use rs_file_parts::{keep, take_back};
+use rs_pager::Pager;
+use rs_refusal::Refusal;
 
 /// Keeps the change in its pages and in what is open where it was made, and takes it back where it was refused. It hands on the answer.
 pub(crate) fn settle<D: Disk, T>(

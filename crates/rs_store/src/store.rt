@@ -8,8 +8,8 @@ ghost use Rattle.rs_page_cache.specs.declared.clean.TheConstants.{MOST_CLEAN};
 ghost use Rattle.rs_store.specs.Kept.{garbage_of};
 
 use rs_catalog::{Catalog, RouteReferents};
-use rs_contents::opened::OpenedFile;
 use rs_disk::Disk;
+use rs_file::opened::OpenedFile;
 use rs_pager::Pager;
 use std::marker::Model;
 
@@ -75,6 +75,6 @@ impl<D: Disk> Store<D> {
     pub fn garbage(&self) -> u64
         ensures { result ≡ min (garbage_of self.now.file) (2 ^ 64 - 1) }
     {
-        rs_state_changes::garbage(&self.file)
+        rs_changes::garbage(&self.file)
     }
 }

@@ -5,13 +5,13 @@ ghost use Rattle.std.specs.FinMap as names;
 ghost use Rattle.std.specs.List.{AllByRecursion};
 ghost use Rattle.rs_catalog.specs.Changes as changes;
 ghost use Rattle.rs_catalog_pages.specs.Said.{said_catalogue};
-ghost use Rattle.rs_definitions.specs.Listing.{listing_of};
-ghost use Rattle.rs_file_changes.specs.Parts.{IsCommitted};
+ghost use Rattle.rs_stored_catalog.specs.Listing.{listing_of};
+ghost use Rattle.rs_file_parts.specs.Parts.{IsCommitted};
 ghost use Rattle.rs_machine.specs.Lawful.{AreColumnsOfTable, IsLawful};
 ghost use Rattle.rs_machine.specs.State.{State, has};
 ghost use Rattle.rs_machine.specs.Step.{empty_table, with_table, without_table};
 ghost use Rattle.rs_machine.specs.declared.limits.TheConstants.{CHANGES, TABLES};
-ghost use Rattle.rs_state_changes.specs.Calls.{MayChange};
+ghost use Rattle.rs_changes.specs.Calls.{MayChange};
 ghost use Rattle.rs_store.specs.Changing.{HasBecome, LeavesStore};
 ghost use Rattle.rs_store.specs.Kept.{IsAtRest, StandsIn};
 ghost use Rattle.rs_store.specs.Rewriting.{Rewrites};
@@ -24,16 +24,16 @@ use crate::settling::{kept_change_gives_its_state, settle};
 use crate::store::Store;
 use rs_catalog::Catalog;
 use rs_catalog_pages::{StoredCatalogue, StoredTable};
-use rs_contents::laws::tables_of_lines_fit_pages;
-use rs_contents::{OpenedFile, schema_of};
-use rs_definitions::listing_laws::one_table_is_listed_more_or_less;
-use rs_definitions::stored_of;
+use rs_change_laws::tables::{table_defined_gives_its_state, table_dropped_gives_its_state};
 use rs_disk::Disk;
+use rs_file::laws::tables_of_lines_fit_pages;
+use rs_file::{OpenedFile, schema_of};
 use rs_machine_laws::view_lines::shortest_line_defines_the_view;
 use rs_methods::Name;
 use rs_pager::Pager;
 use rs_refusal::Refusal;
-use rs_state_laws::tables::{table_defined_gives_its_state, table_dropped_gives_its_state};
+use rs_stored_catalog::listing_laws::one_table_is_listed_more_or_less;
+use rs_stored_catalog::stored_of;
 use rs_syntax::ColumnDefinition;
 use rs_value::{Kind, Schema};
 use std::alloc::{AllocError, Global};
@@ -135,7 +135,7 @@ fn write_table<D: Disk>(
     check_definitions(&stored)?;
     let (place, schema) = columns_at(stored.tables.as_slice(), number);
     pager.begin()?;
-    let made = rs_state_changes::define_table(alloc, pager, file, oldest, stored, place, schema);
+    let made = rs_changes::define_table(alloc, pager, file, oldest, stored, place, schema);
     settle(pager, file, made)
 }
 
@@ -175,7 +175,7 @@ fn erase_table<D: Disk>(
     check_definitions(&stored)?;
     let place = table_place(file, catalog, name);
     pager.begin()?;
-    let made = rs_state_changes::drop_table(alloc, pager, file, oldest, stored, place);
+    let made = rs_changes::drop_table(alloc, pager, file, oldest, stored, place);
     settle(pager, file, made)
 }
 

@@ -2,21 +2,21 @@
 
 ghost use Rattle.std.specs.Prelude.{◌≡◌, ◌≢◌, ◌≤◌, ℕ, Err, IfOk, MatchResult, map};
 ghost use Rattle.rs_catalog.specs.Referents.{referents_on};
-ghost use Rattle.rs_contents.specs.Calls.{RefusesToLoad};
-ghost use Rattle.rs_definitions.specs.RouteReferents.{HasAlone};
+ghost use Rattle.rs_file.specs.Calls.{RefusesToLoad};
+ghost use Rattle.rs_stored_catalog.specs.RouteReferents.{HasAlone};
 ghost use Rattle.rs_machine.specs.State.{State};
 ghost use Rattle.rs_pager.specs.Opened.{CountsFault};
-ghost use Rattle.rs_standing.specs.Seen.{referents_seen};
+ghost use Rattle.rs_file_meaning.specs.Seen.{referents_seen};
 ghost use Rattle.rs_store.specs.Kept.{StandsIn};
 ghost use Rattle.rs_store.specs.Reading.{ReadsStore};
 ghost use Rattle.rs_store.specs.Versions.{AreRoutesAt, entry_of, routes_by};
 
 use crate::store::Store;
 use rs_catalog::{Catalog, RouteEntry, RouteReferents};
-use rs_definitions::referents_of_route;
 use rs_disk::Disk;
 use rs_methods::Name;
 use rs_refusal::Refusal;
+use rs_stored_catalog::referents_of_route;
 use std::alloc::{AllocError, Global};
 
 /// A route by its name.

@@ -18,7 +18,7 @@ use rs_disk::Disk;
 use rs_machine_laws::lawful::accepted_step_leaves_the_state_lawful;
 use rs_methods::Name;
 use rs_refusal::Refusal;
-use rs_store_reads::has_facts_on;
+use rs_store_source::has_facts_on;
 
 impl<D: Disk> Engine<D> {
     /// Drops a route with its referents. Checks, in order: 20; a table has a fact on it, an alignment has a piece on it or a view's window

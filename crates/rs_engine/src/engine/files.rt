@@ -4,7 +4,7 @@
 //! that the file stands for.
 
 ghost use Rattle.std.specs.Prelude.{◌≡◌, ◌≤◌, ◌-◌, ◌^◌, ℕ, IfErr, IsOkUnless, IsTrue, MatchResult, Ok, OnErr, OnOk, length, min};
-ghost use Rattle.rs_contents.specs.Calls.{RefusesToLoad};
+ghost use Rattle.rs_file.specs.Calls.{RefusesToLoad};
 ghost use Rattle.std.specs.FinMap as names;
 ghost use Rattle.rs_cursor.specs.Held.{held_of};
 ghost use Rattle.rs_disk.specs.Counts.{Counts};

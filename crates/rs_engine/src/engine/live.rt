@@ -13,7 +13,7 @@ use rs_exec::{Asked, Part, SoughtValue, Source};
 use rs_facts::Span;
 use rs_refusal::Refusal;
 use rs_store::Store;
-use rs_store_reads::{spans_asked, spans_of_value_asked};
+use rs_store_source::{spans_asked, spans_of_value_asked};
 use std::alloc::{AllocError, Global};
 
 /// A store, and the oldest version that is looked at.
@@ -28,8 +28,8 @@ impl<D: Disk> Source for LiveStore<D> {
     ghost use Rattle.std.proofs.Common.{◌∙◌, inl};
     ghost use Rattle.rs_engine.specs.Living.{wants_from_later};
     ghost use Rattle.rs_engine.specs.Reads.{ReadsFrom, WantsFrom};
-    ghost use Rattle.rs_store_reads.proofs.Passing.{passes_refl, passes_trans};
-    ghost use Rattle.rs_store_reads.specs.Shown.{Shows};
+    ghost use Rattle.rs_store_source.proofs.Passing.{passes_refl, passes_trans};
+    ghost use Rattle.rs_store_source.specs.Shown.{Shows};
 
     ghost is = { λ live snapshots. Shows D.Disk live.oldest live.store snapshots };
 

@@ -36,7 +36,7 @@ use rs_methods::{Method, Name, Position};
 use rs_plan::{Counts, Index, Plan};
 use rs_refusal::Refusal;
 use rs_store::Store;
-use rs_store_reads::records_of;
+use rs_store_source::records_of;
 use rs_syntax::Query;
 use std::alloc::AllocError;
 

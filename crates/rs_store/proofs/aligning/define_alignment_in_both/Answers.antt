@@ -2,11 +2,11 @@
 use Rattle.std.proofs.Common.{◌≡◌, ◌∙◌, List, ap, subst, sym, ◌≤◌, ◌+◌, Err, Result, inl, refl, string_bytes}
 use Rattle.rs_catalog.specs.Changes as changes
 use Rattle.rs_catalog.specs.Definitions.{Definitions, pieces_of}
-use Rattle.rs_definitions.specs.Listing.{listing_of}
 use Rattle.rs_facts.specs.Fact.{Names}
 use Rattle.rs_facts.specs.Query.{Piece}
-use Rattle.rs_file_changes.specs.Calls.{ChangesDefinitions}
+use Rattle.rs_file_parts.specs.Calls.{ChangesDefinitions}
 use Rattle.rs_store.specs.Rewriting.{Rewrites}
+use Rattle.rs_stored_catalog.specs.Listing.{listing_of}
 use Rattle.rs_store.proofs.Redefined.{err_never, ok_never, redefines}
 use Rattle.rs_store.proofs.Referred.{taken_again}
 use Rattle.rs_store.proofs.Results.{err_always, ok_always}

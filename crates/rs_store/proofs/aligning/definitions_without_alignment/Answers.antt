@@ -5,10 +5,10 @@ use Rattle.std.proofs.lemmas.Fn.{filter_same}
 use Rattle.rs_catalog_pages.specs.Items.{AlignmentItem, CatalogueItems}
 use Rattle.rs_catalog_pages.specs.Said.{said_alignment, said_catalogue}
 use Rattle.rs_catalog_pages.specs.declared.items.StoredAlignment.{StoredAlignment}
-use Rattle.rs_definitions.specs.Listing.{listed_alignment}
 use Rattle.rs_facts.specs.Insert.{same_name}
 use Rattle.rs_store.proofs.Listed.{listed_without, seen_passing}
 use Rattle.rs_store.proofs.aligning.definitions_without_alignment.Goals as goal
+use Rattle.rs_stored_catalog.specs.Listing.{listed_alignment}
 
 pub returns : goal.returns
 returns c =

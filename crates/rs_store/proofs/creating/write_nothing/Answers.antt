@@ -1,8 +1,8 @@
 -- What was committed is on the disk, and says that there are no definitions.
 use Rattle.std.proofs.Common.{◌≡◌, ◌∙◌, IsTrue, ap, arith, length, refl, subst, sym}
-use Rattle.rs_contents.specs.Contents.{HoldsAll}
-use Rattle.rs_contents.specs.Creating.{no_contents}
-use Rattle.rs_contents.proofs.Loaded.{same_map}
+use Rattle.rs_file.specs.Contents.{HoldsAll}
+use Rattle.rs_file.specs.Creating.{no_contents}
+use Rattle.rs_file.proofs.Loaded.{same_map}
 use Rattle.rs_pager.specs.Maps.{committed, working}
 use Rattle.rs_pages.specs.PageMap.{IsEmptyFile}
 use Rattle.rs_pages.proofs.Stores.{SamePages-trans}

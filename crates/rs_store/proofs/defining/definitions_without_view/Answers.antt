@@ -5,10 +5,10 @@ use Rattle.std.proofs.lemmas.Fn.{filter_same}
 use Rattle.rs_catalog_pages.specs.Items.{CatalogueItems, ViewItem}
 use Rattle.rs_catalog_pages.specs.Said.{said_catalogue, said_view}
 use Rattle.rs_catalog_pages.specs.declared.items.StoredView.{StoredView}
-use Rattle.rs_definitions.specs.Listing.{listed_view, listing_of}
 use Rattle.rs_facts.specs.Insert.{same_name}
 use Rattle.rs_store.proofs.Listed.{listed_without, seen_passing}
 use Rattle.rs_store.proofs.defining.definitions_without_view.Goals as goal
+use Rattle.rs_stored_catalog.specs.Listing.{listed_view, listing_of}
 
 pub returns : goal.returns
 returns c =

@@ -3,16 +3,16 @@ use Rattle.std.proofs.Common.{◌≡◌, Err, Ok, Result, refl, subst, ◌≤◌
 use Rattle.std.proofs.lemmas.Result.{err_from_is_err_and}
 use Rattle.rs_catalog.specs.Changes as changes
 use Rattle.rs_catalog_pages.specs.Items.{CatalogueItems, RouteItem}
-use Rattle.rs_file_changes.specs.Calls.{ChangesDefinitions}
+use Rattle.rs_file_parts.specs.Calls.{ChangesDefinitions}
 use Rattle.rs_refusal.specs.declared.refusal.Refusal.{Refusal}
 use Rattle.rs_store.specs.Rewriting.{Rewrites}
 use Rattle.rs_store.proofs.Redefined.{redefines}
 use Rattle.rs_refusal.specs.declared.refusal.Refusal.TheVariants as refusal
 use Rattle.std.specs.List.{AllByRecursion}
-use Rattle.rs_definitions.specs.Listing.{listing_of}
 use Rattle.rs_store.proofs.Rewritten.{rewrites_unmade}
 use Rattle.rs_store.proofs.Settled.{births_listed}
 use Rattle.rs_store.proofs.defining.drop_view_from_both.Goals as goal
+use Rattle.rs_stored_catalog.specs.Listing.{listing_of}
 
 pub returns-in_err-rewrite-clause-redefines : goal.returns-in_err-rewrite-clause-redefines
 returns-in_err-rewrite-clause-redefines g c =

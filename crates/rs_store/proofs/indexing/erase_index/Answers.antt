@@ -9,15 +9,15 @@ use Rattle.rs_catalog.proofs.DefinitionLaws.{are_definitions-without_index}
 use Rattle.rs_catalog_pages.specs.Items.{CatalogueItems, RouteItem}
 use Rattle.rs_catalog_pages.specs.Said.{said_catalogue, said_index}
 use Rattle.rs_catalog_pages.specs.declared.items.StoredIndex.{StoredIndex}
-use Rattle.rs_contents.specs.Contents.{AreGivenOnce, table_numbers}
-use Rattle.rs_definitions.specs.Listing.{listed_index, listed_table, listing_of}
+use Rattle.rs_change_laws.specs.Parts.{ChangesIndexes}
+use Rattle.rs_changes.specs.Tables.{HasIndexAt}
+use Rattle.rs_file.specs.Contents.{AreGivenOnce, table_numbers}
 use Rattle.rs_machine.specs.State.{has}
 use Rattle.rs_pager.specs.Maps.{working}
 use Rattle.rs_refusal.specs.declared.refusal.Refusal.{Refusal}
-use Rattle.rs_state_changes.specs.Tables.{HasIndexAt}
-use Rattle.rs_state_laws.specs.Parts.{ChangesIndexes}
 use Rattle.rs_store.specs.Indexing.{ChangesListed, position_among, without_index_numbered}
 use Rattle.rs_store.specs.Rewriting.{AreNumbersSmall, CanBeKept, Rewrites}
+use Rattle.rs_stored_catalog.specs.Listing.{listed_index, listed_table, listing_of}
 use Rattle.rs_store.proofs.Given.{given_once, small_numbers}
 use Rattle.rs_store.proofs.Indexed.{index_at, index_less, table_listed}
 use Rattle.rs_store.proofs.Rewritten.{rewrites_settled, rewrites_unbegun, rewrites_unmade}

@@ -8,14 +8,14 @@ use Rattle.rs_catalog.specs.Definitions.{IndexItem}
 use Rattle.rs_catalog_pages.specs.Items.{CatalogueItems, RouteItem}
 use Rattle.rs_catalog_pages.specs.Said.{said_catalogue, said_index}
 use Rattle.rs_catalog_pages.specs.declared.items.StoredIndex.{StoredIndex}
-use Rattle.rs_contents.specs.Contents.{AreGivenOnce}
-use Rattle.rs_definitions.specs.Listing.{listing_of}
+use Rattle.rs_change_laws.specs.Parts.{ChangesIndexes}
+use Rattle.rs_changes.specs.Tables.{HasIndexOfAt}
+use Rattle.rs_file.specs.Contents.{AreGivenOnce}
 use Rattle.rs_pager.specs.Maps.{working}
 use Rattle.rs_refusal.specs.declared.refusal.Refusal.{Refusal}
-use Rattle.rs_state_changes.specs.Tables.{HasIndexOfAt}
-use Rattle.rs_state_laws.specs.Parts.{ChangesIndexes}
 use Rattle.rs_store.specs.Indexing.{ChangesListed, position_among}
 use Rattle.rs_store.specs.Rewriting.{AreNumbersSmall, CanBeKept, Rewrites}
+use Rattle.rs_stored_catalog.specs.Listing.{listing_of}
 use Rattle.rs_store.proofs.Given.{given_once, small_numbers}
 use Rattle.rs_store.proofs.Indexed.{index_of_at}
 use Rattle.rs_store.proofs.Rewritten.{rewrites_settled, rewrites_unbegun, rewrites_unmade}

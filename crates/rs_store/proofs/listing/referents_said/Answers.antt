@@ -2,10 +2,10 @@
 use Rattle.std.proofs.Common.{◌≡◌, ◌<◌, ◌≤◌, ◌∙◌, List, ap, length, map, subst, sym, arith}
 use Rattle.std.proofs.lemmas.List.{take_all}
 use Rattle.std.specs.List.{AllByRecursion}
-use Rattle.rs_definitions.specs.Referents.{IsReferent}
 use Rattle.rs_methods.specs.Referents.{mark_of}
 use Rattle.rs_methods.specs.declared.referents.Referent.{Referent}
 use Rattle.rs_records.specs.Listed.{listed}
+use Rattle.rs_stored_catalog.specs.Referents.{IsReferent}
 use Rattle.rs_tree.proofs.Lists.{all_at, has_inside, inside_has, zip_at, zip_lengths}
 use Rattle.rs_versioned.proofs.CellsWide.{cell_wide}
 use Rattle.rs_versioned.specs.Referents.{ReferentRecord, SaysReferent}

@@ -3,13 +3,13 @@ use Rattle.std.proofs.Common.{◌≡◌, ◌∙◌, ℕ, Err, List, Ok, Result, 
 use Rattle.std.specs.List.{AllByRecursion, AllZip}
 use Rattle.std.specs.Prelude.{IfOk}
 use Rattle.std.proofs.lemmas.Result.{err_from_is_err_and}
-use Rattle.rs_definitions.specs.Referents.{IsSpan, OfThose}
-use Rattle.rs_definitions.proofs.MeantReferents.{all_referents}
+use Rattle.rs_stored_catalog.specs.Referents.{IsSpan, OfThose}
 use Rattle.rs_methods.specs.Referents.{mark_of}
 use Rattle.rs_methods.specs.declared.referents.Referent.{Referent}
 use Rattle.rs_pages.specs.PageMap.{PageMap}
 use Rattle.rs_pages.specs.Store.{Store}
 use Rattle.rs_refusal.specs.declared.refusal.Refusal.{Refusal}
+use Rattle.rs_stored_catalog.proofs.MeantReferents.{all_referents}
 use Rattle.rs_refusal.specs.declared.refusal.Refusal.TheVariants as refusal
 use Rattle.rs_tree.specs.Calls.{RefusesToRead}
 use Rattle.rs_tree.specs.Form.{Form}

@@ -6,9 +6,9 @@ use Rattle.std.proofs.lemmas.Result.{err_from_is_err_and}
 use Rattle.rs_catalog.specs.Referents.{referents_on}
 use Rattle.rs_catalog_pages.specs.Said.{said_catalogue, said_route}
 use Rattle.rs_catalog_pages.specs.declared.items.StoredRoute.{StoredRoute}
-use Rattle.rs_contents.specs.Meant.{route_spans, span_of_route}
-use Rattle.rs_definitions.specs.Referents.{IsSpan, OfThose}
+use Rattle.rs_file.specs.Meant.{route_spans, span_of_route}
 use Rattle.rs_refusal.specs.declared.refusal.Refusal.TheVariants as refusal
+use Rattle.rs_stored_catalog.specs.Referents.{IsSpan, OfThose}
 use Rattle.rs_versioned.specs.Meant.{AreReferentsMeant}
 use Rattle.rs_versioned.specs.Referents.{referents_at}
 use Rattle.rs_versioned.specs.declared.route_span.RouteSpan.{RouteSpan}

@@ -1,7 +1,7 @@
 -- The file is opened, and then what it says is brought.
 use Rattle.std.proofs.Common.{◌≡◌, Ok, Err, ap, subst, sym}
 use Rattle.std.proofs.lemmas.Result.{err_from_is_err_and}
-use Rattle.rs_contents.proofs.Loaded.{same_map}
+use Rattle.rs_file.proofs.Loaded.{same_map}
 use Rattle.rs_pages.proofs.Resting.{rests_err, rests_ok, rests_then}
 use Rattle.rs_pages.specs.PageMap.{PageMap}
 use Rattle.rs_refusal.specs.declared.refusal.Refusal.TheVariants as refusal

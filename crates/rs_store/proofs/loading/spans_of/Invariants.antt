@@ -1,7 +1,7 @@
 -- The routes so far.
 use Rattle.std.proofs.Common.{◌≡◌, map, take}
 use Rattle.rs_catalog_pages.specs.Said.{said_route}
-use Rattle.rs_contents.specs.Meant.{span_of_route}
+use Rattle.rs_file.specs.Meant.{span_of_route}
 use Rattle.rs_store.proofs.loading.spans_of.Given as goal
 
 abbrev pub invariant-loop-route : goal.invariant-loop-route

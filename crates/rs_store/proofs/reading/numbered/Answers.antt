@@ -3,7 +3,7 @@ use Rattle.std.proofs.Common.{◌<◌, List, length, refl, subst, arith}
 use Rattle.std.proofs.lemmas.Option.{slice_get_read}
 use Rattle.rs_catalog_pages.specs.Said.{said_catalogue}
 use Rattle.rs_catalog_pages.specs.declared.items.StoredTable.{StoredTable}
-use Rattle.rs_contents.specs.Slots.{IsOfItem}
+use Rattle.rs_file.specs.Slots.{IsOfItem}
 use Rattle.rs_store.specs.Placing.{IsNumberedAt}
 use Rattle.rs_store.proofs.Numbered.{open_within}
 use Rattle.rs_store.proofs.reading.numbered.Goals as goal

@@ -2,7 +2,7 @@
 use Rattle.std.proofs.Common.{◌≡◌, ◌<◌, ◌≤◌, ℕ, Some, false, length, map, slice_get, take}
 use Rattle.rs_catalog_pages.specs.Items.{IndexItem}
 use Rattle.rs_catalog_pages.specs.Said.{said_index}
-use Rattle.rs_contents.specs.Slots.{indexes_on}
+use Rattle.rs_file.specs.Slots.{indexes_on}
 use Rattle.rs_store.specs.Reading.{is_of_key}
 use Rattle.rs_store.proofs.reading.position_of_key.Given as goal
 

@@ -1,11 +1,11 @@
 -- Where no memory is left for the list of the definitions, nothing was begun.
 use Rattle.std.proofs.Common.{inl, refl}
 use Rattle.std.proofs.lemmas.Result.{err_from_is_err_and}
-use Rattle.rs_definitions.specs.Listing.{listing_of}
-use Rattle.rs_file_changes.specs.Calls.{ChangesDefinitions}
+use Rattle.rs_file_parts.specs.Calls.{ChangesDefinitions}
 use Rattle.rs_refusal.specs.declared.refusal.Refusal.TheVariants as refusal
 use Rattle.rs_store.proofs.Rewritten.{rewrites_unmade}
 use Rattle.rs_store.proofs.rewriting.write_definitions_of.Goals as goal
+use Rattle.rs_stored_catalog.specs.Listing.{listing_of}
 
 pub returns-in_err-definitions-clause-rewrites : goal.returns-in_err-definitions-clause-rewrites
 returns-in_err-definitions-clause-rewrites g c =

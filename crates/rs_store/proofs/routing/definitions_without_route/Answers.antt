@@ -6,11 +6,11 @@ use Rattle.rs_catalog.specs.Changes as changes
 use Rattle.rs_catalog_pages.specs.Items.{CatalogueItems, RouteItem}
 use Rattle.rs_catalog_pages.specs.Said.{said_catalogue, said_route}
 use Rattle.rs_catalog_pages.specs.declared.items.StoredRoute.{StoredRoute}
-use Rattle.rs_definitions.specs.Listing.{listed_route, listing_of}
 use Rattle.rs_facts.specs.Insert.{same_name}
 use Rattle.rs_store.proofs.Listed.{listed_without, seen_passing}
 use Rattle.rs_store.proofs.Redefined.{stood_there}
 use Rattle.rs_store.proofs.routing.definitions_without_route.Goals as goal
+use Rattle.rs_stored_catalog.specs.Listing.{listed_route, listing_of}
 
 pub returns : goal.returns
 returns c =

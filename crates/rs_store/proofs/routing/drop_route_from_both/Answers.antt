@@ -4,10 +4,10 @@ use Rattle.std.specs.List.{AllByRecursion}
 use Rattle.std.proofs.lemmas.Result.{err_from_is_err_and}
 use Rattle.rs_catalog.specs.Changes as changes
 use Rattle.rs_catalog_pages.specs.Items.{CatalogueItems}
-use Rattle.rs_definitions.specs.Listing.{listed_route, listing_of}
+use Rattle.rs_change_laws.specs.Parts.{DropsRoute}
 use Rattle.rs_refusal.specs.declared.refusal.Refusal.{Refusal}
-use Rattle.rs_state_laws.specs.Parts.{DropsRoute}
 use Rattle.rs_store.specs.Rewriting.{Rewrites}
+use Rattle.rs_stored_catalog.specs.Listing.{listed_route, listing_of}
 use Rattle.rs_store.proofs.Redefined.{stood_there}
 use Rattle.rs_store.proofs.Routed.{births_less, erases}
 use Rattle.rs_refusal.specs.declared.refusal.Refusal.TheVariants as refusal

@@ -2,8 +2,8 @@
 use Rattle.std.proofs.Common.{Result, inr, subst, sym}
 use Rattle.std.proofs.lemmas.Result.{err_from_is_err_and}
 use Rattle.rs_catalog_pages.specs.Said.{said_catalogue}
+use Rattle.rs_change_laws.specs.Parts.{DropsRoute}
 use Rattle.rs_refusal.specs.declared.refusal.Refusal.{Refusal}
-use Rattle.rs_state_laws.specs.Parts.{DropsRoute}
 use Rattle.rs_store.specs.Rewriting.{Rewrites}
 use Rattle.rs_store.proofs.Rewritten.{rewrites_settled, rewrites_unbegun, rewrites_unmade}
 use Rattle.rs_store.proofs.HeldChanges.{begins_with}

@@ -8,14 +8,14 @@ use Rattle.rs_catalog.specs.Changes as changes
 use Rattle.rs_catalog.proofs.DefinitionLaws.{are_definitions-without_table}
 use Rattle.rs_catalog_pages.specs.Items.{CatalogueItems, RouteItem}
 use Rattle.rs_catalog_pages.specs.Said.{said_catalogue}
-use Rattle.rs_contents.specs.Contents.{AreGivenOnce, table_numbers}
-use Rattle.rs_definitions.specs.Listing.{listed_table, listing_of}
+use Rattle.rs_change_laws.specs.Parts.{TakesTable}
+use Rattle.rs_changes.specs.Tables.{LosesTableAt}
+use Rattle.rs_file.specs.Contents.{AreGivenOnce, table_numbers}
 use Rattle.rs_pager.specs.Maps.{working}
 use Rattle.rs_refusal.specs.declared.refusal.Refusal.{Refusal}
-use Rattle.rs_state_changes.specs.Tables.{LosesTableAt}
-use Rattle.rs_state_laws.specs.Parts.{TakesTable}
 use Rattle.rs_store.specs.Rewriting.{AreNumbersSmall, CanBeKept, Rewrites}
 use Rattle.rs_store.specs.Tabling.{TakesNamed, without_number}
+use Rattle.rs_stored_catalog.specs.Listing.{listed_table, listing_of}
 use Rattle.rs_store.proofs.Given.{given_once, small_numbers}
 use Rattle.rs_store.proofs.Rewritten.{rewrites_settled, rewrites_unbegun, rewrites_unmade}
 use Rattle.rs_store.proofs.Settled.{born_later}

@@ -5,14 +5,14 @@ use Rattle.std.proofs.lemmas.Result.{err_from_is_err_and}
 use Rattle.rs_catalog_pages.specs.Items.{CatalogueItems, RouteItem}
 use Rattle.rs_catalog_pages.specs.Said.{said_catalogue}
 use Rattle.rs_catalog_pages.specs.declared.items.StoredTable.{StoredTable}
-use Rattle.rs_contents.specs.Contents.{AreGivenOnce, table_numbers}
-use Rattle.rs_definitions.specs.Listing.{listing_of}
+use Rattle.rs_change_laws.specs.Parts.{PutsTable}
+use Rattle.rs_changes.specs.Tables.{HasTableAt}
+use Rattle.rs_file.specs.Contents.{AreGivenOnce, table_numbers}
 use Rattle.rs_pager.specs.Maps.{working}
 use Rattle.rs_refusal.specs.declared.refusal.Refusal.{Refusal}
-use Rattle.rs_state_changes.specs.Tables.{HasTableAt}
-use Rattle.rs_state_laws.specs.Parts.{PutsTable}
 use Rattle.rs_store.specs.Rewriting.{AreNumbersSmall, CanBeKept, Rewrites}
 use Rattle.rs_store.specs.Tabling.{HasColumnsAt, HasNumbered, PutsNumbered}
+use Rattle.rs_stored_catalog.specs.Listing.{listing_of}
 use Rattle.rs_store.proofs.Given.{given_once, small_numbers}
 use Rattle.rs_store.proofs.Rewritten.{rewrites_settled, rewrites_unbegun, rewrites_unmade}
 use Rattle.rs_store.proofs.Tabled.{changes_by, has_numbered, number_listed, table_at}

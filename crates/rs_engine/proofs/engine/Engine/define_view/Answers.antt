@@ -10,7 +10,7 @@ use Rattle.rs_syntax.specs.Tree as tree
 use Rattle.rs_machine.specs.Step.{with_view}
 use Rattle.rs_machine.specs.Lawful.{IsLawful}
 use Rattle.std.specs.Prelude.{string_bytes}
-use Rattle.rs_standing.specs.States.{HasLine}
+use Rattle.rs_file_meaning.specs.States.{HasLine}
 use Rattle.rs_syntax.specs.QueryView.{query_tree}
 use Rattle.rs_syntax.specs.Tree.{QueryTree}
 use Rattle.rs_engine.proofs.engine.Engine.define_view.Goals as goal

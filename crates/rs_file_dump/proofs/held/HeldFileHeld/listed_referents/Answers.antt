@@ -2,7 +2,7 @@
 use Rattle.std.proofs.Common.{◌∙◌, sym}
 use Rattle.std.proofs.lemmas.Result.{IfOk-weaker}
 use Rattle.rs_file_dump.proofs.Files.{shown_on}
-use Rattle.rs_store_reads.proofs.Passing.{wants_counted}
+use Rattle.rs_store_source.proofs.Passing.{wants_counted}
 use Rattle.rs_file_dump.proofs.held.HeldFileHeld.listed_referents.Goals as goal
 
 pub returns-clause-lists : goal.returns-clause-lists

@@ -2,7 +2,7 @@
 use Rattle.std.proofs.Common.{Err}
 use Rattle.std.proofs.lemmas.Result.{err_from_is_err_and}
 use Rattle.rs_file_dump.proofs.Files.{shown_on}
-use Rattle.rs_store_reads.proofs.Passing.{wants_counted}
+use Rattle.rs_store_source.proofs.Passing.{wants_counted}
 use Rattle.rs_file_dump.proofs.held.HeldFileHeld.listed_spans.Goals as goal
 
 pub returns-in_err-spans-clause-shows : goal.returns-in_err-spans-clause-shows

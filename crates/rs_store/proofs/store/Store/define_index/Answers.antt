@@ -7,7 +7,6 @@ use Rattle.rs_catalog.specs.Changes as changes
 use Rattle.rs_catalog.specs.Definitions.{Definitions, IndexItem, IsColumnOf}
 use Rattle.rs_catalog_pages.specs.Items.{CatalogueItems, RouteItem}
 use Rattle.rs_catalog_pages.specs.Said.{said_catalogue}
-use Rattle.rs_definitions.specs.Listing.{listing_of}
 use Rattle.rs_machine.specs.Lawful.{AreColumnsOfTable, Each, IsLawful}
 use Rattle.rs_machine.specs.State.{State, has}
 use Rattle.rs_machine.specs.Step.{with_index}
@@ -15,6 +14,7 @@ use Rattle.rs_store.specs.Calls.{KeepsStore}
 use Rattle.rs_store.specs.Indexing.{HasIndexListed}
 use Rattle.rs_store.specs.Kept.{IsAtRest, StoreState}
 use Rattle.rs_store.specs.Rewriting.{GoesOn, WhereKept}
+use Rattle.rs_stored_catalog.specs.Listing.{listing_of}
 use Rattle.rs_store.proofs.Given.{given_once}
 use Rattle.rs_store.proofs.IndexStates.{index_back, index_gives, index_has, index_there, indexes_kept}
 use Rattle.rs_store.proofs.Indexed.{index_listed}

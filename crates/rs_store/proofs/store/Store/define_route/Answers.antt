@@ -5,10 +5,9 @@ use Rattle.rs_catalog.specs.Changes as changes
 use Rattle.rs_catalog.specs.Definitions.{AreDefinitions, Definitions, RouteItem}
 use Rattle.rs_catalog.specs.Uses.{some_piece_on}
 use Rattle.rs_catalog_pages.specs.Items.{CatalogueItems}
-use Rattle.rs_contents.specs.declared.opened.OpenedFile.{OpenedFile}
-use Rattle.rs_definitions.specs.Listing.{listed_route, listing_of}
 use Rattle.rs_facts.specs.Fact.{Names}
-use Rattle.rs_file_changes.specs.Calls.{ChangesDefinitions}
+use Rattle.rs_file.specs.declared.opened.OpenedFile.{OpenedFile}
+use Rattle.rs_file_parts.specs.Calls.{ChangesDefinitions}
 use Rattle.rs_machine.specs.Lawful.{IsLawful}
 use Rattle.rs_machine.specs.State.{State, has}
 use Rattle.rs_machine.specs.Step.{with_route}
@@ -16,6 +15,7 @@ use Rattle.rs_pager.specs.Maps.{KeepsChanges, committed}
 use Rattle.rs_store.specs.Calls.{KeepsStore}
 use Rattle.rs_store.specs.Kept.{StoreState}
 use Rattle.rs_store.specs.Rewriting.{GoesOn, Redefines, Rewrites}
+use Rattle.rs_stored_catalog.specs.Listing.{listed_route, listing_of}
 use Rattle.rs_store.proofs.Keeping.{store_over}
 use Rattle.rs_store.proofs.Redefined.{Gives, become_redefined, left_redefined, next_lives, redefines, stands_still}
 use Rattle.rs_store.proofs.Referred.{taken_again}

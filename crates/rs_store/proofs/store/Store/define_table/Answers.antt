@@ -7,8 +7,7 @@ use Rattle.rs_catalog.specs.Changes as changes
 use Rattle.rs_catalog.specs.Definitions.{Definitions, TableItem}
 use Rattle.rs_catalog_laws.proofs.Tables.{taken_back}
 use Rattle.rs_catalog_pages.specs.Said.{said_catalogue}
-use Rattle.rs_contents.specs.declared.opened.OpenedFile.{OpenedFile}
-use Rattle.rs_definitions.specs.Listing.{listing_of}
+use Rattle.rs_file.specs.declared.opened.OpenedFile.{OpenedFile}
 use Rattle.rs_machine.specs.Lawful.{AreColumnsOfTable, Each, IsLawful}
 use Rattle.rs_machine.specs.State.{State, has}
 use Rattle.rs_machine.specs.Step.{empty_table, with_table}
@@ -18,6 +17,7 @@ use Rattle.rs_store.specs.Changing.{HasBecome, LeavesStore}
 use Rattle.rs_store.specs.Kept.{IsAtRest, StoreState}
 use Rattle.rs_store.specs.Rewriting.{GoesOn, WhereKept}
 use Rattle.rs_store.specs.Tabling.{HasNumberedMore}
+use Rattle.rs_stored_catalog.specs.Listing.{listing_of}
 use Rattle.rs_store.proofs.Given.{given_once}
 use Rattle.rs_store.proofs.Keeping.{store_over}
 use Rattle.rs_store.proofs.Redefined.{err_never, left_where}

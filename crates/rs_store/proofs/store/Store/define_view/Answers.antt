@@ -2,11 +2,11 @@
 use Rattle.std.proofs.Common.{◌∙◌, ap, string_bytes, subst, sym}
 use Rattle.rs_catalog.specs.Changes as changes
 use Rattle.rs_catalog.specs.Definitions.{Definitions, ViewItem}
+use Rattle.rs_file_meaning.specs.States.{HasLine}
 use Rattle.rs_machine.specs.Lawful.{IsLawful}
 use Rattle.rs_machine.specs.State.{State, has}
 use Rattle.rs_machine.specs.Step.{with_view}
 use Rattle.rs_pager.specs.Maps.{KeepsChanges, committed}
-use Rattle.rs_standing.specs.States.{HasLine}
 use Rattle.rs_store.specs.Calls.{KeepsStore}
 use Rattle.rs_store.specs.Kept.{StoreState}
 use Rattle.rs_store.specs.Rewriting.{GoesOn}

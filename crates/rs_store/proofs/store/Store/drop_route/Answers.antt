@@ -6,14 +6,14 @@ use Rattle.rs_catalog.specs.Changes as changes
 use Rattle.rs_catalog.specs.Definitions.{Definitions}
 use Rattle.rs_catalog.specs.Referents.{at_number, referents_on}
 use Rattle.rs_catalog.specs.Uses.{some_piece_on}
-use Rattle.rs_definitions.specs.Listing.{listing_of}
+use Rattle.rs_change_laws.specs.Parts.{DropsRoute}
 use Rattle.rs_machine.specs.Step.{without_route}
 use Rattle.rs_refusal.specs.declared.refusal.Refusal.{Refusal}
-use Rattle.rs_state_laws.specs.Parts.{DropsRoute}
 use Rattle.rs_store.specs.Calls.{KeepsStore}
 use Rattle.rs_store.specs.Changing.{HasBecome}
 use Rattle.rs_store.specs.Kept.{StoreState}
 use Rattle.rs_store.specs.Rewriting.{GoesOn, WhereKept}
+use Rattle.rs_stored_catalog.specs.Listing.{listing_of}
 use Rattle.rs_store.proofs.Keeping.{store_over}
 use Rattle.rs_store.proofs.Redefined.{left_where}
 use Rattle.rs_store.proofs.RouteLess.{less_gives, less_kept, may}

@@ -5,8 +5,7 @@ use Rattle.std.proofs.lemmas.Result.{err_from_is_err_and}
 use Rattle.rs_catalog.specs.Changes as changes
 use Rattle.rs_catalog.specs.Definitions.{Definitions}
 use Rattle.rs_catalog_pages.specs.Items.{CatalogueItems}
-use Rattle.rs_contents.specs.Contents.{table_numbers}
-use Rattle.rs_definitions.specs.Listing.{listing_of}
+use Rattle.rs_file.specs.Contents.{table_numbers}
 use Rattle.rs_machine.specs.Lawful.{AreColumnsOfTable, Each, IsLawful}
 use Rattle.rs_machine.specs.State.{State, has}
 use Rattle.rs_machine.specs.Step.{without_table}
@@ -14,6 +13,7 @@ use Rattle.rs_store.specs.Calls.{KeepsStore}
 use Rattle.rs_store.specs.Changing.{HasBecome, LeavesStore}
 use Rattle.rs_store.specs.Kept.{IsAtRest, StoreState}
 use Rattle.rs_store.specs.Rewriting.{GoesOn, WhereKept}
+use Rattle.rs_stored_catalog.specs.Listing.{listing_of}
 use Rattle.rs_store.proofs.Keeping.{store_over}
 use Rattle.rs_store.proofs.Placed.{has_one}
 use Rattle.rs_store.proofs.Redefined.{left_where}

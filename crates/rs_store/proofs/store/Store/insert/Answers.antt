@@ -3,19 +3,19 @@ use Rattle.std.proofs.Common.{◌≡◌, ◌≤◌, ◌<◌, ◌+◌, ◌∙◌,
 use Rattle.std.specs.FinMap as names
 use Rattle.std.proofs.lemmas.Result.{err_from_is_err_and}
 use Rattle.rs_catalog.specs.Definitions.{Definitions, RouteItem, TableItem}
-use Rattle.rs_contents.specs.declared.opened.OpenedFile.{OpenedFile}
+use Rattle.rs_change_laws.specs.Changing.{ChangesFile}
+use Rattle.rs_change_laws.specs.Parts.{InsertsRow}
 use Rattle.rs_facts.specs.Insert.{new_facts}
 use Rattle.rs_facts.specs.Query.{Table}
 use Rattle.rs_facts.specs.Spans.{seen}
 use Rattle.rs_facts.specs.declared.fact.Span.{Span}
+use Rattle.rs_file.specs.declared.opened.OpenedFile.{OpenedFile}
 use Rattle.rs_machine.specs.State.{State}
 use Rattle.rs_machine.specs.Step.{with_facts_along, with_table}
 use Rattle.rs_machine.specs.declared.limits.TheConstants.{CHANGES}
 use Rattle.rs_pager.specs.Maps.{KeepsChanges, working}
 use Rattle.rs_refusal.specs.Counts.{counted_on}
 use Rattle.rs_refusal.specs.declared.refusal.Refusal.{Refusal}
-use Rattle.rs_state_laws.specs.Changing.{ChangesFile}
-use Rattle.rs_state_laws.specs.Parts.{InsertsRow}
 use Rattle.rs_value.specs.declared.column.Kind.{Kind}
 use Rattle.rs_store.specs.Calls.{KeepsStore}
 use Rattle.rs_store.specs.Changing.{Always, HasBecome, LeavesStore}

@@ -5,14 +5,14 @@ use Rattle.std.specs.declared.alloc.AllocError.{AllocError}
 use Rattle.std.proofs.lemmas.Result.{err_from_is_err_and}
 use Rattle.rs_catalog.specs.Definitions.{Definitions}
 use Rattle.rs_catalog.specs.Referents.{at_number, referents_on}
-use Rattle.rs_contents.specs.declared.opened.OpenedFile.{OpenedFile}
+use Rattle.rs_change_laws.specs.Changing.{ChangesFile}
+use Rattle.rs_change_laws.specs.Parts.{MovesReferent}
+use Rattle.rs_file.specs.declared.opened.OpenedFile.{OpenedFile}
 use Rattle.rs_machine.specs.Step.{with_referents}
 use Rattle.rs_machine.specs.declared.limits.TheConstants.{CHANGES}
 use Rattle.rs_pager.specs.Maps.{KeepsChanges, working}
 use Rattle.rs_refusal.specs.Counts.{counted_on}
 use Rattle.rs_refusal.specs.declared.refusal.Refusal.{Refusal}
-use Rattle.rs_state_laws.specs.Changing.{ChangesFile}
-use Rattle.rs_state_laws.specs.Parts.{MovesReferent}
 use Rattle.rs_store.specs.Calls.{KeepsStore}
 use Rattle.rs_store.specs.Changing.{Always, LeavesStore}
 use Rattle.rs_store.specs.Kept.{StoreState}

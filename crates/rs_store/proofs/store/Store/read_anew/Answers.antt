@@ -1,8 +1,8 @@
 -- What is read is what was kept.
 use Rattle.std.proofs.Common.{◌≡◌, ◌∙◌, ℕ, Ok, Err, List, Bool, IsTrue, ap, refl, subst, sym}
 use Rattle.std.proofs.lemmas.Result.{err_from_is_err_and}
-use Rattle.rs_contents.specs.Contents.{Contents}
 use Rattle.rs_disk.specs.Content.{Content}
+use Rattle.rs_file.specs.Contents.{Contents}
 use Rattle.rs_machine.specs.State.{State}
 use Rattle.rs_page.specs.declared.file_header.TheConstants.{FLAG_OFFSET}
 use Rattle.rs_pager.specs.Maps.{KeepsChanges}

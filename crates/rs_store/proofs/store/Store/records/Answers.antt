@@ -1,8 +1,8 @@
 -- The living records of the table with the number, as what is open counts them.
 use Rattle.std.proofs.Common.{◌∙◌, List, ap, subst, sym}
 use Rattle.std.specs.Prelude.{count_by}
+use Rattle.rs_file_meaning.specs.Seen.{events_of}
 use Rattle.rs_pager.specs.Maps.{working}
-use Rattle.rs_standing.specs.Seen.{events_of}
 use Rattle.rs_versioned.specs.Events.{Event}
 use Rattle.rs_store.specs.Kept.{Keeps, StoreState}
 use Rattle.rs_store.specs.Reading.{lives, living_of}

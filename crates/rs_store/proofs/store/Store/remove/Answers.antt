@@ -3,16 +3,16 @@ use Rattle.std.proofs.Common.{◌≡◌, ◌≤◌, ◌<◌, ◌+◌, ◌∙◌,
 use Rattle.std.specs.FinMap as names
 use Rattle.std.proofs.lemmas.Result.{err_from_is_err_and}
 use Rattle.rs_catalog.specs.Definitions.{Definitions}
-use Rattle.rs_contents.specs.declared.opened.OpenedFile.{OpenedFile}
+use Rattle.rs_file.specs.declared.opened.OpenedFile.{OpenedFile}
 use Rattle.rs_spans.specs.Removal.{goes_by}
+use Rattle.rs_change_laws.specs.Changing.{ChangesFile}
+use Rattle.rs_change_laws.specs.Parts.{RemovesRows}
 use Rattle.rs_facts.specs.Remove.{removed_facts}
 use Rattle.rs_machine.specs.Step.{with_table, without_facts}
 use Rattle.rs_machine.specs.declared.limits.TheConstants.{CHANGES}
 use Rattle.rs_pager.specs.Maps.{KeepsChanges, working}
 use Rattle.rs_refusal.specs.Counts.{counted_on}
 use Rattle.rs_refusal.specs.declared.refusal.Refusal.{Refusal}
-use Rattle.rs_state_laws.specs.Changing.{ChangesFile}
-use Rattle.rs_state_laws.specs.Parts.{RemovesRows}
 use Rattle.rs_store.specs.Calls.{KeepsStore}
 use Rattle.rs_store.specs.Changing.{Always, HasBecome, LeavesStore}
 use Rattle.rs_store.specs.Kept.{StandsIn, StoreState}

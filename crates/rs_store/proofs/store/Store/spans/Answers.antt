@@ -1,13 +1,13 @@
 -- The spans of the table with the number, as they lie in the pages that the store keeps.
 use Rattle.std.proofs.Common.{◌∙◌, List, IfOk, ap, inl, map, refl, sym, subst}
 use Rattle.std.specs.FinMap as names
-use Rattle.rs_event_reads.specs.Read.{spans_in}
 use Rattle.rs_facts.specs.Spans.{seen}
 use Rattle.rs_facts.specs.declared.fact.Span.{Span}
+use Rattle.rs_file_meaning.specs.Seen.{events_of}
 use Rattle.rs_pager.specs.Maps.{IsTied, working}
-use Rattle.rs_standing.specs.Seen.{events_of}
 use Rattle.rs_store.specs.Kept.{Keeps, StoreState}
 use Rattle.rs_store.specs.Reading.{HasRead, ReadsStore}
+use Rattle.rs_table_reads.specs.Read.{spans_in}
 use Rattle.rs_store.proofs.Keeping.{store_over}
 use Rattle.rs_store.proofs.TableReads.{events_open, has_read, no_events, not_no_events, pages_open, reads_by_reading, rows_typed, spans_open}
 use Rattle.rs_store.proofs.store.Store.spans.Goals as goal

@@ -2,12 +2,12 @@
 use Rattle.std.proofs.Common.{◌≡◌, ◌∙◌, List, IfOk, ap, inl, map, sym, subst}
 use Rattle.std.specs.FinMap as names
 use Rattle.std.specs.Prelude.{MatchResult}
-use Rattle.rs_event_reads.specs.Found.{spans_with}
 use Rattle.rs_facts.specs.Spans.{seen}
 use Rattle.rs_facts.specs.declared.fact.Span.{Span}
+use Rattle.rs_file_meaning.specs.Seen.{events_of}
 use Rattle.rs_pager.specs.Maps.{IsTied, working}
 use Rattle.rs_pager.specs.Opened.{CountsFault}
-use Rattle.rs_standing.specs.Seen.{events_of}
+use Rattle.rs_table_reads.specs.Found.{spans_with}
 use Rattle.rs_value.specs.View.{literal_datum}
 use Rattle.rs_store.specs.Kept.{Keeps, StoreState}
 use Rattle.rs_store.specs.Reading.{GivesValue, HasReadIndex, ReadsStore}

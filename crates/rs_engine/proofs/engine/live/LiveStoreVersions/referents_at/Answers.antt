@@ -2,7 +2,7 @@
 use Rattle.std.proofs.Common.{◌≤◌, arith}
 use Rattle.std.proofs.lemmas.Result.{IfOk-weaker}
 use Rattle.rs_engine.proofs.Wanting.{shown_referents, wants_live}
-use Rattle.rs_store_reads.proofs.Passing.{shows_on}
+use Rattle.rs_store_source.proofs.Passing.{shows_on}
 use Rattle.rs_engine.proofs.engine.live.LiveStoreVersions.referents_at.Goals as goal
 
 pub returns-clause-shown : goal.returns-clause-shown

@@ -1,0 +1,36 @@
+use Rattle.rs_change_laws.proofs.OtherDefinitions.{view_gives, view_goes}
+use Rattle.rs_change_laws.proofs.definitions.view_listed_gives_its_state.Goals as goal
+
+pub returns-clause-defined : goal.returns-clause-defined
+returns-clause-defined c = λ from oldest pages file definitions held state stands upto below name item between new line changes lawful.
+    view_gives
+    (record {
+      one_state = c.contents_have_one_state.ensures.one;
+      next_spans = c.next_version_begins_as_the_present_one.ensures.spans;
+      next_referents = c.next_version_begins_as_the_present_one.ensures.referents;
+      next_meant = c.next_version_is_meant_as_the_present_one.ensures;
+      routes_meant = c.changed_definitions_leave_records_meant.ensures.routes;
+      routes_live = c.live_versions_see_the_same_beside_new_definitions.ensures.routes;
+      listed_meant = c.listed_definitions_of_a_lawful_catalogue_are_meant.ensures.meant;
+      listed_seen = c.listed_definitions_of_a_lawful_catalogue_are_meant.ensures.seen;
+      listed_back = c.definitions_of_a_file_list_its_items.ensures;
+      kept = c.definitions_of_a_file_are_a_catalogues.ensures;
+    })
+    c.state_has_one_other_definition_more_or_less.ensures.view_more from oldest pages file definitions held state stands below name item between new line changes lawful
+
+pub returns-clause-dropped : goal.returns-clause-dropped
+returns-clause-dropped c = λ from oldest pages file definitions held state stands upto below name item between there changes lawful.
+    view_goes
+    (record {
+      one_state = c.contents_have_one_state.ensures.one;
+      next_spans = c.next_version_begins_as_the_present_one.ensures.spans;
+      next_referents = c.next_version_begins_as_the_present_one.ensures.referents;
+      next_meant = c.next_version_is_meant_as_the_present_one.ensures;
+      routes_meant = c.changed_definitions_leave_records_meant.ensures.routes;
+      routes_live = c.live_versions_see_the_same_beside_new_definitions.ensures.routes;
+      listed_meant = c.listed_definitions_of_a_lawful_catalogue_are_meant.ensures.meant;
+      listed_seen = c.listed_definitions_of_a_lawful_catalogue_are_meant.ensures.seen;
+      listed_back = c.definitions_of_a_file_list_its_items.ensures;
+      kept = c.definitions_of_a_file_are_a_catalogues.ensures;
+    })
+    c.state_has_one_other_definition_more_or_less.ensures.view_less from oldest pages file definitions held state stands below name item between there changes lawful

@@ -1,6 +1,0 @@
--- Each part is one.
-use Rattle.rs_contents.proofs.One.{one_thing}
-use Rattle.rs_contents.proofs.laws.file_holds_one_thing.Goals as goal
-
-pub returns : goal.returns
-returns c = one_thing

@@ -1,5 +1,0 @@
-use Rattle.rs_standing.proofs.Changed.{meant_referents}
-use Rattle.rs_standing.proofs.changes.changed_referents_leave_all_else_meant.Goals as goal
-
-pub returns : goal.returns
-returns c = meant_referents

@@ -1,5 +1,0 @@
-use Rattle.rs_standing.proofs.SameWorld.{same_world}
-use Rattle.rs_standing.proofs.standing.same_contents_have_one_world.Goals as goal
-
-pub returns : goal.returns
-returns c = same_world

@@ -1,5 +1,0 @@
-use Rattle.rs_standing.proofs.SameWorld.{world_is}
-use Rattle.rs_standing.proofs.standing.state_has_the_world_of_its_version.Goals as goal
-
-pub returns : goal.returns
-returns c = world_is

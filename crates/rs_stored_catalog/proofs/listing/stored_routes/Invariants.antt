@@ -1,0 +1,10 @@
+use Rattle.std.proofs.Common.{◌≡◌, ◌++◌, map}
+use Rattle.std.specs.FinMap as names
+use Rattle.rs_catalog.specs.Names.{entries_by_bytes}
+use Rattle.rs_catalog_pages.specs.Said.{said_route}
+use Rattle.rs_stored_catalog.specs.Listing.{listed_route}
+use Rattle.rs_stored_catalog.proofs.listing.stored_routes.Given as goal
+
+-- what is listed so far, and what is still to come
+abbrev pub invariant-loop-name : goal.invariant-loop-name
+invariant-loop-name l = map said_route l.stored.items ++ map listed_route (entries_by_bytes (λ item. item) l.name-iterator) ≡ map listed_route (names.entries l.catalog.routes)

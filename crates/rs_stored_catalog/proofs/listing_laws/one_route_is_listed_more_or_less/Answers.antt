@@ -1,0 +1,8 @@
+use Rattle.rs_stored_catalog.proofs.ListedChanges.{route_less, route_more}
+use Rattle.rs_stored_catalog.proofs.listing_laws.one_route_is_listed_more_or_less.Goals as goal
+
+pub returns-clause-more : goal.returns-clause-more
+returns-clause-more c = route_more
+
+pub returns-clause-less : goal.returns-clause-less
+returns-clause-less c = route_less
