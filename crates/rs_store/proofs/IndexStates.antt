@@ -28,7 +28,7 @@ use Rattle.rs_pager.specs.Maps.{committed}
 use Rattle.rs_pages.specs.PageMap.{PageMap}
 use Rattle.rs_store.specs.Indexing.{ChangesListed}
 use Rattle.rs_store.specs.Kept.{StandsIn, StoreState}
-use Rattle.rs_store.specs.Rewriting.{CanBeKept, GoesOn}
+use Rattle.rs_store.specs.Rewriting.{CanBeKept}
 use Rattle.rs_stored_catalog.specs.Listing.{listing_of}
 use Rattle.rs_store.proofs.Redefined.{IsLineReadable, next_lives, stands_still}
 use Rattle.rs_store.proofs.Referred.{taken_again}
@@ -69,18 +69,18 @@ IndexDroppedGives = (from oldest : ℕ) (map : PageMap) (file : OpenedFile) (def
     → IsLawful (machine.without_index state name)
     → GivesState oldest stands.contents between (changes.without_index definitions name) held (machine.without_index state name)
 
-module _ {D : Type 0} (d : disk.Ghosts D) (store was : StoreState D) (goes : GoesOn d store was) where
+module _ {D : Type 0} (d : disk.Ghosts D) (was : StoreState D) where
   -- what other indexes give
   abbrev pub IndexesGive : Definitions → (State → State) → Type 0
-  IndexesGive now after = (from oldest : ℕ) (state : State) (stands : StandsIn d from store state) → from ≤ oldest → IsLawful (after state) → (part : Contents)
+  IndexesGive now after = (from oldest : ℕ) (state : State) (stands : StandsIn d from was state) → from ≤ oldest → IsLawful (after state) → (part : Contents)
       → ChangesListed (listing_of now) stands.contents part → GivesState oldest stands.contents part now was.referents (after state)
 
   -- a file can keep the definitions where the state with other indexes is lawful
   pub indexes_kept : (now : Definitions) (after : State → State) → IndexesGive now after → IsLineReadable → (place number : ℕ)
-      → slice_get (table_numbers (said_catalogue was.file.definitions)) place ≡ Some number → (from : ℕ) (state : State) → StandsIn d from store state
+      → slice_get (table_numbers (said_catalogue was.file.definitions)) place ≡ Some number → (from : ℕ) (state : State) → StandsIn d from was state
       → IsLawful (after state) → CanBeKept (listing_of now)
   indexes_kept now after gives readable place number placed from state stands lawful =
-      let at = goes.keeps.contents stands.contents stands.keeps in
+      let at = stands.keeps in
       let contents = stands.contents in
       let many = as_many (IsTable contents.directory contents.definitions.indexes) contents.definitions.tables contents.tables at.holds.said.tables in
       let numbered : slice_get (table_numbers contents.definitions) place ≡ Some number =
@@ -106,15 +106,15 @@ module _ {D : Type 0} (d : disk.Ghosts D) (store was : StoreState D) (goes : Goe
         };
       }))
 
-  pub index_gives : store.file.accepted < CHANGES → IndexDefinedGives → (name : Name) (item : catalog.IndexItem) (now : Definitions) → now ≡ changes.with_index was.catalog name item → AreDefinitions now
+  pub index_gives : was.file.accepted < CHANGES → IndexDefinedGives → (name : Name) (item : catalog.IndexItem) (now : Definitions) → now ≡ changes.with_index was.catalog name item → AreDefinitions now
       → has was.catalog.indexes name ≡ false → IndexesGive now (λ state. machine.with_index state name (indexed_column item))
   index_gives room law name item now is are new = λ from oldest state stands low lawful part changed.
       subst (λ (n : Definitions). GivesState oldest stands.contents part n was.referents (machine.with_index state name (indexed_column item))) (sym is)
-      (law from oldest (committed d was.pager) was.file was.catalog was.referents state (stands_still d store was goes from state stands) low (next_lives d store was goes from state stands room)
+      (law from oldest (committed d was.pager) was.file was.catalog was.referents state (stands_still d was from state stands) low (next_lives d was from state stands room)
       name item changed.place part (subst AreDefinitions is are) new (subst (λ (n : Definitions). ChangesIndexes changed.place (listing_of n) stands.contents part) is changed.changes) lawful)
 
-  pub index_goes : store.file.accepted < CHANGES → IndexDroppedGives → (name : Name) (item : catalog.IndexItem) → names.get was.catalog.indexes name ≡ Some item
+  pub index_goes : was.file.accepted < CHANGES → IndexDroppedGives → (name : Name) (item : catalog.IndexItem) → names.get was.catalog.indexes name ≡ Some item
       → IndexesGive (changes.without_index was.catalog name) (λ state. machine.without_index state name)
   index_goes room law name item there = λ from oldest state stands low lawful part changed.
-      law from oldest (committed d was.pager) was.file was.catalog was.referents state (stands_still d store was goes from state stands) low (next_lives d store was goes from state stands room)
+      law from oldest (committed d was.pager) was.file was.catalog was.referents state (stands_still d was from state stands) low (next_lives d was from state stands room)
       name item changed.place part there changed.changes lawful

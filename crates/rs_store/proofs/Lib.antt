@@ -1,5 +1,8 @@
+pub mod Begun
 pub mod Beside
 pub mod Brought
+pub mod Changed
+pub mod Erased
 pub mod Files
 pub mod Given
 pub mod HeldChanges
@@ -10,6 +13,7 @@ pub mod Listed
 pub mod Loaded
 pub mod Marks
 pub mod MayGo
+pub mod NoneDead
 pub mod Numbered
 pub mod OneState
 pub mod Placed

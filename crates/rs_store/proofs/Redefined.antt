@@ -17,23 +17,16 @@ use Rattle.rs_change_laws.specs.Standing.{StandsAt}
 use Rattle.rs_disk.specs.declared.disk.Disk as disk
 use Rattle.rs_facts.specs.Fact.{Name, Names}
 use Rattle.rs_file.specs.Contents.{Contents}
-use Rattle.rs_file.specs.declared.opened.OpenedFile.{OpenedFile}
 use Rattle.rs_file_meaning.specs.States.{HasLine, IsViewOf}
 use Rattle.rs_file_parts.specs.Calls.{ChangesDefinitions}
-use Rattle.rs_machine.specs.Lawful.{AreColumnsOfTable, AreViewsMeant, Each}
 use Rattle.rs_machine.specs.Request.{Asks, command}
 use Rattle.rs_machine.specs.State.{State, has}
 use Rattle.rs_machine.specs.declared.limits.TheConstants.{CHANGES}
 use Rattle.rs_machine_laws.specs.ViewLines.{IsReadable, shortest_view_line}
 use Rattle.rs_pager.specs.Maps.{committed}
-use Rattle.rs_pager.specs.Paged.{Paged}
-use Rattle.rs_refusal.specs.declared.refusal.Refusal.{Refusal}
-use Rattle.rs_store.specs.Changing.{HasBecome, LeavesStore}
-use Rattle.rs_store.specs.Kept.{IsAtRest, StandsIn, StoreState}
-use Rattle.rs_store.specs.Rewriting.{CanBeKept, GoesOn, Redefines, Rewrites, WhereKept}
+use Rattle.rs_store.specs.Kept.{StandsIn, StoreState}
+use Rattle.rs_store.specs.Rewriting.{CanBeKept}
 use Rattle.rs_stored_catalog.specs.Listing.{listing_of}
-use Rattle.rs_store.proofs.Keeping.{store_over}
-use Rattle.rs_store.proofs.Results.{err_always}
 use Rattle.rs_syntax.specs.QueryView.{query_tree}
 use Rattle.rs_syntax.specs.Tree.{QueryTree, define_view}
 
@@ -80,92 +73,33 @@ pub err_never : {T E : Type 0} (P : Type 0) (r : Result T E) → is_err r ≡ fa
 err_never P (Ok x) is = tt
 err_never P (Err e) is = absurd (false≢true (sym is))
 
-module _ {D : Type 0} (d : disk.Ghosts D) where
-  -- ---- the parts
-
-  -- what was written is in memory too, or went out of it again
-  pub redefines : (oldest : ℕ) (next : Definitions) (result : Result (Unit {0}) Refusal) (old new : Paged D) (was is : OpenedFile) (catalog now : Definitions)
-      → Rewrites d oldest (ChangesDefinitions (listing_of next)) (listing_of next) result old new was is → IsAtRest was catalog → Each next.tables (λ name table. AreColumnsOfTable table.columns)
-      → OnOk result (now ≡ next) → OnErr result (now ≡ catalog) → Redefines d oldest next result old new was is catalog now
-  redefines oldest next (Ok answer) old new was is catalog now rewrites rests columns made stays = record {
-    rewrites = rewrites;
-    made = made;
-    stays = tt;
-    rests = subst (λ (n : Definitions). IsAtRest is n) (sym made) (rewrites.rests catalog next rests refl columns);
-  }
-  redefines oldest next (Err why) old new was is catalog now rewrites rests columns made stays = record {
-    rewrites = rewrites;
-    made = tt;
-    stays = stays;
-    rests = subst (λ (n : Definitions). IsAtRest is n) (sym stays) (rewrites.rests catalog next rests refl columns);
+module _ {D : Type 0} (d : disk.Ghosts D) (was : StoreState D) where
+  -- a store that stands in a state has committed pages that stand for it
+  abbrev pub stands_still : (from : ℕ) (state : State) → StandsIn d from was state → StandsAt from (committed d was.pager) was.file was.catalog was.referents state
+  stands_still from state stands = record {
+    contents = stands.contents;
+    holds = stands.keeps.holds;
+    opened = stands.keeps.opened;
+    memory = stands.keeps.memory;
+    live = stands.live;
+    meant = stands.meant;
+    is = stands.is;
+    views = stands.views;
   }
 
-  -- ---- the store
+  -- the next version is one that a record can live to see
+  pub next_lives : (from : ℕ) (state : State) (stands : StandsIn d from was state) → was.file.accepted < CHANGES → stands.contents.directory.accepted + 1 < LIVING
+  next_lives from state stands room =
+      let level : stands.contents.directory.accepted ≡ was.file.accepted = stands.keeps.opened.accepted in omega (arith, level, room)
 
-  -- what one state allows another may ask for
-  pub left_where : {may other : State → Type 0} {T : Type 0} (result : Result T Refusal) (old new : StoreState D)
-      → ((from : ℕ) (state : State) → StandsIn d from old state → may state → other state) → LeavesStore d other result old new → LeavesStore d may result old new
-  left_where result old new allowed leaves = record {
-    stays = leaves.stays;
-    cause = leaves.cause;
-    sound = λ from state stands may. leaves.sound from state stands (allowed from state stands may);
-    catalog = leaves.catalog;
-    referents = leaves.referents;
-    opened = leaves.opened;
-    changes = leaves.changes;
-    accepted = leaves.accepted;
-    failures = leaves.failures;
-    full = leaves.full;
-    honesty = leaves.honesty;
-    limit = leaves.limit;
-  }
+  -- a state that allows other definitions of the same tables gives another
+  abbrev pub Gives : Definitions → (State → Type 0) → (State → State) → Type 0
+  Gives next may after = (from oldest : ℕ) (state : State) (stands : StandsIn d from was state) → from ≤ oldest → may state → (part : Contents)
+      → ChangesDefinitions (listing_of next) stands.contents part → GivesState oldest stands.contents part next was.referents (after state)
 
-  module _ (store was : StoreState D) (goes : GoesOn d store was) where
-    -- a store that goes on stands in the same state, in its committed pages
-    abbrev pub stands_still : (from : ℕ) (state : State) → StandsIn d from store state → StandsAt from (committed d was.pager) was.file was.catalog was.referents state
-    stands_still from state stands =
-        let at = goes.keeps.contents stands.contents stands.keeps in
-        record {
-          contents = stands.contents;
-          holds = at.holds;
-          opened = at.opened;
-          memory = at.memory;
-          live = stands.live;
-          meant = stands.meant;
-          is = stands.is;
-          views = stands.views;
-        }
-
-    -- the next version is one that a record can live to see
-    pub next_lives : (from : ℕ) (state : State) (stands : StandsIn d from store state) → store.file.accepted < CHANGES → stands.contents.directory.accepted + 1 < LIVING
-    next_lives from state stands room =
-        let level : stands.contents.directory.accepted ≡ store.file.accepted = stands.keeps.opened.accepted in omega (arith, level, room)
-
-    -- a state that allows the change gives another
-    abbrev pub Gives : Definitions → (State → Type 0) → (State → State) → Type 0
-    Gives next may after = (from oldest : ℕ) (state : State) (stands : StandsIn d from store state) → from ≤ oldest → may state → (part : Contents)
-        → ChangesDefinitions (listing_of next) stands.contents part → GivesState oldest stands.contents part next was.referents (after state)
-
-    module _ (last : Paged D) (settled : OpenedFile) (now next : Definitions) (oldest : ℕ) (result : Result (Unit {0}) Refusal)
-        (redefines : Redefines d oldest next result was.pager last was.file settled was.catalog now) (may : State → Type 0) (after : State → State) (gives : Gives next may after) where
-      -- what a store is left as in which definitions came or went
-      pub left_redefined : IsLineReadable → LeavesStore d may result store (store_over d last settled now was.referents was.is_marked)
-      left_redefined readable =
-          left_where {may = may} {other = WhereKept (listing_of next)} result store (store_over d last settled now was.referents was.is_marked)
-          (λ from state stands allowed. can_be_kept readable from stands.contents next was.referents (after state)
-          (gives from from state stands (omega arith) allowed (record stands.contents { definitions = listing_of next }) (record { definitions_are = refl; rest = refl })))
-          (redefines.rewrites.leaves store was.catalog now was.referents was.referents was.is_marked goes redefines.stays (err_always result refl))
-
-      become_so : (contents : Contents) (state : State) (r : Result (Unit {0}) Refusal) → OnOk r (now ≡ next)
-          → OnOk r (HasBecome d oldest contents (store_over d last settled next was.referents was.is_marked) state)
-          → OnOk r (HasBecome d oldest contents (store_over d last settled now was.referents was.is_marked) state)
-      become_so contents state (Ok answer) made become = subst (λ (n : Definitions). HasBecome d oldest contents (store_over d last settled n was.referents was.is_marked) state) (sym made) become
-      become_so contents state (Err why) made become = tt
-
-      -- and the state that it has become
-      pub become_redefined : (from : ℕ) (state : State) (stands : StandsIn d from store state) → from ≤ oldest → oldest ≤ store.file.accepted + 1 → may state → AreViewsMeant (after state)
-          → OnOk result (HasBecome d oldest stands.contents (store_over d last settled now was.referents was.is_marked) (after state))
-      become_redefined from state stands low high allowed views =
-          become_so stands.contents (after state) result redefines.made
-          (redefines.rewrites.becomes store was.catalog next was.referents was.referents was.is_marked goes from state (after state) stands low high
-          (λ part changes. gives from oldest state stands low allowed part changes) views)
+  -- so a file can keep them
+  pub given_kept : IsLineReadable → (next : Definitions) (may : State → Type 0) (after : State → State) → Gives next may after
+      → (from : ℕ) (state : State) → StandsIn d from was state → may state → CanBeKept (listing_of next)
+  given_kept readable next may after gives from state stands allowed =
+      can_be_kept readable from stands.contents next was.referents (after state)
+      (gives from from state stands (omega arith) allowed (record stands.contents { definitions = listing_of next }) (record { definitions_are = refl; rest = refl }))

@@ -26,7 +26,7 @@ use Rattle.rs_change_laws.specs.Clearing.{ClearsFile, HoldsFewer, LosesRecords, 
 use Rattle.rs_change_laws.specs.Standing.{StandsAt}
 use Rattle.rs_changes.specs.Calls.{MayChange}
 use Rattle.rs_refusal.specs.declared.refusal.Refusal.TheVariants as refusal
-use Rattle.rs_store.specs.Calls.{KeepsStore}
+use Rattle.rs_store.specs.Bracket.{BeginsChange}
 use Rattle.rs_store.specs.Changing.{Always}
 use Rattle.rs_store.specs.Kept.{IsAtRest, Keeps, StandsIn, StoreState}
 use Rattle.rs_store.specs.Releasing.{HasReleased, LeavesReleased}
@@ -34,7 +34,7 @@ use Rattle.rs_store.specs.Settling.{HasBegun, IsKept, Settles}
 use Rattle.rs_store.proofs.HeldChanges.{still_as_it_was, still_by_changes}
 use Rattle.rs_store.proofs.Keeping.{pages_back, store_over}
 use Rattle.rs_store.proofs.Same.{SameMeant, SameSays, SameState, meant_moves, same_accepted, state_moves}
-use Rattle.rs_store.proofs.Settled.{EventsStay, LiveByRecords, LiveJoined, ReferentsStay, clears_table, flag_stays, holds_same, left_refused, live_same, may_next, memory_same, parts_of, records_same, rests_refused, stands_at_first}
+use Rattle.rs_store.proofs.Settled.{EventsStay, LiveByRecords, LiveJoined, ReferentsStay, clears_table, flag_stays, holds_same, left_refused, live_same, may_next, memory_same, no_file_refuted, parts_of, records_same, rests_refused, stands_at_first}
 use Rattle.rs_versioned.specs.Referents.{ReferentRecord}
 
 -- what the law of a file from which records are cleared says
@@ -82,22 +82,24 @@ rests_released d (Err why) between last file changed settled catalog rests keeps
 
 module _ {D : Type 0} (d : disk.Ghosts D) where
   -- nothing was begun, since the disk failed
-  pub unreleased : {T : Type 0} (why : Refusal) (old new : StoreState D) → KeepsStore d old new → KeepsChanges old.pager new.pager → why ≡ refusal.Disk
-      → d.failures new.pager.disk ≡ counted_on (d.failures old.pager.disk) → LeavesReleased d {T = T} (Err why) old new
-  unreleased why old new keeps same is_disk counted = record {
-    stays = keeps.contents;
-    opened = still_as_it_was old.file new.file keeps.file;
-    changes = still_by_changes d old.pager new.pager same;
-    refused = inr (inl is_disk);
-    sound = λ from state stands is. let e : why ≡ refusal.DamagedFile = cc in absurd (cc (e, is_disk));
-    catalog = keeps.catalog;
-    referents = keeps.referents;
-    accepted = ap (λ (file : OpenedFile). file.accepted) keeps.file;
-    failures = record { disk = λ is. counted; other = λ isnt. absurd (isnt is_disk) };
-    full = omega (arith, keeps.full);
-    honesty = keeps.honesty;
-    limit = keeps.limit;
-  }
+  pub unreleased : {T : Type 0} (why : Refusal) (was : StoreState D) (first : Paged D) (is_marked : Bool) → BeginsChange d (Err why) was.pager first was.is_marked is_marked
+      → LeavesReleased d {T = T} (Err why) was (store_over d first was.file was.catalog was.referents is_marked)
+  unreleased why was first is_marked begins =
+      let keeps = begins.keeps was.file was.catalog was.referents in
+      record {
+        stays = keeps.contents;
+        opened = still_as_it_was was.file was.file refl;
+        changes = still_by_changes d was.pager first begins.unbegun;
+        refused = inr (inl begins.refused);
+        sound = λ from state stands is. let e : why ≡ refusal.DamagedFile = cc in absurd (cc (e, begins.refused));
+        catalog = refl;
+        referents = refl;
+        accepted = refl;
+        failures = record { disk = λ is. begins.count; other = λ isnt. absurd (isnt begins.refused) };
+        full = omega (arith, keeps.full);
+        honesty = keeps.honesty;
+        limit = keeps.limit;
+      }
 
   module _ (old : StoreState D) (first between last : Paged D) (file changed settled : OpenedFile) (catalog : Definitions) (referents : Numbered HeldReferents) (is_marked : Bool)
       (begun : HasBegun d old (store_over d first file catalog referents is_marked)) (below : KeepsBelow d first between) where
@@ -122,7 +124,9 @@ module _ {D : Type 0} (d : disk.Ghosts D) where
       limit = kept.commits.limit ∙ stores.counts.limit ∙ begun.keeps.limit;
     }
     left_released {T = T} (Err why) stores keeps whole room back =
-        let left = left_refused d old first between last file changed settled catalog referents is_marked begun below {may = Always} {T = T} why catalog referents stores keeps whole back refl (λ route. refl) in
+        let left = left_refused d old first between last file changed settled catalog referents is_marked begun below {may = Always} {T = T} why catalog referents stores
+        (λ from state stands allowed is none. no_file_refuted d old first between last file changed settled catalog referents is_marked begun below from state stands none)
+        keeps whole back refl (λ route. refl) in
         record {
           stays = left.stays;
           opened = left.opened;

@@ -1,128 +1,100 @@
--- A store whose definitions were written anew, or were refused.
-use Rattle.std.proofs.Common.{◌≡◌, ◌≤◌, ◌<◌, ◌+◌, ◌⊎◌, ◌∙◌, ℕ, Bool, Result, Ok, Err, ap, inl, inr, subst, sym, arith}
+-- Definitions that were written into a file, or were refused, over any pages.
+use Rattle.std.proofs.Common.{◌≡◌, ◌≤◌, ◌+◌, ◌⊎◌, ◌∙◌, Result, Ok, Err, ap, inl, inr, refl, sym, arith}
 use Rattle.std.specs.List.{AllByRecursion}
 use Rattle.std.specs.Prelude.{OnErr, OnOk}
-use Rattle.rs_catalog.specs.Definitions.{Definitions, Numbered}
-use Rattle.rs_catalog.specs.Referents.{HeldReferents, referents_on}
+use Rattle.rs_catalog.specs.Definitions.{Definitions}
 use Rattle.rs_catalog_pages.specs.Items.{CatalogueItems}
 use Rattle.rs_catalog_pages.specs.Said.{said_catalogue}
 use Rattle.rs_catalog_pages.specs.Storing.{StoresAfter}
 use Rattle.rs_catalog_pages.specs.declared.items.StoredCatalogue.{StoredCatalogue}
-use Rattle.rs_disk.specs.declared.disk.Disk as disk
+use Rattle.rs_change_laws.specs.Changing.{ChangesFile, HoldsNoFile}
+use Rattle.rs_changes.specs.Calls.{Changes, ComesNext, LeavesFile}
 use Rattle.rs_file.specs.Contents.{Contents}
 use Rattle.rs_file.specs.declared.opened.OpenedFile.{OpenedFile}
-use Rattle.rs_file_parts.specs.Parts.{IsCommitted, KeepsCommitted}
-use Rattle.rs_machine.specs.State.{State}
-use Rattle.rs_machine.specs.declared.limits.TheConstants.{CHANGES}
-use Rattle.rs_pager.specs.Maps.{IsTied, KeepsBelow, KeepsChanges, KeepsDiskMasked, KeepsMaps, pager_store, working}
-use Rattle.rs_pager.specs.Paged.{Paged}
-use Rattle.rs_refusal.specs.Counts.{counted_on}
+use Rattle.rs_file_parts.proofs.Ready.{keeps_none}
+use Rattle.rs_file_parts.specs.Parts.{KeepsCommitted}
+use Rattle.rs_pages.specs.Store.{Store}
+use Rattle.rs_pages.specs.declared.pages.Pages.{Ghosts}
 use Rattle.rs_refusal.specs.declared.refusal.Refusal.{Refusal}
-use Rattle.rs_change_laws.specs.Changing.{ChangesFile, HoldsNoFile}
-use Rattle.rs_changes.specs.Calls.{IsNext}
 use Rattle.rs_refusal.specs.declared.refusal.Refusal.TheVariants as refusal
-use Rattle.rs_store.specs.Changing.{LeavesStore}
-use Rattle.rs_store.specs.Kept.{StoreState}
-use Rattle.rs_store.specs.Rewriting.{GoesOn, Rewrites, WhereKept}
-use Rattle.rs_store.specs.Settling.{BeginsWith, HasBegun, Settles}
-use Rattle.rs_store.proofs.HeldChanges.{changes-trans, still_as_it_was, still_by_changes}
-use Rattle.rs_store.proofs.Keeping.{store_over}
-use Rattle.rs_store.proofs.Rows.{KeptGives, by_part}
-use Rattle.rs_store.proofs.Settled.{begins, begun_keeps, left_settled, left_unbegun, rests_made, rests_refused}
+use Rattle.rs_store.specs.Rewriting.{CanBeKept, IsNextWith, Redefines, Rewrites}
+use Rattle.rs_stored_catalog.specs.Listing.{listing_of}
 
--- why a change is refused before anything was begun
-abbrev pub IsUnmade : (State → Type 0) → Refusal → Type 0
-IsUnmade may why = (why ≡ refusal.OutOfMemory) ⊎ ((why ≡ refusal.DamagedFile) × ((state : State) → may state → ⊥))
+-- why definitions are refused before any page was changed
+abbrev pub IsUnmade : CatalogueItems → Refusal → Type 0
+IsUnmade items why = (why ≡ refusal.OutOfMemory) ⊎ ((why ≡ refusal.DamagedFile) × (CanBeKept items → ⊥))
 
-held_alike : (result : Result (Unit {0}) Refusal) (held referents : Numbered HeldReferents) → OnErr result (held ≡ referents)
-    → OnErr result ((route : ℕ) → referents_on held route ≡ referents_on referents route)
-held_alike (Ok answer) held referents same = tt
-held_alike (Err why) held referents same = λ route. ap (λ (r : Numbered HeldReferents). referents_on r route) same
+-- one cause of damage gives another
+stores_by : {T : Type 0} (one other : Type 0) (result : Result T Refusal) (a b : Store) → (one → other) → StoresAfter {T = T} one result a b → StoresAfter {T = T} other result a b
+stores_by one other (Ok answer) a b gives stores = record { counts = stores.counts; no_fewer = stores.no_fewer; ends = stores.ends }
+stores_by one other (Err why) a b gives stores = record {
+  counts = stores.counts;
+  no_fewer = stores.no_fewer;
+  ends = record {
+    cause = elim stores.ends.cause [
+      | inl memory ↦ inl memory
+      | inr (inl failed) ↦ inr (inl failed)
+      | inr (inr (inl full)) ↦ inr (inr (inl full))
+      | inr (inr (inr damaged)) ↦ inr (inr (inr (damaged.0, gives damaged.1)))
+    ];
+    count = stores.ends.count;
+  };
+}
 
-module _ {D : Type 0} (d : disk.Ghosts D) where
-  -- a store in which nothing was begun is as it was
-  pub left_unmade : {may : State → Type 0} {T : Type 0} (why : Refusal) (old new : StoreState D) → GoesOn d old new → IsUnmade may why → LeavesStore d may {T = T} (Err why) old new
-  left_unmade why old new goes unmade = record {
-    stays = goes.keeps.contents;
-    cause = elim unmade [ inl memory ↦ inl memory | inr damaged ↦ inr (inr (inr damaged.0)) ];
-    sound = λ from state stands allowed is.
-        let e : why ≡ refusal.DamagedFile = cc in
-        elim unmade [ inl memory ↦ absurd (cc (e, memory)) | inr damaged ↦ damaged.1 state allowed ];
-    catalog = goes.keeps.catalog;
-    referents = λ route. ap (λ (held : Numbered HeldReferents). referents_on held route) goes.keeps.referents;
-    opened = still_as_it_was old.file new.file goes.keeps.file;
-    changes = still_by_changes d old.pager new.pager goes.changes;
-    accepted = ap (λ (file : OpenedFile). file.accepted) goes.keeps.file;
-    failures = record {
+-- no page was changed
+stores_none : (items : CatalogueItems) (none : Type 0) (why : Refusal) (a : Store) → IsUnmade items why → StoresAfter {T = Unit {0}} (CanBeKept items → none) (Err why) a a
+stores_none items none why a unmade = record {
+  counts = record { limit = refl; begun = refl; full_refusals = omega arith };
+  no_fewer = omega arith;
+  ends = record {
+    cause = elim unmade [
+      | inl memory ↦ inl memory
+      | inr damaged ↦ inr (inr (inr (damaged.0, λ kept. absurd (damaged.1 kept))))
+    ];
+    count = record {
       disk = λ is. elim unmade [ inl memory ↦ absurd (cc (is, memory)) | inr damaged ↦ absurd (cc (is, damaged.0)) ];
-      other = λ isnt. goes.failures;
+      other = λ isnt. refl;
     };
-    full = record {
-      full = λ is. elim unmade [ inl memory ↦ absurd (cc (is, memory)) | inr damaged ↦ absurd (cc (is, damaged.0)) ];
-      other = λ isnt. omega (arith, goes.keeps.full);
-    };
-    honesty = goes.keeps.honesty;
-    limit = goes.keeps.limit;
+  };
+}
+
+next_with : (definitions : StoredCatalogue) (result : Result (Unit {0}) Refusal) (was is : OpenedFile) → AllByRecursion (λ route. route.born ≤ was.accepted + 1) (said_catalogue definitions).routes
+    → ComesNext definitions result was is → OnOk result (IsNextWith (said_catalogue definitions) was is)
+next_with definitions (Ok answer) was is births comes = record {
+  may = comes.next.may;
+  accepted = comes.next.accepted;
+  definitions_are = ap said_catalogue comes.next.definitions_are;
+  births = births;
+}
+next_with definitions (Err why) was is births comes = tt
+
+module _ {P : Type 0} (pages : Ghosts P) (oldest : _) (change : Contents → Contents → Type 0) where
+  -- what a call that changes a file says of these definitions
+  pub rewrites_by : (definitions : StoredCatalogue) (result : Result (Unit {0}) Refusal) (old new : P) (was is : OpenedFile)
+      → AllByRecursion (λ route. route.born ≤ was.accepted + 1) (said_catalogue definitions).routes → LeavesFile pages was result old new
+      → (pages.is_tied old → OnOk result (ChangesFile oldest (pages.store old).map (pages.store new).map was is change)) → ComesNext definitions result was is
+      → Rewrites pages.is_tied pages.store pages.keeps oldest change (said_catalogue definitions) result old new was is
+  rewrites_by definitions result old new was is births leaves changes comes = record {
+    below = leaves.keeps;
+    stores = stores_by (pages.is_tied old → HoldsNoFile (pages.store old).map was) (CanBeKept (said_catalogue definitions) → pages.is_tied old → HoldsNoFile (pages.store old).map was)
+        result (pages.store old) (pages.store new) (λ none kept. none) leaves.stores;
+    changes = changes;
+    next = next_with definitions result was is births comes;
+    stays = comes.stays;
   }
 
-  -- what a refusal makes of a store that was left as it was
-  rewrites_left : (oldest : ℕ) (change : Contents → Contents → Type 0) (items : CatalogueItems) (why : Refusal) (old new : Paged D) (was : OpenedFile)
-      → ((store : StoreState D) (catalog : Definitions) (referents : Numbered HeldReferents) (is_marked : Bool) → GoesOn d store (store_over d old was catalog referents is_marked)
-      → LeavesStore d (WhereKept items) {T = Unit {0}} (Err why) store (store_over d new was catalog referents is_marked))
-      → Rewrites d oldest change items (Err why) old new was was
-  rewrites_left oldest change items why old new was leaves = record {
-    leaves = λ store catalog now referents held is_marked goes same alike.
-        subst (λ (n : Definitions). LeavesStore d (WhereKept items) {T = Unit {0}} (Err why) store (store_over d new was n held is_marked)) (sym same)
-        (subst (λ (h : Numbered HeldReferents). LeavesStore d (WhereKept items) {T = Unit {0}} (Err why) store (store_over d new was catalog h is_marked)) (sym alike)
-        (leaves store catalog referents is_marked goes));
-    becomes = λ store catalog now referents held is_marked goes from state next stands low high gives views. tt;
-    rests = λ catalog now rests listing columns. rests;
+  -- no page was changed, for want of memory or since the definitions can't be kept
+  pub rewrites_unmade : (items : CatalogueItems) (why : Refusal) (old : P) (was : OpenedFile) → pages.keeps old old → IsUnmade items why
+      → Rewrites pages.is_tied pages.store pages.keeps oldest change items (Err why) old old was was
+  rewrites_unmade items why old was keeps unmade = record {
+    below = keeps;
+    stores = stores_none items (pages.is_tied old → HoldsNoFile (pages.store old).map was) why (pages.store old) unmade;
+    changes = λ tied. tt;
+    next = tt;
+    stays = keeps_none was;
   }
 
-  -- nothing was begun, for want of memory or since the definitions can't be kept
-  pub rewrites_unmade : (oldest : ℕ) (change : Contents → Contents → Type 0) (items : CatalogueItems) (why : Refusal) (old : Paged D) (was : OpenedFile)
-      → IsUnmade (WhereKept items) why → Rewrites d oldest change items (Err why) old old was was
-  rewrites_unmade oldest change items why old was unmade = rewrites_left oldest change items why old old was
-      (λ store catalog referents is_marked goes. left_unmade why store (store_over d old was catalog referents is_marked) goes unmade)
-
-  -- nor was anything begun where the disk failed
-  pub rewrites_unbegun : (oldest : ℕ) (change : Contents → Contents → Type 0) (items : CatalogueItems) (why : Refusal) (old new : Paged D) (was : OpenedFile)
-      → KeepsMaps d old new → KeepsDiskMasked d old new → KeepsChanges old new → why ≡ refusal.Disk → d.failures new.disk ≡ counted_on (d.failures old.disk)
-      → Rewrites d oldest change items (Err why) old new was was
-  rewrites_unbegun oldest change items why old new was maps masked same is_disk counted = rewrites_left oldest change items why old new was
-      (λ store catalog referents is_marked goes.
-      left_unbegun d why store (store_over d new was catalog referents is_marked) (begun_keeps d store old new was catalog referents is_marked goes.keeps maps masked)
-      (changes-trans store.pager old new goes.changes same) is_disk
-      (counted ∙ ap counted_on goes.failures))
-
-  module _ (old first between last : Paged D) (file changed settled : OpenedFile) (maps : KeepsMaps d old first) (masked : KeepsDiskMasked d old first)
-      (unfailed : d.failures first.disk ≡ d.failures old.disk) (holding : BeginsWith d old first) (below : KeepsBelow d first between) (kept_gives : KeptGives d) (oldest : ℕ) (change : Contents → Contents → Type 0)
-      (definitions : StoredCatalogue) (room : file.accepted < CHANGES) (whole : IsCommitted file)
-      (births : AllByRecursion (λ route. route.born ≤ file.accepted + 1) (said_catalogue definitions).routes) where
-    begun : (store : StoreState D) (catalog : Definitions) (referents : Numbered HeldReferents) (is_marked : Bool) → GoesOn d store (store_over d old file catalog referents is_marked)
-        → HasBegun d store (store_over d first file catalog referents is_marked)
-    begun store catalog referents is_marked goes = begins d store old first file catalog referents is_marked goes.keeps maps masked goes.failures unfailed goes.changes holding
-
-    -- a change that was begun, and then kept or taken back
-    pub rewrites_settled : (result : Result (Unit {0}) Refusal) → StoresAfter {T = Unit {0}} (IsTied d first → HoldsNoFile (working d first) file) result (pager_store d first) (pager_store d between)
-        → OnOk result (IsNext definitions file changed) → OnErr result (KeepsCommitted file changed)
-        → (IsTied d first → OnOk result (ChangesFile oldest (working d first) (working d between) file changed change))
-        → Settles d result between last changed settled → Rewrites d oldest change (said_catalogue definitions) result old last file settled
-    rewrites_settled (Ok answer) stores next keeps changes settles = record {
-      leaves = λ store catalog now referents held is_marked goes same alike.
-          left_settled d store first between last file changed settled catalog referents is_marked (begun store catalog referents is_marked goes) below
-          (Ok answer) definitions now held stores next keeps whole settles same (held_alike (Ok answer) held referents alike);
-      becomes = λ store catalog now referents held is_marked goes from state next stands low high gives views.
-          let is = begun store catalog referents is_marked goes in
-          by_part d store first between last file changed settled catalog referents is_marked is below kept_gives from oldest state stands low high
-          (subst (λ (f : OpenedFile). f.accepted < CHANGES) goes.keeps.file room) now held next change
-          (changes (is.keeps.contents stands.contents stands.keeps).tied) gives views settles;
-      rests = λ catalog now rests listing columns. rests_made file changed settled definitions now room next settles.file listing births columns;
-    }
-    rewrites_settled (Err why) stores next keeps changes settles = record {
-      leaves = λ store catalog now referents held is_marked goes same alike.
-          left_settled d store first between last file changed settled catalog referents is_marked (begun store catalog referents is_marked goes) below
-          (Err why) definitions now held stores next keeps whole settles same (held_alike (Err why) held referents alike);
-      becomes = λ store catalog now referents held is_marked goes from state next stands low high gives views. tt;
-      rests = λ catalog now rests listing columns. rests_refused file changed settled catalog rests keeps settles.file;
-    }
+  -- the catalogue in memory is as it was
+  pub redefines_none : (next : Definitions) (why : Refusal) (old : P) (was : OpenedFile) (catalog now : Definitions) → pages.keeps old old → IsUnmade (listing_of next) why → now ≡ catalog
+      → Redefines pages.is_tied pages.store pages.keeps oldest change next (Err why) old old was was catalog now
+  redefines_none next why old was catalog now keeps unmade back = record { rewrites = rewrites_unmade (listing_of next) why old was keeps unmade; made = tt; back = back }

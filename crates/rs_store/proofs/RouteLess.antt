@@ -35,7 +35,7 @@ use Rattle.rs_change_laws.specs.Parts.{DropsRoute}
 use Rattle.rs_change_laws.specs.Standing.{StandsAt}
 use Rattle.rs_file_meaning.proofs.Picked.{beside}
 use Rattle.rs_store.specs.Kept.{StandsIn, StoreState}
-use Rattle.rs_store.specs.Rewriting.{CanBeKept, GoesOn}
+use Rattle.rs_store.specs.Rewriting.{CanBeKept}
 use Rattle.rs_store.specs.Routing.{HasNoFactOn}
 use Rattle.rs_store.proofs.Placed.{entry_there}
 use Rattle.rs_store.proofs.Redefined.{IsLineReadable, next_lives, stands_still, texts_short}
@@ -67,7 +67,7 @@ LawfulIsMeant = (definitions : Definitions) → AreLawful definitions → AreMea
 no_spans_nowhere : places_of [] ≡ no_places
 no_spans_nowhere = fun_ext (λ k. refl)
 
-module _ {D : Type 0} (d : disk.Ghosts D) (store was : StoreState D) (goes : GoesOn d store was) (room : store.file.accepted < CHANGES) (state_is : StateIs d)
+module _ {D : Type 0} (d : disk.Ghosts D) (was : StoreState D) (room : was.file.accepted < CHANGES) (state_is : StateIs d)
     (name : Name) (item : RouteItem) (are : AreDefinitions was.catalog) (there : names.get was.catalog.routes name ≡ Some item) (unused : some_piece_on was.catalog name ≡ false) where
   abbrev next : Definitions
   next = changes.without_route was.catalog name
@@ -75,23 +75,23 @@ module _ {D : Type 0} (d : disk.Ghosts D) (store was : StoreState D) (goes : Goe
   abbrev pub may : State → Type 0
   may state = HasNoFactOn name state × IsLawful (machine.without_route state name)
 
-  none_seen : (from : ℕ) (state : State) (stands : StandsIn d from store state) → may state → (table : ℕ) → spans_seen stands.contents stands.contents.directory.accepted table item.number ≡ []
+  none_seen : (from : ℕ) (state : State) (stands : StandsIn d from was state) → may state → (table : ℕ) → spans_seen stands.contents stands.contents.directory.accepted table item.number ≡ []
   none_seen from state stands allowed =
-      no_spans d state_is from store state stands name item (ap (λ (k : Definitions). names.get k.routes name) (sym goes.keeps.catalog) ∙ there) allowed.0
+      no_spans d state_is from was state stands name item there allowed.0
 
   pub less_gives : DroppedGives → (kept : Numbered HeldReferents) → referents_on kept ≡ at_number item.number names.empty (referents_on was.referents)
-      → (from oldest : ℕ) (state : State) (stands : StandsIn d from store state) → oldest ≡ store.file.accepted + 1 → may state → (part : Contents)
+      → (from oldest : ℕ) (state : State) (stands : StandsIn d from was state) → oldest ≡ was.file.accepted + 1 → may state → (part : Contents)
       → DropsRoute item.number (listing_of next) stands.contents part → GivesState oldest stands.contents part next kept (machine.without_route state name)
   less_gives law kept ended from oldest state stands past allowed part drops =
-      let level : stands.contents.directory.accepted ≡ store.file.accepted = stands.keeps.opened.accepted in
-      let lives : stands.contents.directory.accepted + 1 < LIVING = next_lives d store was goes from state stands room in
-      law from oldest (committed d was.pager) was.file was.catalog was.referents kept state (stands_still d store was goes from state stands)
+      let level : stands.contents.directory.accepted ≡ was.file.accepted = stands.keeps.opened.accepted in
+      let lives : stands.contents.directory.accepted + 1 < LIVING = next_lives d was from state stands room in
+      law from oldest (committed d was.pager) was.file was.catalog was.referents kept state (stands_still d was from state stands)
       (omega (arith, past, level)) (omega (arith, past, level, lives)) name item part (are_definitions-without_route was.catalog name are unused) there unused
       (none_seen from state stands allowed) ended drops allowed.1
 
-  module _ (less : StateLess) (lawful_meant : LawfulIsMeant) (listing : listing_of was.catalog ≡ said_catalogue was.file.definitions) (from : ℕ) (state : State) (stands : StandsIn d from store state) where
+  module _ (less : StateLess) (lawful_meant : LawfulIsMeant) (listing : listing_of was.catalog ≡ said_catalogue was.file.definitions) (from : ℕ) (state : State) (stands : StandsIn d from was state) where
     abbrev at : StandsAt from (committed d was.pager) was.file was.catalog was.referents state
-    at = stands_still d store was goes from state stands
+    at = stands_still d was from state stands
 
     lines : Each was.catalog.views (λ name item. HasLine name (query_tree item.query) item.text)
     lines name item one =
@@ -101,20 +101,20 @@ module _ {D : Type 0} (d : disk.Ghosts D) (store was : StoreState D) (goes : Goe
 
     lawful_next : may state → AreLawful next
     lawful_next allowed =
-        let accepted = store.file.accepted in
+        let accepted = was.file.accepted in
         let level : stands.contents.directory.accepted ≡ accepted = stands.keeps.opened.accepted in
         let spans = spans_seen stands.contents accepted in
         let rest : Rest = record { changes = accepted; cursors = no_cursors } in
-        let was_state : state ≡ state_from was.catalog (λ (route : ℕ). referents_on store.referents route) spans rest =
-        state_is from store state stands ∙ ap (λ (k : Definitions). state_from k (λ (route : ℕ). referents_on store.referents route) spans rest) (sym goes.keeps.catalog) in
+        let was_state : state ≡ state_from was.catalog (λ (route : ℕ). referents_on was.referents route) spans rest =
+        state_is from was state stands in
         record {
           are = are_definitions-without_route was.catalog name are unused;
-          referents = at_number item.number names.empty (λ (route : ℕ). referents_on store.referents route);
+          referents = at_number item.number names.empty (λ (route : ℕ). referents_on was.referents route);
           spans = spans;
           rest = one_more rest;
           lawful = subst IsLawful
               (ap (λ (s : State). machine.without_route s name) was_state
-              ∙ sym (less was.catalog name item (λ (route : ℕ). referents_on store.referents route) spans rest are there
+              ∙ sym (less was.catalog name item (λ (route : ℕ). referents_on was.referents route) spans rest are there
               (λ table. ap (λ (v : ℕ). places_of (spans_seen stands.contents v table item.number)) (sym level) ∙ ap places_of (none_seen from state stands allowed table) ∙ no_spans_nowhere)))
               allowed.1;
           lines = lines;

@@ -11,33 +11,13 @@ use Rattle.rs_catalog.proofs.MapLaws.{none_some, same_name-true}
 use Rattle.rs_catalog.proofs.Names.{each_entry, get-map_values}
 use Rattle.rs_catalog_pages.specs.Items as items
 use Rattle.rs_catalog_pages.specs.Items.{CatalogueItems}
-use Rattle.rs_change_laws.specs.Parts.{DropsRoute}
-use Rattle.rs_disk.specs.declared.disk.Disk as disk
 use Rattle.rs_facts.specs.Fact.{Name}
 use Rattle.rs_facts.specs.Insert.{same_name}
 use Rattle.rs_facts.specs.Query.{Piece, RouteEnds}
 use Rattle.rs_facts.specs.WellFormed.{ArePiecesOn}
-use Rattle.rs_file.specs.declared.opened.OpenedFile.{OpenedFile}
-use Rattle.rs_machine.specs.Lawful.{AreColumnsOfTable, Each}
 use Rattle.rs_machine.specs.Opening.{piece_on}
 use Rattle.rs_machine.specs.State.{has}
-use Rattle.rs_pager.specs.Paged.{Paged}
-use Rattle.rs_refusal.specs.declared.refusal.Refusal.{Refusal}
-use Rattle.rs_store.specs.Kept.{IsAtRest}
-use Rattle.rs_store.specs.Rewriting.{Rewrites}
-use Rattle.rs_store.specs.Routing.{ErasesRoute}
-use Rattle.rs_stored_catalog.specs.Listing.{listing_of}
 use Rattle.rs_stored_catalog.specs.Relisting.{HasRouteMore}
-
--- ---- answers
-
-pub ok_by : {T E P Q : Type 0} (r : Result T E) → (P → Q) → OnOk r P → OnOk r Q
-ok_by (Ok x) gives is = gives is
-ok_by (Err e) gives is = tt
-
-pub err_by : {T E P Q : Type 0} (r : Result T E) → (P → Q) → OnErr r P → OnErr r Q
-err_by (Ok x) gives is = tt
-err_by (Err e) gives is = gives is
 
 -- ---- births
 
@@ -70,25 +50,6 @@ births_less route old now accepted more births =
     subst (AllByRecursion (λ (r : items.RouteItem). r.born ≤ accepted + 1)) (sym more.routes.was)
     (all_without_one (λ (r : items.RouteItem). r.born ≤ accepted) (λ (r : items.RouteItem). r.born ≤ accepted + 1) (λ r early. omega (arith, early)) more.routes.before more.routes.after route
     (subst (AllByRecursion (λ (r : items.RouteItem). r.born ≤ accepted)) more.routes.is births))
-
--- ---- a route that goes from the file and from memory
-
-module _ {D : Type 0} (d : disk.Ghosts D) where
-  pub erases : (oldest number : ℕ) (next : Definitions) (result : Result (Unit {0}) Refusal) (old new : Paged D) (was is : OpenedFile) (catalog now : Definitions)
-      → Rewrites d oldest (DropsRoute number (listing_of next)) (listing_of next) result old new was is → IsAtRest was catalog → Each next.tables (λ name table. AreColumnsOfTable table.columns)
-      → OnOk result (now ≡ next) → OnErr result (now ≡ catalog) → ErasesRoute d oldest number next result old new was is catalog now
-  erases oldest number next (Ok answer) old new was is catalog now rewrites rests columns made stays = record {
-    rewrites = rewrites;
-    made = made;
-    stays = tt;
-    rests = subst (λ (n : Definitions). IsAtRest is n) (sym made) (rewrites.rests catalog next rests refl columns);
-  }
-  erases oldest number next (Err why) old new was is catalog now rewrites rests columns made stays = record {
-    rewrites = rewrites;
-    made = tt;
-    stays = stays;
-    rests = subst (λ (n : Definitions). IsAtRest is n) (sym stays) (rewrites.rests catalog next rests refl columns);
-  }
 
 -- ---- pieces
 

@@ -31,7 +31,7 @@ use Rattle.rs_machine.specs.Lawful.{AreColumnsOfTable, AreViewsMeant, Each}
 use Rattle.rs_machine.specs.State.{State}
 use Rattle.rs_machine.specs.declared.limits.TheConstants.{CHANGES}
 use Rattle.rs_page.specs.declared.file_header.TheConstants.{FLAG_OFFSET}
-use Rattle.rs_pager.specs.Maps.{IsTied, KeepsBelow, KeepsChanges, KeepsDiskMasked, KeepsMaps, committed, pager_store, working}
+use Rattle.rs_pager.specs.Maps.{IsTied, KeepsBelow, committed, pager_store, working}
 use Rattle.rs_pager.specs.Paged.{Paged}
 use Rattle.rs_pages.specs.PageMap.{PageMap, SamePages}
 use Rattle.rs_pages.proofs.Stores.{SamePages-trans}
@@ -43,12 +43,12 @@ use Rattle.rs_changes.specs.Calls.{IsNext, MayChange}
 use Rattle.rs_file_meaning.specs.Live.{KeepsEvents, KeepsLive, KeepsRecords, KeepsReferents}
 use Rattle.rs_file_meaning.specs.States.{AreDefinitionsAt}
 use Rattle.rs_refusal.specs.declared.refusal.Refusal.TheVariants as refusal
-use Rattle.rs_store.specs.Calls.{KeepsStore}
+use Rattle.rs_store.specs.Bracket.{BeginsChange, ComesToRest}
 use Rattle.rs_store.specs.Changing.{HasBecome, LeavesStore}
 use Rattle.rs_store.specs.Kept.{IsAtRest, Keeps, StandsIn, StoreState}
 use Rattle.rs_store.specs.Settling.{BeginsWith, HasBegun, IsFileKept, IsFileTakenBack, IsKept, IsTakenBack, Settles}
-use Rattle.rs_store.proofs.HeldChanges.{begins_after, still_as_it_was, still_by_changes, still_taken_back}
-use Rattle.rs_store.proofs.Keeping.{flag_of, keeps_by_maps, keeps_store-trans, pages_back, store_over}
+use Rattle.rs_store.proofs.HeldChanges.{still_as_it_was, still_by_changes, still_taken_back}
+use Rattle.rs_store.proofs.Keeping.{flag_of, pages_back, store_over}
 use Rattle.rs_store.proofs.Same.{SameMeant, SameSays, SameState, meant_moves, same_accepted, state_moves}
 use Rattle.rs_value.specs.declared.column.ColumnType.{ColumnType}
 use Rattle.rs_versioned.specs.Events.{Event, event_width, kept_events}
@@ -212,40 +212,34 @@ as_it_was was is contents same opened =
 -- ---- a store whose changes were begun
 
 module _ {D : Type 0} (d : disk.Ghosts D) where
-  pub begun_keeps : (old : StoreState D) (was now : Paged D) (file : OpenedFile) (catalog : Definitions) (referents : Numbered HeldReferents) (is_marked : Bool)
-      → KeepsStore d old (store_over d was file catalog referents is_marked) → KeepsMaps d was now → KeepsDiskMasked d was now
-      → KeepsStore d old (store_over d now file catalog referents is_marked)
-  begun_keeps old was now file catalog referents is_marked keeps maps masked =
-      keeps_store-trans d old (store_over d was file catalog referents is_marked) (store_over d now file catalog referents is_marked) keeps
-      (keeps_by_maps d was now file catalog referents is_marked is_marked maps (λ tied before is. (masked tied.honest).bytes FLAG_OFFSET refl ∙ before is))
-
-  pub begins : (old : StoreState D) (was now : Paged D) (file : OpenedFile) (catalog : Definitions) (referents : Numbered HeldReferents) (is_marked : Bool)
-      → KeepsStore d old (store_over d was file catalog referents is_marked) → KeepsMaps d was now → KeepsDiskMasked d was now
-      → d.failures was.disk ≡ d.failures old.pager.disk → d.failures now.disk ≡ d.failures was.disk → KeepsChanges old.pager was → BeginsWith d was now
-      → HasBegun d old (store_over d now file catalog referents is_marked)
-  begins old was now file catalog referents is_marked keeps maps masked first second same begun = record {
-    keeps = begun_keeps old was now file catalog referents is_marked keeps maps masked;
-    begins = begins_after d old.pager was now same begun;
-    failures = second ∙ first;
+  -- changes that were begun, over what was open and in memory
+  pub has_begun : (was : StoreState D) (first : Paged D) (is_marked : Bool) → BeginsChange d (Ok tt) was.pager first was.is_marked is_marked
+      → HasBegun d was (store_over d first was.file was.catalog was.referents is_marked)
+  has_begun was first is_marked begins = record {
+    keeps = begins.keeps was.file was.catalog was.referents;
+    begins = begins.begins;
+    failures = begins.count;
   }
 
   -- no change was begun, since the disk failed
-  pub left_unbegun : {may : State → Type 0} {T : Type 0} (why : Refusal) (old new : StoreState D) → KeepsStore d old new → KeepsChanges old.pager new.pager → why ≡ refusal.Disk
-      → d.failures new.pager.disk ≡ counted_on (d.failures old.pager.disk) → LeavesStore d may {T = T} (Err why) old new
-  left_unbegun why old new keeps same is_disk counted = record {
-    stays = keeps.contents;
-    cause = inr (inl is_disk);
-    sound = λ from state stands allowed is. let e : why ≡ refusal.DamagedFile = cc in absurd (cc (e, is_disk));
-    catalog = keeps.catalog;
-    referents = λ route. ap (λ (held : Numbered HeldReferents). referents_on held route) keeps.referents;
-    opened = still_as_it_was old.file new.file keeps.file;
-    changes = still_by_changes d old.pager new.pager same;
-    accepted = ap (λ (file : OpenedFile). file.accepted) keeps.file;
-    failures = record { disk = λ is. counted; other = λ isnt. absurd (isnt is_disk) };
-    full = record { full = λ is. absurd (cc (is, is_disk)); other = λ isnt. omega (arith, keeps.full) };
-    honesty = keeps.honesty;
-    limit = keeps.limit;
-  }
+  pub left_unbegun : {may : State → Type 0} {T : Type 0} (why : Refusal) (was : StoreState D) (first : Paged D) (is_marked : Bool)
+      → BeginsChange d (Err why) was.pager first was.is_marked is_marked → LeavesStore d may {T = T} (Err why) was (store_over d first was.file was.catalog was.referents is_marked)
+  left_unbegun why was first is_marked begins =
+      let keeps = begins.keeps was.file was.catalog was.referents in
+      record {
+        stays = keeps.contents;
+        cause = inr (inl begins.refused);
+        sound = λ from state stands allowed is. let e : why ≡ refusal.DamagedFile = cc in absurd (cc (e, begins.refused));
+        catalog = refl;
+        referents = λ route. refl;
+        opened = still_as_it_was was.file was.file refl;
+        changes = still_by_changes d was.pager first begins.unbegun;
+        accepted = refl;
+        failures = record { disk = λ is. begins.count; other = λ isnt. absurd (isnt begins.refused) };
+        full = record { full = λ is. absurd (cc (is, begins.refused)); other = λ isnt. omega (arith, keeps.full) };
+        honesty = keeps.honesty;
+        limit = keeps.limit;
+      }
 
   module _ (old : StoreState D) (first between last : Paged D) (file changed settled : OpenedFile) (catalog : Definitions) (referents : Numbered HeldReferents) (is_marked : Bool)
       (begun : HasBegun d old (store_over d first file catalog referents is_marked)) (below : KeepsBelow d first between) where
@@ -281,12 +275,19 @@ module _ {D : Type 0} (d : disk.Ghosts D) where
           marked = flag_stays contents kept back.abandons.disk;
         }
 
+    -- a store that stands in a state has begun its changes in pages that hold a file
+    pub no_file_refuted : (from : ℕ) (state : State) → StandsIn d from old state → (IsTied d first → HoldsNoFile (working d first) file) → ⊥
+    no_file_refuted from state stands none =
+        let at = begun.keeps.contents stands.contents stands.keeps in
+        (none at.tied).none stands.contents (at_first stands.contents stands.keeps) at.opened
+
     -- A refused change leaves the store as it was, where the same is in memory.
-    pub left_refused : {may : State → Type 0} {T : Type 0} (why : Refusal) (now : Definitions) (held : Numbered HeldReferents)
-        → StoresAfter {T = T} (IsTied d first → HoldsNoFile (working d first) file) (Err why) (pager_store d first) (pager_store d between)
+    pub left_refused : {may : State → Type 0} {T damaged : Type 0} (why : Refusal) (now : Definitions) (held : Numbered HeldReferents)
+        → StoresAfter {T = T} damaged (Err why) (pager_store d first) (pager_store d between)
+        → ((from : ℕ) (state : State) → StandsIn d from old state → may state → why ≡ refusal.DamagedFile → damaged → ⊥)
         → KeepsCommitted file changed → IsCommitted file → IsTakenBack d between last changed settled
         → now ≡ catalog → ((route : ℕ) → referents_on held route ≡ referents_on referents route) → LeavesStore d may {T = T} (Err why) old (after now held)
-    left_refused why now held stores keeps whole back same alike =
+    left_refused why now held stores refutes keeps whole back same alike =
         let restored = back.file.back file whole keeps in
         let fewer : first.full_refusals ≤ between.full_refusals = stores.counts.full_refusals in
         record {
@@ -303,9 +304,7 @@ module _ {D : Type 0} (d : disk.Ghosts D) where
                 | inl m ↦ absurd (cc (e, m))
                 | inr (inl m) ↦ absurd (cc (e, m))
                 | inr (inr (inl m)) ↦ absurd (cc (e, m.0))
-                | inr (inr (inr m)) ↦
-                    let at = begun.keeps.contents stands.contents stands.keeps in
-                    (m.1 at.tied).none stands.contents (at_first stands.contents stands.keeps) at.opened
+                | inr (inr (inr m)) ↦ refutes from state stands allowed e m.1
               ];
           catalog = same ∙ begun.keeps.catalog;
           referents = λ route. alike route ∙ ap (λ (r : Numbered HeldReferents). referents_on r route) begun.keeps.referents;
@@ -330,8 +329,8 @@ module _ {D : Type 0} (d : disk.Ghosts D) where
         }
 
     -- a change that was made counts one version more, and no refusal
-    pub left_made : {may : State → Type 0} {T : Type 0} (answer : T) (now : Definitions) (held : Numbered HeldReferents)
-        → StoresAfter {T = T} (IsTied d first → HoldsNoFile (working d first) file) (Ok answer) (pager_store d first) (pager_store d between)
+    pub left_made : {may : State → Type 0} {T damaged : Type 0} (answer : T) (now : Definitions) (held : Numbered HeldReferents)
+        → StoresAfter {T = T} damaged (Ok answer) (pager_store d first) (pager_store d between)
         → changed.accepted ≡ file.accepted + 1 → IsKept d between last changed settled → LeavesStore d may {T = T} (Ok answer) old (after now held)
     left_made answer now held stores next kept = record {
       stays = λ contents keeps. tt;
@@ -348,13 +347,14 @@ module _ {D : Type 0} (d : disk.Ghosts D) where
       limit = kept.commits.limit ∙ stores.counts.limit ∙ begun.keeps.limit;
     }
 
-    -- what a change leaves, made or refused
-    pub left_settled : {may : State → Type 0} {T : Type 0} (result : Result T Refusal) (definitions : StoredCatalogue) (now : Definitions) (held : Numbered HeldReferents)
+    -- what a change of records leaves, made or refused
+    pub left_settled : {may : State → Type 0} {T : Type 0} (result : Result T Refusal) (definitions : StoredCatalogue) (held : Numbered HeldReferents)
         → StoresAfter {T = T} (IsTied d first → HoldsNoFile (working d first) file) result (pager_store d first) (pager_store d between)
         → OnOk result (IsNext definitions file changed) → OnErr result (KeepsCommitted file changed) → IsCommitted file → Settles d result between last changed settled
-        → OnErr result (now ≡ catalog) → OnErr result ((route : ℕ) → referents_on held route ≡ referents_on referents route) → LeavesStore d may result old (after now held)
-    left_settled (Ok answer) definitions now held stores next keeps whole settles same alike = left_made answer now held stores next.accepted settles
-    left_settled (Err why) definitions now held stores next keeps whole settles same alike = left_refused why now held stores keeps whole settles same alike
+        → OnErr result ((route : ℕ) → referents_on held route ≡ referents_on referents route) → LeavesStore d may result old (after catalog held)
+    left_settled (Ok answer) definitions held stores next keeps whole settles alike = left_made answer catalog held stores next.accepted settles
+    left_settled (Err why) definitions held stores next keeps whole settles alike =
+        left_refused why catalog held stores (λ from state stands allowed is none. no_file_refuted from state stands none) keeps whole settles refl alike
 
     -- ---- the state of the next version
 
@@ -480,27 +480,37 @@ births_listed file catalog rests =
     born_later file.accepted (file.accepted + 1) (listing_of catalog).routes (omega arith)
     (subst (λ (items : CatalogueItems). AllByRecursion (λ route. route.born ≤ file.accepted) items.routes) (sym rests.listing) rests.births)
 
--- So does one that was made, where the catalogue lists the definitions, whose routes were born by the next version.
-pub rests_made : (file changed settled : OpenedFile) (definitions : StoredCatalogue) (now : Definitions) → file.accepted < CHANGES → IsNext definitions file changed → IsFileKept changed settled
-    → listing_of now ≡ said_catalogue definitions → AllByRecursion (λ route. route.born ≤ file.accepted + 1) (said_catalogue definitions).routes
-    → Each now.tables (λ name table. AreColumnsOfTable table.columns) → IsAtRest settled now
-rests_made file changed settled definitions now room next kept listing births columns =
-    let same : said_catalogue settled.definitions ≡ said_catalogue definitions = ap said_catalogue (kept.definitions ∙ next.definitions_are) in
+-- So does one that was made, where what is open has come to rest with what is in memory.
+pub rests_made : (file changed settled : OpenedFile) (now : Definitions) → file.accepted < CHANGES → ComesToRest file changed now → IsFileKept changed settled → IsAtRest settled now
+rests_made file changed settled now room next kept =
+    let same : said_catalogue settled.definitions ≡ said_catalogue changed.definitions = ap said_catalogue kept.definitions in
     let level : settled.accepted ≡ file.accepted + 1 = kept.accepted ∙ next.accepted in
     record {
       may = may_next changed settled next.may kept;
       committed = kept.committed;
-      listing = listing ∙ sym same;
+      listing = next.listing ∙ sym same;
       births = subst (λ (n : ℕ). AllByRecursion (λ route. route.born ≤ n) (said_catalogue settled.definitions).routes) (sym level)
-          (subst (λ (items : CatalogueItems). AllByRecursion (λ route. route.born ≤ file.accepted + 1) items.routes) (sym same) births);
-      columns = columns;
+          (subst (λ (items : CatalogueItems). AllByRecursion (λ route. route.born ≤ file.accepted + 1) items.routes) (sym same) next.births);
+      columns = next.columns;
       bound = omega (arith, room, level);
     }
 
--- a change of records leaves what is open and in memory at rest, made or refused
+-- a change of records has come to rest with the definitions that there were
+pub records_rest : (file changed : OpenedFile) (catalog : Definitions) → IsAtRest file catalog → IsNext file.definitions file changed → ComesToRest file changed catalog
+records_rest file changed catalog rests next =
+    let same : said_catalogue changed.definitions ≡ said_catalogue file.definitions = ap said_catalogue next.definitions_are in
+    record {
+      may = next.may;
+      accepted = next.accepted;
+      listing = rests.listing ∙ sym same;
+      births = subst (λ (items : CatalogueItems). AllByRecursion (λ route. route.born ≤ file.accepted + 1) items.routes) (sym same)
+          (born_later file.accepted (file.accepted + 1) (said_catalogue file.definitions).routes (omega arith) rests.births);
+      columns = rests.columns;
+    }
+
+-- it leaves what is open and in memory at rest, made or refused
 pub rests_settled : {D T : Type 0} (d : disk.Ghosts D) (result : Result T Refusal) (between last : Paged D) (file changed settled : OpenedFile) (catalog : Definitions) → IsAtRest file catalog
     → file.accepted < CHANGES → OnOk result (IsNext file.definitions file changed) → OnErr result (KeepsCommitted file changed) → Settles d result between last changed settled → IsAtRest settled catalog
 rests_settled d (Ok answer) between last file changed settled catalog rests room next keeps settles =
-    rests_made file changed settled file.definitions catalog room next settles.file rests.listing
-    (born_later file.accepted (file.accepted + 1) (said_catalogue file.definitions).routes (omega arith) rests.births) rests.columns
+    rests_made file changed settled catalog room (records_rest file changed catalog rests next) settles.file
 rests_settled d (Err why) between last file changed settled catalog rests room next keeps settles = rests_refused file changed settled catalog rests keeps settles.file

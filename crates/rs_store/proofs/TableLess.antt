@@ -34,7 +34,7 @@ use Rattle.rs_page_owners.proofs.Moving.{one_at-same}
 use Rattle.rs_pager.specs.Maps.{committed}
 use Rattle.rs_pages.specs.PageMap.{PageMap}
 use Rattle.rs_store.specs.Kept.{StandsIn, StoreState}
-use Rattle.rs_store.specs.Rewriting.{CanBeKept, GoesOn}
+use Rattle.rs_store.specs.Rewriting.{CanBeKept}
 use Rattle.rs_store.specs.Tabling.{TakesNamed, without_number}
 use Rattle.rs_store.proofs.Given.{place_of}
 use Rattle.rs_store.proofs.Placed.{at_place, entry_there}
@@ -152,25 +152,25 @@ split (x ∷ xs) (suc place) within =
     let rest = split xs place (omega (arith, within)) in
     record { before = x ∷ rest.before; one = rest.one; after = rest.after; long = ap suc rest.long; is = ap (λ l. x ∷ l) rest.is }
 
-module _ {D : Type 0} (d : disk.Ghosts D) (store was : StoreState D) (goes : GoesOn d store was) (room : store.file.accepted < CHANGES) (law : DroppedGives) (name : Name)
+module _ {D : Type 0} (d : disk.Ghosts D) (was : StoreState D) (room : was.file.accepted < CHANGES) (law : DroppedGives) (name : Name)
     (are : AreDefinitions was.catalog) where
   abbrev fewer : Definitions
   fewer = changes.without_table was.catalog name
 
-  pub less_gives : (from oldest : ℕ) (state : State) (stands : StandsIn d from store state) → oldest ≡ store.file.accepted + 1 → IsLawful (machine.without_table state name) → (part : Contents)
+  pub less_gives : (from oldest : ℕ) (state : State) (stands : StandsIn d from was state) → oldest ≡ was.file.accepted + 1 → IsLawful (machine.without_table state name) → (part : Contents)
       → TakesNamed was.catalog.tables name (listing_of (changes.without_table was.catalog name)) stands.contents part
       → GivesState oldest stands.contents part (changes.without_table was.catalog name) was.referents (machine.without_table state name)
   less_gives from oldest state stands past lawful part takes =
-      let level : stands.contents.directory.accepted ≡ store.file.accepted = stands.keeps.opened.accepted in
-      law from oldest (committed d was.pager) was.file was.catalog was.referents state (stands_still d store was goes from state stands) (omega (arith, past, level)) (omega (arith, past, room))
+      let level : stands.contents.directory.accepted ≡ was.file.accepted = stands.keeps.opened.accepted in
+      law from oldest (committed d was.pager) was.file was.catalog was.referents state (stands_still d was from state stands) (omega (arith, past, level)) (omega (arith, past, room))
       name takes.item takes.place part are takes.there takes.at takes.takes lawful
 
   -- a file can keep the definitions where the state without the table is lawful
   pub less_kept : IsLineReadable → (item : catalog.TableItem) (place : ℕ) → names.get was.catalog.tables name ≡ Some item
-      → slice_get (table_numbers (said_catalogue was.file.definitions)) place ≡ Some item.number → (from : ℕ) (state : State) → StandsIn d from store state
+      → slice_get (table_numbers (said_catalogue was.file.definitions)) place ≡ Some item.number → (from : ℕ) (state : State) → StandsIn d from was state
       → IsLawful (machine.without_table state name) → CanBeKept (listing_of (changes.without_table was.catalog name))
   less_kept readable item place there placed from state stands lawful =
-      let at = goes.keeps.contents stands.contents stands.keeps in
+      let at = stands.keeps in
       let contents = stands.contents in
       let many = as_many (IsTable contents.directory contents.definitions.indexes) contents.definitions.tables contents.tables at.holds.said.tables in
       let numbered : slice_get (table_numbers contents.definitions) place ≡ Some item.number =
@@ -178,8 +178,8 @@ module _ {D : Type 0} (d : disk.Ghosts D) (store was : StoreState D) (goes : Goe
       let inside = slice_get_within (table_numbers contents.definitions) place item.number numbered in
       let parts = split contents.tables place (omega (arith, many, inside, length-map contents.definitions.tables (λ (t : TableItem). t.number))) in
       let part : Contents = record contents { definitions = listing_of fewer; tables = parts.before ++ parts.after } in
-      kept_by_state readable (store.file.accepted + 1) contents part fewer was.referents (machine.without_table state name) refl
-      (less_gives from (store.file.accepted + 1) state stands refl lawful part (record {
+      kept_by_state readable (was.file.accepted + 1) contents part fewer was.referents (machine.without_table state name) refl
+      (less_gives from (was.file.accepted + 1) state stands refl lawful part (record {
         item = item;
         there = there;
         place = place;

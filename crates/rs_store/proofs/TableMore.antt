@@ -33,7 +33,7 @@ use Rattle.rs_page_owners.specs.Counts.{times}
 use Rattle.rs_pager.specs.Maps.{committed}
 use Rattle.rs_pages.specs.PageMap.{PageMap}
 use Rattle.rs_store.specs.Kept.{StandsIn, StoreState}
-use Rattle.rs_store.specs.Rewriting.{CanBeKept, GoesOn}
+use Rattle.rs_store.specs.Rewriting.{CanBeKept}
 use Rattle.rs_store.specs.Tabling.{HasNumberedMore, PutsNumbered}
 use Rattle.rs_stored_catalog.specs.Listing.{listing_of}
 use Rattle.rs_store.proofs.Redefined.{IsLineReadable, next_lives, stands_still, texts_short}
@@ -80,17 +80,17 @@ DefinedGives = (from oldest : ℕ) (map : PageMap) (file : OpenedFile) (definiti
     → IsLawful (machine.with_table state name (machine.empty_table item.kind item.columns))
     → GivesState oldest stands.contents between (changes.with_table definitions name item) held (machine.with_table state name (machine.empty_table item.kind item.columns))
 
-module _ {D : Type 0} (d : disk.Ghosts D) (store was : StoreState D) (goes : GoesOn d store was) (room : store.file.accepted < CHANGES) (law : DefinedGives)
+module _ {D : Type 0} (d : disk.Ghosts D) (was : StoreState D) (room : was.file.accepted < CHANGES) (law : DefinedGives)
     (name : Name) (item : catalog.TableItem) (now : Definitions) (is : now ≡ changes.with_table was.catalog name item) (are : AreDefinitions now)
     (new : has was.catalog.tables name ≡ false) (free : IsFree (λ (table : catalog.TableItem). table.number) was.catalog.tables item.number) where
   abbrev after : State → State
   after state = machine.with_table state name (machine.empty_table item.kind item.columns)
 
-  pub more_gives : (from oldest : ℕ) (state : State) (stands : StandsIn d from store state) → from ≤ oldest → IsLawful (after state) → (part : Contents)
+  pub more_gives : (from oldest : ℕ) (state : State) (stands : StandsIn d from was state) → from ≤ oldest → IsLawful (after state) → (part : Contents)
       → PutsNumbered item.number (listing_of now) stands.contents part → GivesState oldest stands.contents part now was.referents (after state)
   more_gives from oldest state stands low lawful part puts =
       subst (λ (n : Definitions). GivesState oldest stands.contents part n was.referents (after state)) (sym is)
-      (law from oldest (committed d was.pager) was.file was.catalog was.referents state (stands_still d store was goes from state stands) low (next_lives d store was goes from state stands room)
+      (law from oldest (committed d was.pager) was.file was.catalog was.referents state (stands_still d was from state stands) low (next_lives d was from state stands room)
       name item puts.place puts.types part (subst AreDefinitions is are) new free
       (subst (λ (n : Definitions). slice_get (table_numbers (listing_of n)) puts.place ≡ Some item.number) is puts.at)
       (subst (λ (n : Definitions). PutsTable puts.place puts.types (listing_of n) stands.contents part) is puts.puts) lawful)
@@ -129,8 +129,8 @@ module _ {D : Type 0} (d : disk.Ghosts D) (store was : StoreState D) (goes : Goe
         )
 
     -- a file can keep them where the state with the table is lawful
-    pub more_kept : IsLineReadable → said_catalogue was.file.definitions ≡ was_items → (from : ℕ) (state : State) → StandsIn d from store state → IsLawful (after state) → CanBeKept (listing_of now)
+    pub more_kept : IsLineReadable → said_catalogue was.file.definitions ≡ was_items → (from : ℕ) (state : State) → StandsIn d from was state → IsLawful (after state) → CanBeKept (listing_of now)
     more_kept readable said from state stands lawful =
-        let at = goes.keeps.contents stands.contents stands.keeps in
+        let at = stands.keeps in
         let made = puts_one stands.contents (at.opened.definitions ∙ said) at.holds.said.tables in
         kept_by_state readable from stands.contents made.0 now was.referents (after state) made.2 (more_gives from from state stands (omega arith) lawful made.0 made.1)

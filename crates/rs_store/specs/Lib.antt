@@ -1,3 +1,4 @@
+pub mod Bracket
 pub mod Calls
 pub mod Changing
 pub mod Indexing

@@ -1,23 +1,20 @@
--- What becomes of a store as other definitions of the same tables are written, or a change of the file besides.
-use Rattle.std.specs.Prelude.{◌≡◌, ◌≤◌, ◌<◌, ◌+◌, ◌^◌, ℕ, All, Bool, MatchResult, OnErr, OnOk, Result, length}
-use Rattle.rs_catalog.specs.Definitions.{Definitions, Numbered}
-use Rattle.rs_catalog.specs.Referents.{HeldReferents}
+-- Definitions that a file can keep, and what becomes of the file and of those in memory as others are written.
+use Rattle.std.specs.Prelude.{◌≡◌, ◌≤◌, ◌<◌, ◌+◌, ◌^◌, ℕ, All, Err, OnErr, OnOk, Result, length}
+use Rattle.std.specs.List.{AllByRecursion}
+use Rattle.rs_catalog.specs.Definitions.{Definitions}
 use Rattle.rs_catalog_meaning.specs.Meaning.{AreMeant}
 use Rattle.rs_catalog_pages.specs.Items.{CatalogueItems}
-use Rattle.rs_change_laws.specs.Changing.{GivesState}
+use Rattle.rs_catalog_pages.specs.Said.{said_catalogue}
+use Rattle.rs_catalog_pages.specs.Storing.{StoresAfter}
+use Rattle.rs_change_laws.specs.Changing.{ChangesFile, HoldsNoFile}
+use Rattle.rs_changes.specs.Calls.{MayChange}
 pub use Rattle.rs_changes.specs.Calls.{HasTablesOf}
-use Rattle.rs_disk.specs.declared.disk.Disk as disk
 use Rattle.rs_file.specs.Contents.{Contents}
 use Rattle.rs_file.specs.declared.opened.OpenedFile.{OpenedFile}
-use Rattle.rs_file_parts.specs.Calls.{ChangesDefinitions}
-use Rattle.rs_machine.specs.Lawful.{AreColumnsOfTable, AreViewsMeant, Each}
-use Rattle.rs_machine.specs.State.{State}
-use Rattle.rs_pager.specs.Maps.{KeepsChanges}
-use Rattle.rs_pager.specs.Paged.{Paged}
+use Rattle.rs_file_parts.specs.Parts.{KeepsCommitted}
+use Rattle.rs_pages.specs.Store.{Store}
 use Rattle.rs_refusal.specs.declared.refusal.Refusal.{Refusal}
-use Rattle.rs_store.specs.Calls.{KeepsStore}
-use Rattle.rs_store.specs.Changing.{HasBecome, LeavesStore}
-use Rattle.rs_store.specs.Kept.{IsAtRest, StandsIn, StoreState}
+use Rattle.rs_refusal.specs.declared.refusal.Refusal.TheVariants as refusal
 use Rattle.rs_stored_catalog.specs.Listing.{listing_of}
 
 -- ---- definitions that a file can keep
@@ -33,38 +30,35 @@ pub record CanBeKept (items : CatalogueItems) : Type 0 where
   pub meant : AreMeant items
   pub texts : All (λ view. length view.text < 2 ^ 16) items.views
 
--- ---- a store whose file is changed
+-- ---- definitions that are written, over any pages
 
--- a change that is allowed wherever a file can keep these definitions
-abbrev pub WhereKept : CatalogueItems → State → Type 0
-WhereKept items state = CanBeKept items
+-- What is open is at the next version, has these definitions, whose routes were born by that version, and can be changed again.
+pub record IsNextWith (items : CatalogueItems) (was is : OpenedFile) : Type 0 where
+  pub may : MayChange is
+  pub accepted : is.accepted ≡ was.accepted + 1
+  pub definitions_are : said_catalogue is.definitions ≡ items
+  pub births : AllByRecursion (λ route. route.born ≤ was.accepted + 1) items.routes
 
-module _ {D : Type 0} (d : disk.Ghosts D) where
-  -- what the old store kept the new one keeps, the held changes are the same, and the disk has not failed since
-  pub record GoesOn (old now : StoreState D) : Type 0 where
-    pub keeps : KeepsStore d old now
-    pub changes : KeepsChanges old.pager now.pager
-    pub failures : d.failures now.pager.disk ≡ d.failures old.pager.disk
+module _ {P : Type 0} (is_tied : P → Type 0) (store : P → Store) (keeps : P → P → Type 0) where
+  -- These definitions are in the file, and whatever contents it held have changed so; or that was refused, and only how the parts of what
+  -- is open stand has changed. 94 comes only where a file can't keep the definitions, or the file holds no contents with what is open.
+  pub record Rewrites (oldest : ℕ) (change : Contents → Contents → Type 0) (items : CatalogueItems) (result : Result (Unit {0}) Refusal) (old new : P) (was is : OpenedFile) : Type 0 where
+    pub below : keeps old new
+    pub stores : StoresAfter (CanBeKept items → is_tied old → HoldsNoFile (store old).map was) result (store old) (store new)
+    pub changes : is_tied old → OnOk result (ChangesFile oldest (store old).map (store new).map was is change)
+    pub next : OnOk result (IsNextWith items was is)
+    pub stays : OnErr result (KeepsCommitted was is)
 
-  -- What becomes of a store whose pages and open file were changed so, with these definitions, or in which that was refused: whatever
-  -- it stands in memory for, as long as a refusal leaves it there.
-  pub record Rewrites (oldest : ℕ) (change : Contents → Contents → Type 0) (items : CatalogueItems) (result : Result (Unit {0}) Refusal) (old new : Paged D) (was is : OpenedFile) : Type 0 where
-    pub leaves : (store : StoreState D) (catalog now : Definitions) (referents held : Numbered HeldReferents) (is_marked : Bool)
-        → GoesOn store (record { pager = old; file = was; catalog = catalog; referents = referents; is_marked = is_marked })
-        → OnErr result (now ≡ catalog) → OnErr result (held ≡ referents)
-        → LeavesStore d (WhereKept items) result store (record { pager = new; file = is; catalog = now; referents = held; is_marked = is_marked })
-    pub becomes : (store : StoreState D) (catalog now : Definitions) (referents held : Numbered HeldReferents) (is_marked : Bool)
-        → GoesOn store (record { pager = old; file = was; catalog = catalog; referents = referents; is_marked = is_marked })
-        → (from : ℕ) (state next : State) (stands : StandsIn d from store state) → from ≤ oldest → oldest ≤ store.file.accepted + 1
-        → ((part : Contents) → change stands.contents part → GivesState oldest stands.contents part now held next) → AreViewsMeant next
-        → OnOk result (HasBecome d oldest stands.contents (record { pager = new; file = is; catalog = now; referents = held; is_marked = is_marked }) next)
-    pub rests : (catalog now : Definitions) → IsAtRest was catalog → listing_of now ≡ items → Each now.tables (λ name table. AreColumnsOfTable table.columns)
-        → MatchResult result (λ _. IsAtRest is now) (λ _. IsAtRest is catalog)
-
-  -- The file and the catalogue in memory have the next definitions from now on, or still those that they had. What is open and in
-  -- memory is at rest.
-  pub record Redefines (oldest : ℕ) (next : Definitions) (result : Result (Unit {0}) Refusal) (old new : Paged D) (was is : OpenedFile) (catalog now : Definitions) : Type 0 where
-    pub rewrites : Rewrites oldest (ChangesDefinitions (listing_of next)) (listing_of next) result old new was is
+  -- The file and the catalogue in memory have the next definitions, or the catalogue is as it was.
+  pub record Redefines (oldest : ℕ) (change : Contents → Contents → Type 0) (next : Definitions) (result : Result (Unit {0}) Refusal) (old new : P) (was is : OpenedFile)
+      (catalog now : Definitions) : Type 0 where
+    pub rewrites : Rewrites oldest change (listing_of next) result old new was is
     pub made : OnOk result (now ≡ next)
-    pub stays : OnErr result (now ≡ catalog)
-    pub rests : IsAtRest is now
+    pub back : OnErr result (now ≡ catalog)
+
+  -- The same of what is defined under a number, which is as it has to be where there was memory to choose it.
+  pub record RedefinesNumbered (oldest : ℕ) (is_number : ℕ → Type 0) (change : ℕ → Contents → Contents → Type 0) (next : ℕ → Definitions) (result : Result (Unit {0}) Refusal)
+      (old new : P) (was is : OpenedFile) (catalog now : Definitions) : Type 0 where
+    pub number : ℕ
+    pub numbered : (result ≡ Err refusal.OutOfMemory → ⊥) → is_number number
+    pub redefines : Redefines oldest (change number) (next number) result old new was is catalog now

@@ -6,14 +6,17 @@ ghost use Rattle.rs_catalog.specs.Definitions.{pieces_of, routes_of};
 ghost use Rattle.rs_catalog_pages.specs.Said.{said_catalogue};
 ghost use Rattle.rs_stored_catalog.specs.Listing.{listing_of};
 ghost use Rattle.rs_facts.specs.WellFormed.{ArePiecesOn};
+ghost use Rattle.rs_file_parts.specs.Calls.{ChangesDefinitions};
 ghost use Rattle.rs_machine.specs.Lawful.{IsLawful};
 ghost use Rattle.rs_machine.specs.State.{State, has};
 ghost use Rattle.rs_machine.specs.Step.{with_alignment, without_alignment};
 ghost use Rattle.rs_machine.specs.declared.limits.TheConstants.{CHANGES};
-ghost use Rattle.rs_store.specs.Changing.{HasBecome, LeavesStore};
-ghost use Rattle.rs_store.specs.Kept.{IsAtRest, StandsIn};
+ghost use Rattle.rs_store.specs.Bracket.{StandsNext};
+ghost use Rattle.rs_store.specs.Changing.{LeavesStore};
+ghost use Rattle.rs_store.specs.Kept.{IsAtRest};
 ghost use Rattle.rs_store.specs.Rewriting.{Redefines};
 
+use crate::bracket::{begin_change, kept_change_gives_its_state, settle};
 use crate::rewriting::{is_name, rewrite, write_definitions_of};
 use crate::store::Store;
 use rs_catalog::Catalog;
@@ -23,7 +26,7 @@ use rs_disk::Disk;
 use rs_file::OpenedFile;
 use rs_machine_laws::view_lines::shortest_line_defines_the_view;
 use rs_methods::Name;
-use rs_pager::Pager;
+use rs_pages::Pages;
 use rs_refusal::Refusal;
 use rs_stored_catalog::stored_of;
 use rs_syntax::Piece;
@@ -44,15 +47,15 @@ impl<D: Disk> Store<D> {
         requires lie { ArePiecesOn (routes_of self.old.catalog) (pieces_of pieces.items) }
         requires room { self.old.file.accepted < CHANGES }
         ensures leaves { LeavesStore D.Disk (λ (state : State). IsLawful (with_alignment state name.bytes (pieces_of pieces.items))) result self.old self.new }
-        ensures defines { (from : ℕ) (state : State) (stands : StandsIn D.Disk from self.old state) → from ≤ oldest → oldest ≤ self.old.file.accepted + 1
-            → IsLawful (with_alignment state name.bytes (pieces_of pieces.items))
-            → OnOk result (HasBecome D.Disk oldest stands.contents self.new (with_alignment state name.bytes (pieces_of pieces.items))) }
+        ensures defines { StandsNext D.Disk oldest (λ (state : State). IsLawful (with_alignment state name.bytes (pieces_of pieces.items)))
+            (λ state. with_alignment state name.bytes (pieces_of pieces.items)) result self.old self.new }
     {
+        kept_change_gives_its_state::<D>();
         shortest_line_defines_the_view();
         alignment_listed_gives_its_state();
         self.catalog.stand();
-        self.mark()?;
-        define_alignment_in_both(
+        begin_change(&mut self.pager, &mut self.is_marked)?;
+        let made = define_alignment_in_both(
             alloc,
             &mut self.pager,
             &mut self.file,
@@ -60,7 +63,8 @@ impl<D: Disk> Store<D> {
             oldest,
             name,
             pieces,
-        )
+        );
+        settle(&mut self.pager, &mut self.file, made)
     }
 
     /// Drops an alignment. It is refused as `define_alignment` is.
@@ -68,46 +72,44 @@ impl<D: Disk> Store<D> {
         requires there { has self.old.catalog.alignments name.now.bytes ≡ true }
         requires room { self.old.file.accepted < CHANGES }
         ensures leaves { LeavesStore D.Disk (λ (state : State). IsLawful (without_alignment state name.now.bytes)) result self.old self.new }
-        ensures drops { (from : ℕ) (state : State) (stands : StandsIn D.Disk from self.old state) → from ≤ oldest → oldest ≤ self.old.file.accepted + 1
-            → IsLawful (without_alignment state name.now.bytes)
-            → OnOk result (HasBecome D.Disk oldest stands.contents self.new (without_alignment state name.now.bytes)) }
+        ensures drops { StandsNext D.Disk oldest (λ (state : State). IsLawful (without_alignment state name.now.bytes)) (λ state. without_alignment state name.now.bytes) result self.old self.new }
     {
+        kept_change_gives_its_state::<D>();
         shortest_line_defines_the_view();
         alignment_listed_gives_its_state();
-        self.mark()?;
-        drop_alignment_from_both(
+        begin_change(&mut self.pager, &mut self.is_marked)?;
+        let made = drop_alignment_from_both(
             alloc,
             &mut self.pager,
             &mut self.file,
             &mut self.catalog,
             oldest,
             name,
-        )
+        );
+        settle(&mut self.pager, &mut self.file, made)
     }
 }
 
 /// Puts a new alignment into memory and then into the file; where the file refuses it, it goes out of memory again.
-fn define_alignment_in_both<D: Disk>(
+fn define_alignment_in_both<P: Pages>(
     alloc: Global,
-    pager: &mut Pager<D>,
+    pages: &mut P,
     file: &mut OpenedFile,
     catalog: &mut Catalog,
     oldest: u64,
     name: Name,
     pieces: Vec<Piece>,
 ) -> Result<(), Refusal>
-    requires shut { pager.old.is_begun ≡ false }
+    requires begun { (P.store pages.old).is_begun ≡ true }
     requires rests { IsAtRest file.old catalog.old }
     requires room { file.old.accepted < CHANGES }
     requires new { has catalog.old.alignments name.bytes ≡ false }
     requires lie { ArePiecesOn (routes_of catalog.old) (pieces_of pieces.items) }
-    ensures redefines { Redefines D.Disk oldest (changes.with_alignment catalog.old name.bytes (pieces_of pieces.items)) result
-        pager.old pager.new file.old file.new catalog.old catalog.new }
-    ensures shut { pager.new.is_begun ≡ false }
-    ensures most_clean { pager.new.most_clean ≡ pager.old.most_clean }
+    ensures { let next = changes.with_alignment catalog.old name.bytes (pieces_of pieces.items) in
+        Redefines P.is_tied P.store P.keeps oldest (ChangesDefinitions (listing_of next)) next result pages.old pages.new file.old file.new catalog.old catalog.new }
 {
     catalog.define_alignment(name, pieces)?;
-    let made = write_definitions_of(alloc, pager, file, oldest, catalog);
+    let made = write_definitions_of(alloc, pages, file, oldest, catalog);
     if made.is_err() {
         catalog.drop_alignment(&name);
     }
@@ -115,24 +117,22 @@ fn define_alignment_in_both<D: Disk>(
 }
 
 /// Takes an alignment out of the file and then out of memory; where the file refuses that, it stays in both.
-fn drop_alignment_from_both<D: Disk>(
+fn drop_alignment_from_both<P: Pages>(
     alloc: Global,
-    pager: &mut Pager<D>,
+    pages: &mut P,
     file: &mut OpenedFile,
     catalog: &mut Catalog,
     oldest: u64,
     name: &Name,
 ) -> Result<(), Refusal>
-    requires shut { pager.old.is_begun ≡ false }
+    requires begun { (P.store pages.old).is_begun ≡ true }
     requires rests { IsAtRest file.old catalog.old }
     requires room { file.old.accepted < CHANGES }
-    ensures redefines { Redefines D.Disk oldest (changes.without_alignment catalog.old name.now.bytes) result
-        pager.old pager.new file.old file.new catalog.old catalog.new }
-    ensures shut { pager.new.is_begun ≡ false }
-    ensures most_clean { pager.new.most_clean ≡ pager.old.most_clean }
+    ensures { let next = changes.without_alignment catalog.old name.now.bytes in
+        Redefines P.is_tied P.store P.keeps oldest (ChangesDefinitions (listing_of next)) next result pages.old pages.new file.old file.new catalog.old catalog.new }
 {
     let definitions = definitions_without_alignment(alloc, catalog, name)?;
-    rewrite(alloc, pager, file, oldest, definitions)?;
+    rewrite(alloc, pages, file, oldest, definitions)?;
     catalog.drop_alignment(name);
     Ok(())
 }

@@ -16,8 +16,8 @@ ghost use Rattle.rs_store.specs.Changing.{Always, HasBecome, IsRowFor, LeavesSto
 ghost use Rattle.rs_store.specs.Kept.{IsAtRest, StandsIn};
 ghost use Rattle.rs_store.specs.Placing.{IsPlaceOf};
 
+use crate::bracket::{begin_change, kept_change_gives_its_state, settle};
 use crate::placing::table_place;
-use crate::settling::{kept_change_gives_its_state, settle};
 use crate::store::Store;
 use rs_catalog::Catalog;
 use rs_change_laws::rows::{row_put_gives_its_state, rows_taken_away_give_their_state};
@@ -63,8 +63,7 @@ impl<D: Disk> Store<D> {
         kept_change_gives_its_state::<D>();
         row_put_gives_its_state();
         let insertion = insertion_of(&self.file, &self.catalog, table, route, span);
-        self.mark()?;
-        self.pager.begin()?;
+        begin_change(&mut self.pager, &mut self.is_marked)?;
         let made = rs_changes::insert(alloc, &mut self.pager, &mut self.file, oldest, &insertion);
         settle(&mut self.pager, &mut self.file, made)
     }
@@ -99,8 +98,7 @@ impl<D: Disk> Store<D> {
             hi: section.hi,
             goes,
         };
-        self.mark()?;
-        self.pager.begin()?;
+        begin_change(&mut self.pager, &mut self.is_marked)?;
         let made = rs_changes::remove(alloc, &mut self.pager, &mut self.file, oldest, &removal);
         settle(&mut self.pager, &mut self.file, made)
     }

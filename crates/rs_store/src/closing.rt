@@ -12,6 +12,7 @@ ghost use Rattle.rs_store.specs.Changing.{StillHolds};
 ghost use Rattle.rs_store.specs.Kept.{StandsIn};
 
 use crate::loading::{Loaded, load_whole};
+use crate::marking::mark;
 use crate::store::Store;
 use rs_disk::Disk;
 use rs_file::laws::file_holds_one_thing;
@@ -32,7 +33,7 @@ impl<D: Disk> Store<D> {
         ensures refused { IsOkUnless result Refusal.Disk }
         ensures count { Counts result (D.failures self.old.pager.disk) (D.failures self.new.pager.disk) }
     {
-        self.mark()?;
+        mark(&mut self.pager, &mut self.is_marked)?;
         self.pager.flush()
     }
 

@@ -4,16 +4,19 @@ ghost use Rattle.std.specs.Prelude.{◌≡◌, ◌≤◌, ◌<◌, ◌+◌, ℕ,
 ghost use Rattle.rs_catalog.specs.Changes as changes;
 ghost use Rattle.rs_catalog_pages.specs.Said.{said_catalogue};
 ghost use Rattle.rs_stored_catalog.specs.Listing.{listing_of};
+ghost use Rattle.rs_file_parts.specs.Calls.{ChangesDefinitions};
 ghost use Rattle.rs_machine.specs.Lawful.{IsLawful};
 ghost use Rattle.rs_machine.specs.State.{State, has};
 ghost use Rattle.rs_machine.specs.Step.{with_view, without_view};
 ghost use Rattle.rs_machine.specs.declared.limits.TheConstants.{CHANGES};
 ghost use Rattle.rs_file_meaning.specs.States.{HasLine};
-ghost use Rattle.rs_store.specs.Changing.{HasBecome, LeavesStore};
-ghost use Rattle.rs_store.specs.Kept.{IsAtRest, StandsIn};
+ghost use Rattle.rs_store.specs.Bracket.{StandsNext};
+ghost use Rattle.rs_store.specs.Changing.{LeavesStore};
+ghost use Rattle.rs_store.specs.Kept.{IsAtRest};
 ghost use Rattle.rs_store.specs.Rewriting.{Redefines};
 ghost use Rattle.rs_syntax.specs.QueryView.{query_tree};
 
+use crate::bracket::{begin_change, kept_change_gives_its_state, settle};
 use crate::rewriting::{is_name, rewrite, write_definitions_of};
 use crate::store::Store;
 use rs_catalog::Catalog;
@@ -23,7 +26,7 @@ use rs_disk::Disk;
 use rs_file::OpenedFile;
 use rs_machine_laws::view_lines::shortest_line_defines_the_view;
 use rs_methods::Name;
-use rs_pager::Pager;
+use rs_pages::Pages;
 use rs_refusal::Refusal;
 use rs_stored_catalog::stored_of;
 use rs_syntax::Query;
@@ -45,21 +48,22 @@ impl<D: Disk> Store<D> {
         requires room { self.old.file.accepted < CHANGES }
         ensures leaves { LeavesStore D.Disk (λ (state : State). HasLine name.bytes (query_tree query) (string_bytes text) × IsLawful (with_view state name.bytes (query_tree query)))
             result self.old self.new }
-        ensures defines { (from : ℕ) (state : State) (stands : StandsIn D.Disk from self.old state) → from ≤ oldest → oldest ≤ self.old.file.accepted + 1
-            → HasLine name.bytes (query_tree query) (string_bytes text) → IsLawful (with_view state name.bytes (query_tree query))
-            → OnOk result (HasBecome D.Disk oldest stands.contents self.new (with_view state name.bytes (query_tree query))) }
+        ensures defines { StandsNext D.Disk oldest (λ (state : State). HasLine name.bytes (query_tree query) (string_bytes text) × IsLawful (with_view state name.bytes (query_tree query)))
+            (λ state. with_view state name.bytes (query_tree query)) result self.old self.new }
     {
+        kept_change_gives_its_state::<D>();
         shortest_line_defines_the_view();
         view_listed_gives_its_state();
-        self.mark()?;
-        define_view_in_both(
+        begin_change(&mut self.pager, &mut self.is_marked)?;
+        let made = define_view_in_both(
             alloc,
             &mut self.pager,
             &mut self.file,
             &mut self.catalog,
             oldest,
             ViewDefinition { name, query, text },
-        )
+        );
+        settle(&mut self.pager, &mut self.file, made)
     }
 
     /// Drops a view. It is refused as `define_view` is.
@@ -67,21 +71,21 @@ impl<D: Disk> Store<D> {
         requires there { has self.old.catalog.views name.now.bytes ≡ true }
         requires room { self.old.file.accepted < CHANGES }
         ensures leaves { LeavesStore D.Disk (λ (state : State). IsLawful (without_view state name.now.bytes)) result self.old self.new }
-        ensures drops { (from : ℕ) (state : State) (stands : StandsIn D.Disk from self.old state) → from ≤ oldest → oldest ≤ self.old.file.accepted + 1
-            → IsLawful (without_view state name.now.bytes)
-            → OnOk result (HasBecome D.Disk oldest stands.contents self.new (without_view state name.now.bytes)) }
+        ensures drops { StandsNext D.Disk oldest (λ (state : State). IsLawful (without_view state name.now.bytes)) (λ state. without_view state name.now.bytes) result self.old self.new }
     {
+        kept_change_gives_its_state::<D>();
         shortest_line_defines_the_view();
         view_listed_gives_its_state();
-        self.mark()?;
-        drop_view_from_both(
+        begin_change(&mut self.pager, &mut self.is_marked)?;
+        let made = drop_view_from_both(
             alloc,
             &mut self.pager,
             &mut self.file,
             &mut self.catalog,
             oldest,
             name,
-        )
+        );
+        settle(&mut self.pager, &mut self.file, made)
     }
 }
 
@@ -94,26 +98,24 @@ struct ViewDefinition {
 }
 
 /// Puts a new view into memory and then into the file; where the file refuses it, it goes out of memory again.
-fn define_view_in_both<D: Disk>(
+fn define_view_in_both<P: Pages>(
     alloc: Global,
-    pager: &mut Pager<D>,
+    pages: &mut P,
     file: &mut OpenedFile,
     catalog: &mut Catalog,
     oldest: u64,
     view: ViewDefinition,
 ) -> Result<(), Refusal>
-    requires shut { pager.old.is_begun ≡ false }
+    requires begun { (P.store pages.old).is_begun ≡ true }
     requires rests { IsAtRest file.old catalog.old }
     requires room { file.old.accepted < CHANGES }
     requires new { has catalog.old.views view.name.bytes ≡ false }
-    ensures redefines { Redefines D.Disk oldest (changes.with_view catalog.old view.name.bytes (record { query = view.query; text = string_bytes view.text })) result
-        pager.old pager.new file.old file.new catalog.old catalog.new }
-    ensures shut { pager.new.is_begun ≡ false }
-    ensures most_clean { pager.new.most_clean ≡ pager.old.most_clean }
+    ensures { let next = changes.with_view catalog.old view.name.bytes (record { query = view.query; text = string_bytes view.text }) in
+        Redefines P.is_tied P.store P.keeps oldest (ChangesDefinitions (listing_of next)) next result pages.old pages.new file.old file.new catalog.old catalog.new }
 {
     let ViewDefinition { name, query, text } = view;
     catalog.define_view(name, query, text)?;
-    let made = write_definitions_of(alloc, pager, file, oldest, catalog);
+    let made = write_definitions_of(alloc, pages, file, oldest, catalog);
     if made.is_err() {
         catalog.drop_view(&name);
     }
@@ -121,23 +123,22 @@ fn define_view_in_both<D: Disk>(
 }
 
 /// Takes a view out of the file and then out of memory; where the file refuses that, it stays in both.
-fn drop_view_from_both<D: Disk>(
+fn drop_view_from_both<P: Pages>(
     alloc: Global,
-    pager: &mut Pager<D>,
+    pages: &mut P,
     file: &mut OpenedFile,
     catalog: &mut Catalog,
     oldest: u64,
     name: &Name,
 ) -> Result<(), Refusal>
-    requires shut { pager.old.is_begun ≡ false }
+    requires begun { (P.store pages.old).is_begun ≡ true }
     requires rests { IsAtRest file.old catalog.old }
     requires room { file.old.accepted < CHANGES }
-    ensures redefines { Redefines D.Disk oldest (changes.without_view catalog.old name.now.bytes) result pager.old pager.new file.old file.new catalog.old catalog.new }
-    ensures shut { pager.new.is_begun ≡ false }
-    ensures most_clean { pager.new.most_clean ≡ pager.old.most_clean }
+    ensures { let next = changes.without_view catalog.old name.now.bytes in
+        Redefines P.is_tied P.store P.keeps oldest (ChangesDefinitions (listing_of next)) next result pages.old pages.new file.old file.new catalog.old catalog.new }
 {
     let definitions = definitions_without_view(alloc, catalog, name)?;
-    rewrite(alloc, pager, file, oldest, definitions)?;
+    rewrite(alloc, pages, file, oldest, definitions)?;
     catalog.drop_view(name);
     Ok(())
 }

@@ -2,6 +2,7 @@
 #![tactic(auto)]
 
 mod aligning;
+mod bracket;
 pub mod changing;
 mod closing;
 mod creating;
@@ -18,7 +19,6 @@ mod referring;
 mod releasing;
 mod rewriting;
 mod routing;
-mod settling;
 pub mod store;
 mod tabling;
 pub mod versions;

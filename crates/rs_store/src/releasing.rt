@@ -5,7 +5,7 @@ ghost use Rattle.rs_machine.specs.State.{State};
 ghost use Rattle.rs_store.specs.Kept.{StandsIn};
 ghost use Rattle.rs_store.specs.Releasing.{HasReleased, LeavesReleased};
 
-use crate::settling::settle;
+use crate::bracket::{begin_change, settle};
 use crate::store::Store;
 use rs_change_laws::clearing::cleared_file_stands_for_the_same_state;
 use rs_changes::clear_only;
@@ -19,8 +19,8 @@ use rs_refusal::Refusal;
 use std::alloc::Global;
 
 impl<D: Disk> Store<D> {
-    /// Clears records that no version from `oldest` on sees, 64 of them or all where they are fewer, and answers how many went. The
-    /// store stands in the state in which it stood, at the same version, and versions from `oldest` on see what they saw. It is refused
+    /// Clears records that no version from `oldest` on sees, 64 of them or all where they are fewer, and answers how many went; where
+    /// none is dead nothing is begun. The store stands in the state in which it stood, at the same version, and versions from `oldest` on see what they saw. It is refused
     /// with 90, with 91, and with 94 only where the disk does not give back what was written. A refusal changes nothing.
     pub fn release(&mut self, alloc: Global, oldest: u64) -> Result<u64, Refusal>
         ensures leaves { LeavesReleased D.Disk result self.old self.new }
@@ -33,8 +33,10 @@ impl<D: Disk> Store<D> {
         live_versions_see_their_referents();
         live_versions_see_the_same();
         cleared_file_stands_for_the_same_state();
-        self.mark()?;
-        self.pager.begin()?;
+        if self.garbage() == 0 {
+            return Ok(0);
+        }
+        begin_change(&mut self.pager, &mut self.is_marked)?;
         let made = clear_only(alloc, &mut self.pager, &mut self.file, oldest);
         settle(&mut self.pager, &mut self.file, made)
     }

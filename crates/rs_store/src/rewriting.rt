@@ -1,77 +1,65 @@
-//! This module writes other definitions of the same tables into the file of a store, once it has checked that a file can keep them.
+//! This module writes other definitions of the same tables into a file, once it has checked that a file can keep them.
 
-ghost use Rattle.std.specs.Prelude.{◌≡◌, ◌≤◌, ◌<◌, ◌+◌, ◌^◌, ◌↔◌, All, IsOkUnless, IsTrue, OnErr, OnOk, false, length, string_bytes};
+ghost use Rattle.std.specs.Prelude.{◌≡◌, ◌≤◌, ◌<◌, ◌+◌, ◌^◌, ◌↔◌, All, IsOkUnless, IsTrue, OnErr, OnOk, false, true, length, string_bytes};
 ghost use Rattle.std.specs.List.{AllByRecursion};
 ghost use Rattle.rs_catalog_pages.specs.Fitting.{FitsCatalogue, IsShort};
 ghost use Rattle.rs_catalog_pages.specs.Said.{said_catalogue};
-ghost use Rattle.rs_stored_catalog.specs.Listing.{listing_of};
+ghost use Rattle.rs_changes.specs.Calls.{MayChange};
 ghost use Rattle.rs_facts.specs.Insert.{same_name};
 ghost use Rattle.rs_file_parts.specs.Calls.{ChangesDefinitions};
-ghost use Rattle.rs_file_parts.specs.Parts.{IsCommitted};
 ghost use Rattle.rs_machine.specs.declared.limits.TheConstants.{CHANGES};
-ghost use Rattle.rs_changes.specs.Calls.{MayChange};
 ghost use Rattle.rs_store.specs.Rewriting.{AreNumbersSmall, CanBeKept, HasTablesOf, Rewrites};
+ghost use Rattle.rs_stored_catalog.specs.Listing.{listing_of};
 
-use crate::settling::{kept_change_gives_its_state, settle};
 use rs_catalog::Catalog;
 use rs_catalog_meaning::check_meaning;
 use rs_catalog_meaning::laws::{meant_definitions_are_short, meant_definitions_fit};
 use rs_catalog_pages::{StoredCatalogue, StoredView};
 use rs_changes::redefine;
-use rs_disk::Disk;
 use rs_file::OpenedFile;
 use rs_methods::Name;
-use rs_pager::Pager;
+use rs_pages::Pages;
 use rs_refusal::Refusal;
 use rs_stored_catalog::stored_of;
 use std::alloc::Global;
 
 /// Writes the definitions of this catalogue into the file, which has the same tables and indexes. It is refused with 90, with 91, with 92
 /// where the file is full, and with 94 where the definitions can't be kept or the disk does not give back what was written.
-pub(crate) fn write_definitions_of<D: Disk>(
+pub(crate) fn write_definitions_of<P: Pages>(
     alloc: Global,
-    pager: &mut Pager<D>,
+    pages: &mut P,
     file: &mut OpenedFile,
     oldest: u64,
     catalog: &Catalog,
 ) -> Result<(), Refusal>
-    requires shut { pager.old.is_begun ≡ false }
+    requires begun { (P.store pages.old).is_begun ≡ true }
     requires may { MayChange file.old }
-    requires committed { IsCommitted file.old }
     requires room { file.old.accepted < CHANGES }
     requires tables { HasTablesOf (said_catalogue file.old.definitions) (listing_of catalog.now) }
     requires births { AllByRecursion (λ route. route.born ≤ file.old.accepted + 1) (listing_of catalog.now).routes }
-    ensures rewrites { Rewrites D.Disk oldest (ChangesDefinitions (listing_of catalog.now)) (listing_of catalog.now) result pager.old pager.new file.old file.new }
-    ensures shut { pager.new.is_begun ≡ false }
-    ensures most_clean { pager.new.most_clean ≡ pager.old.most_clean }
+    ensures { Rewrites P.is_tied P.store P.keeps oldest (ChangesDefinitions (listing_of catalog.now)) (listing_of catalog.now) result pages.old pages.new file.old file.new }
 {
     let definitions = stored_of(alloc, catalog)?;
-    rewrite(alloc, pager, file, oldest, definitions)
+    rewrite(alloc, pages, file, oldest, definitions)
 }
 
 /// Writes these definitions into the file, which has the same tables and indexes. It is refused as `write_definitions_of` is.
-pub(crate) fn rewrite<D: Disk>(
+pub(crate) fn rewrite<P: Pages>(
     alloc: Global,
-    pager: &mut Pager<D>,
+    pages: &mut P,
     file: &mut OpenedFile,
     oldest: u64,
     definitions: StoredCatalogue,
 ) -> Result<(), Refusal>
-    requires shut { pager.old.is_begun ≡ false }
+    requires begun { (P.store pages.old).is_begun ≡ true }
     requires may { MayChange file.old }
-    requires committed { IsCommitted file.old }
     requires room { file.old.accepted < CHANGES }
     requires tables { HasTablesOf (said_catalogue file.old.definitions) (said_catalogue definitions) }
     requires births { AllByRecursion (λ route. route.born ≤ file.old.accepted + 1) (said_catalogue definitions).routes }
-    ensures rewrites { Rewrites D.Disk oldest (ChangesDefinitions (said_catalogue definitions)) (said_catalogue definitions) result pager.old pager.new file.old file.new }
-    ensures shut { pager.new.is_begun ≡ false }
-    ensures most_clean { pager.new.most_clean ≡ pager.old.most_clean }
+    ensures { Rewrites P.is_tied P.store P.keeps oldest (ChangesDefinitions (said_catalogue definitions)) (said_catalogue definitions) result pages.old pages.new file.old file.new }
 {
-    kept_change_gives_its_state::<D>();
     check_definitions(&definitions)?;
-    pager.begin()?;
-    let made = redefine(alloc, pager, file, oldest, definitions);
-    settle(pager, file, made)
+    redefine(alloc, pages, file, oldest, definitions)
 }
 
 /// Whether a name is this text.

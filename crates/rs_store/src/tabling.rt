@@ -4,23 +4,24 @@ ghost use Rattle.std.specs.Prelude.{◌≡◌, ◌≤◌, ◌<◌, ◌+◌, ℕ,
 ghost use Rattle.std.specs.FinMap as names;
 ghost use Rattle.std.specs.List.{AllByRecursion};
 ghost use Rattle.rs_catalog.specs.Changes as changes;
+ghost use Rattle.rs_catalog.specs.Definitions.{AreDefinitions, IsFree, TableItem};
 ghost use Rattle.rs_catalog_pages.specs.Said.{said_catalogue};
 ghost use Rattle.rs_stored_catalog.specs.Listing.{listing_of};
-ghost use Rattle.rs_file_parts.specs.Parts.{IsCommitted};
 ghost use Rattle.rs_machine.specs.Lawful.{AreColumnsOfTable, IsLawful};
 ghost use Rattle.rs_machine.specs.State.{State, has};
 ghost use Rattle.rs_machine.specs.Step.{empty_table, with_table, without_table};
 ghost use Rattle.rs_machine.specs.declared.limits.TheConstants.{CHANGES, TABLES};
 ghost use Rattle.rs_changes.specs.Calls.{MayChange};
-ghost use Rattle.rs_store.specs.Changing.{HasBecome, LeavesStore};
-ghost use Rattle.rs_store.specs.Kept.{IsAtRest, StandsIn};
-ghost use Rattle.rs_store.specs.Rewriting.{Rewrites};
+ghost use Rattle.rs_store.specs.Bracket.{StandsNext};
+ghost use Rattle.rs_store.specs.Changing.{LeavesStore};
+ghost use Rattle.rs_store.specs.Kept.{IsAtRest};
+ghost use Rattle.rs_store.specs.Rewriting.{Redefines, RedefinesNumbered, Rewrites};
 ghost use Rattle.rs_store.specs.Tabling.{HasColumnsAt, HasNumbered, HasNumberedMore, PutsNumbered, TakesNamed, without_number};
 ghost use Rattle.rs_syntax.specs.View.{column_tree};
 
+use crate::bracket::{begin_change, kept_change_gives_its_state, settle};
 use crate::placing::{numbered_at, table_place};
 use crate::rewriting::check_definitions;
-use crate::settling::{kept_change_gives_its_state, settle};
 use crate::store::Store;
 use rs_catalog::Catalog;
 use rs_catalog_pages::{StoredCatalogue, StoredTable};
@@ -30,7 +31,7 @@ use rs_file::laws::tables_of_lines_fit_pages;
 use rs_file::{OpenedFile, schema_of};
 use rs_machine_laws::view_lines::shortest_line_defines_the_view;
 use rs_methods::Name;
-use rs_pager::Pager;
+use rs_pages::Pages;
 use rs_refusal::Refusal;
 use rs_stored_catalog::listing_laws::one_table_is_listed_more_or_less;
 use rs_stored_catalog::stored_of;
@@ -55,30 +56,27 @@ impl<D: Disk> Store<D> {
         requires few { names.len self.old.catalog.tables < TABLES }
         requires room { self.old.file.accepted < CHANGES }
         ensures leaves { LeavesStore D.Disk (λ (state : State). IsLawful (with_table state name.bytes (empty_table kind (map column_tree columns.items)))) result self.old self.new }
-        ensures defines { (from : ℕ) (state : State) (stands : StandsIn D.Disk from self.old state) → from ≤ oldest → oldest ≤ self.old.file.accepted + 1
-            → IsLawful (with_table state name.bytes (empty_table kind (map column_tree columns.items)))
-            → OnOk result (HasBecome D.Disk oldest stands.contents self.new (with_table state name.bytes (empty_table kind (map column_tree columns.items)))) }
+        ensures defines { StandsNext D.Disk oldest (λ (state : State). IsLawful (with_table state name.bytes (empty_table kind (map column_tree columns.items))))
+            (λ state. with_table state name.bytes (empty_table kind (map column_tree columns.items))) result self.old self.new }
     {
+        kept_change_gives_its_state::<D>();
         table_defined_gives_its_state();
-        one_table_is_listed_more_or_less();
         shortest_line_defines_the_view();
-        tables_of_lines_fit_pages();
-        self.mark()?;
         self.catalog.stand();
-        let number = self.catalog.define_table(name, kind, columns)?;
-        self.catalog.stand();
-        let made = write_table(
+        begin_change(&mut self.pager, &mut self.is_marked)?;
+        let made = define_table_in_both(
             alloc,
             &mut self.pager,
             &mut self.file,
-            &self.catalog,
+            &mut self.catalog,
             oldest,
-            number,
+            TableDefinition {
+                kind,
+                name,
+                columns,
+            },
         );
-        if made.is_err() {
-            self.catalog.drop_table(&name);
-        }
-        made
+        settle(&mut self.pager, &mut self.file, made)
     }
 
     /// Drops a table with its rows and its indexes, where no version before the next one is live. It is refused as `define_table` is.
@@ -86,57 +84,117 @@ impl<D: Disk> Store<D> {
         requires there { has self.old.catalog.tables name.now.bytes ≡ true }
         requires room { self.old.file.accepted < CHANGES }
         ensures leaves { LeavesStore D.Disk (λ (state : State). IsLawful (without_table state name.now.bytes)) result self.old self.new }
-        ensures drops { (from : ℕ) (state : State) (stands : StandsIn D.Disk from self.old state) → from ≤ oldest → oldest ≤ self.old.file.accepted + 1
-            → oldest ≡ self.old.file.accepted + 1 → IsLawful (without_table state name.now.bytes)
-            → OnOk result (HasBecome D.Disk oldest stands.contents self.new (without_table state name.now.bytes)) }
+        ensures drops { oldest ≡ self.old.file.accepted + 1 → StandsNext D.Disk oldest (λ (state : State). IsLawful (without_table state name.now.bytes))
+            (λ state. without_table state name.now.bytes) result self.old self.new }
     {
+        kept_change_gives_its_state::<D>();
         table_dropped_gives_its_state();
-        one_table_is_listed_more_or_less();
         shortest_line_defines_the_view();
-        self.mark()?;
         self.catalog.stand();
-        erase_table(
+        begin_change(&mut self.pager, &mut self.is_marked)?;
+        let made = drop_table_from_both(
             alloc,
             &mut self.pager,
             &mut self.file,
-            &self.catalog,
+            &mut self.catalog,
             oldest,
             name,
-        )?;
-        self.catalog.drop_table(name);
-        Ok(())
+        );
+        settle(&mut self.pager, &mut self.file, made)
     }
+}
+
+/// A table as a line defines it.
+#[derive(Drop)]
+struct TableDefinition {
+    kind: Kind,
+    name: Name,
+    columns: Vec<ColumnDefinition>,
+}
+
+/// Puts a new table into memory, under the least number that none has, and then into the file; where the file refuses it, it goes out of
+/// memory again.
+fn define_table_in_both<P: Pages>(
+    alloc: Global,
+    pages: &mut P,
+    file: &mut OpenedFile,
+    catalog: &mut Catalog,
+    oldest: u64,
+    table: TableDefinition,
+) -> Result<(), Refusal>
+    requires begun { (P.store pages.old).is_begun ≡ true }
+    requires rests { IsAtRest file.old catalog.old }
+    requires room { file.old.accepted < CHANGES }
+    requires new { has catalog.old.tables table.name.bytes ≡ false }
+    requires columns { AreColumnsOfTable (map column_tree table.columns.items) }
+    requires few { names.len catalog.old.tables < TABLES }
+    ensures { let next = λ (number : ℕ). changes.with_table catalog.old table.name.bytes (record { number = number; kind = table.kind; columns = map column_tree table.columns.items }) in
+        RedefinesNumbered P.is_tied P.store P.keeps oldest (λ number. AreDefinitions (next number) × IsFree (λ (item : TableItem). item.number) catalog.old.tables number
+        × HasNumberedMore number (said_catalogue file.old.definitions) (listing_of (next number)))
+        (λ number. PutsNumbered number (listing_of (next number))) next result pages.old pages.new file.old file.new catalog.old catalog.new }
+{
+    one_table_is_listed_more_or_less();
+    tables_of_lines_fit_pages();
+    let TableDefinition {
+        kind,
+        name,
+        columns,
+    } = table;
+    catalog.stand();
+    let number = catalog.define_table(name, kind, columns)?;
+    catalog.stand();
+    let made = write_table(alloc, pages, file, catalog, oldest, number);
+    if made.is_err() {
+        catalog.drop_table(&name);
+    }
+    made
+}
+
+/// Takes a table out of the file and then out of memory; where the file refuses that, it stays in both.
+fn drop_table_from_both<P: Pages>(
+    alloc: Global,
+    pages: &mut P,
+    file: &mut OpenedFile,
+    catalog: &mut Catalog,
+    oldest: u64,
+    name: &Name,
+) -> Result<(), Refusal>
+    requires begun { (P.store pages.old).is_begun ≡ true }
+    requires rests { IsAtRest file.old catalog.old }
+    requires room { file.old.accepted < CHANGES }
+    requires there { has catalog.old.tables name.now.bytes ≡ true }
+    ensures { let next = changes.without_table catalog.old name.now.bytes in
+        Redefines P.is_tied P.store P.keeps oldest (TakesNamed catalog.old.tables name.now.bytes (listing_of next)) next result pages.old pages.new file.old file.new catalog.old catalog.new }
+{
+    catalog.stand();
+    erase_table(alloc, pages, file, catalog, oldest, name)?;
+    catalog.drop_table(name);
+    Ok(())
 }
 
 /// Writes the definitions of this catalogue into the file, which has all its tables but the one of this number, and puts that there. It
 /// is refused with 90, with 91, with 92 where the file is full, and with 94 where a file can't keep the definitions or the disk does not
 /// give back what was written.
-fn write_table<D: Disk>(
+fn write_table<P: Pages>(
     alloc: Global,
-    pager: &mut Pager<D>,
+    pages: &mut P,
     file: &mut OpenedFile,
     catalog: &Catalog,
     oldest: u64,
     number: u32,
 ) -> Result<(), Refusal>
-    requires shut { pager.old.is_begun ≡ false }
+    requires begun { (P.store pages.old).is_begun ≡ true }
     requires may { MayChange file.old }
-    requires committed { IsCommitted file.old }
     requires room { file.old.accepted < CHANGES }
     requires births { AllByRecursion (λ route. route.born ≤ file.old.accepted + 1) (listing_of catalog.now).routes }
     requires more { HasNumberedMore number (said_catalogue file.old.definitions) (listing_of catalog.now) }
-    ensures rewrites { Rewrites D.Disk oldest (PutsNumbered number (listing_of catalog.now)) (listing_of catalog.now) result pager.old pager.new file.old file.new }
-    ensures shut { pager.new.is_begun ≡ false }
-    ensures most_clean { pager.new.most_clean ≡ pager.old.most_clean }
+    ensures { Rewrites P.is_tied P.store P.keeps oldest (PutsNumbered number (listing_of catalog.now)) (listing_of catalog.now) result pages.old pages.new file.old file.new }
 {
-    kept_change_gives_its_state::<D>();
     catalog.stand();
     let stored = stored_of(alloc, catalog)?;
     check_definitions(&stored)?;
     let (place, schema) = columns_at(stored.tables.as_slice(), number);
-    pager.begin()?;
-    let made = rs_changes::define_table(alloc, pager, file, oldest, stored, place, schema);
-    settle(pager, file, made)
+    rs_changes::define_table(alloc, pages, file, oldest, stored, place, schema)
 }
 
 /// The place of the table of this number, which is one of these, and its columns.
@@ -150,33 +208,28 @@ fn columns_at(tables: &[StoredTable], number: u32) -> (usize, Schema)
 
 /// Takes the table of this name out of the file, whose definitions this catalogue lists, and writes those without it. It is refused as
 /// `write_table` is.
-fn erase_table<D: Disk>(
+fn erase_table<P: Pages>(
     alloc: Global,
-    pager: &mut Pager<D>,
+    pages: &mut P,
     file: &mut OpenedFile,
     catalog: &Catalog,
     oldest: u64,
     name: &Name,
 ) -> Result<(), Refusal>
-    requires shut { pager.old.is_begun ≡ false }
+    requires begun { (P.store pages.old).is_begun ≡ true }
     requires rests { IsAtRest file.old catalog.now }
     requires room { file.old.accepted < CHANGES }
     requires there { has catalog.now.tables name.now.bytes ≡ true }
-    ensures rewrites { Rewrites D.Disk oldest (TakesNamed catalog.now.tables name.now.bytes (listing_of (changes.without_table catalog.now name.now.bytes)))
-        (listing_of (changes.without_table catalog.now name.now.bytes)) result pager.old pager.new file.old file.new }
-    ensures shut { pager.new.is_begun ≡ false }
-    ensures most_clean { pager.new.most_clean ≡ pager.old.most_clean }
+    ensures { let items = listing_of (changes.without_table catalog.now name.now.bytes) in
+        Rewrites P.is_tied P.store P.keeps oldest (TakesNamed catalog.now.tables name.now.bytes items) items result pages.old pages.new file.old file.new }
 {
-    kept_change_gives_its_state::<D>();
     one_table_is_listed_more_or_less();
     catalog.stand();
     let number = catalog.table(name).unwrap().number();
     let stored = stored_without_table(alloc, catalog, number)?;
     check_definitions(&stored)?;
     let place = table_place(file, catalog, name);
-    pager.begin()?;
-    let made = rs_changes::drop_table(alloc, pager, file, oldest, stored, place);
-    settle(pager, file, made)
+    rs_changes::drop_table(alloc, pages, file, oldest, stored, place)
 }
 
 /// The definitions of the catalogue as a file keeps them, without the table of this number and its indexes. The only refusal is for want

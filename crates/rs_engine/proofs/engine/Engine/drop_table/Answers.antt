@@ -50,9 +50,9 @@ returns g c =
       serves = λ machine here. change_made c.accepted_step_leaves_the_state_lawful.ensures g.D.Disk c.stores_have_their_laws.ensures old c.args.self.now c.self.view_is
           c.checks.result c.checks.ensures machine here (tree.drop_table name) c.requires.sound (next_of name) (is_step name) 0 c.in_ok-check_old_table.ensures.accepted
           (λ (state : State). IsLawful (next_of name state)) (record { store = c.drop_table.new.self; oldest = c.oldest-oldest.result; cursors = old.cursors }) c.in_ok-drop_table.field-0 c.in_ok-drop_table.ensures.leaves
-          c.oldest-oldest.result (refl, refl) c.oldest-oldest.ensures (λ is known low high level lawful. c.in_ok-drop_table.ensures.drops old.oldest is.state is.stands low high
+          c.oldest-oldest.result (refl, refl) c.oldest-oldest.ensures (λ is known low high level lawful. c.in_ok-drop_table.ensures.drops
           (level (none_waits_for_table machine.state name (counted 0 (next_of name machine.state))
           (found c.accepted_step_leaves_the_state_lawful.ensures g.D.Disk c.stores_have_their_laws.ensures old c.args.self.now c.self.view_is c.checks.result c.checks.ensures machine here (tree.drop_table name)
-          (λ (state : State). table_dropped state name ≡ Ok (counted 0 (next_of name state))) c.in_ok-check_old_table.ensures.accepted))) lawful);
+          (λ (state : State). table_dropped state name ≡ Ok (counted 0 (next_of name state))) c.in_ok-check_old_table.ensures.accepted))) old.oldest is.state is.stands low high lawful);
       leaves = leaves_made g.D.Disk c.self.view_is refl;
     }

@@ -73,8 +73,8 @@ returns g c =
           made_at laws g.D.Disk states old c.args.self.now c.self.view_is c.checks.result c.checks.ensures machine here (tree.drop_route name) c.requires.sound (next_of name) (is_step name) 0 out
           (λ (state : State). HasNoFactOn name state × IsLawful (next_of name state)) (record { store = c.drop_route.new.self; oldest = c.oldest-oldest.result; cursors = old.cursors }) c.in_ok-drop_route.field-0
           c.in_ok-drop_route.ensures.leaves c.oldest-oldest.result (refl, refl) c.oldest-oldest.ensures
-          (λ is known low high level lawful. c.in_ok-drop_route.ensures.drops old.oldest is.state is.stands low high
-          (level (none_waits_for_route machine.state name (counted 0 (next_of name machine.state)) out))
-          (none_on g.D.Disk old machine is name c.args.has_facts tells c.in_ok-check_old_route.ensures.no_facts) lawful);
+          (λ is known low high level lawful. c.in_ok-drop_route.ensures.drops
+          (level (none_waits_for_route machine.state name (counted 0 (next_of name machine.state)) out)) old.oldest is.state is.stands low high
+          (none_on g.D.Disk old machine is name c.args.has_facts tells c.in_ok-check_old_route.ensures.no_facts, lawful));
       leaves = leaves_made g.D.Disk c.self.view_is refl;
     }

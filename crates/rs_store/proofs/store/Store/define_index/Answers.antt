@@ -1,206 +1,115 @@
--- The index goes into memory, and then into the file or out of memory again.
-use Rattle.std.proofs.Common.{◌≡◌, ◌≤◌, ◌<◌, ◌+◌, ◌∙◌, ℕ, Result, Some, ap, false, refl, subst, sym, true, arith, inl}
-use Rattle.std.specs.FinMap as names
-use Rattle.std.specs.List.{AllByRecursion}
-use Rattle.std.specs.Result.{is_err}
+-- The index is in the file and in memory, and so it is in the state.
+use Rattle.std.proofs.Common.{◌≡◌, ◌<◌, ◌∙◌, ℕ, Err, ap, false, is_some, refl, subst, sym}
 use Rattle.rs_catalog.specs.Changes as changes
-use Rattle.rs_catalog.specs.Definitions.{Definitions, IndexItem, IsColumnOf}
-use Rattle.rs_catalog_pages.specs.Items.{CatalogueItems, RouteItem}
-use Rattle.rs_catalog_pages.specs.Said.{said_catalogue}
-use Rattle.rs_machine.specs.Lawful.{AreColumnsOfTable, Each, IsLawful}
+use Rattle.rs_catalog.specs.Definitions.{AreDefinitions, Definitions, IndexItem, IsColumnOf}
+use Rattle.rs_catalog.specs.Referents.{referents_on}
+use Rattle.rs_machine.specs.Lawful.{IsLawful}
 use Rattle.rs_machine.specs.State.{State, has}
 use Rattle.rs_machine.specs.Step.{with_index}
-use Rattle.rs_store.specs.Calls.{KeepsStore}
-use Rattle.rs_store.specs.Indexing.{HasIndexListed}
-use Rattle.rs_store.specs.Kept.{IsAtRest, StoreState}
-use Rattle.rs_store.specs.Rewriting.{GoesOn, WhereKept}
+use Rattle.rs_machine.specs.declared.limits.TheConstants.{CHANGES, INDEXES}
+use Rattle.rs_store.proofs.IndexStates.{IndexesGive, index_gives, indexes_kept}
+use Rattle.rs_store.proofs.Results.{err_always, ok_always}
+use Rattle.rs_store.specs.Bracket.{StandsNext}
+use Rattle.rs_store.specs.Changing.{LeavesStore}
+use Rattle.rs_store.specs.Indexing.{ChangesListed}
+use Rattle.rs_store.specs.Kept.{StoreState}
+use Rattle.rs_store.specs.Settling.{HasBegun}
 use Rattle.rs_stored_catalog.specs.Listing.{listing_of}
-use Rattle.rs_store.proofs.Given.{given_once}
-use Rattle.rs_store.proofs.IndexStates.{index_back, index_gives, index_has, index_there, indexes_kept}
-use Rattle.rs_store.proofs.Indexed.{index_listed}
-use Rattle.rs_store.proofs.Keeping.{store_over}
-use Rattle.rs_store.proofs.Redefined.{err_never, left_where}
-use Rattle.rs_store.proofs.Results.{err_always}
-use Rattle.rs_store.proofs.TableMore.{of_made, of_refused}
-use Rattle.rs_pager.specs.Maps.{KeepsChanges}
 use Rattle.std.proofs.lemmas.Result.{err_from_is_err_and}
-use Rattle.rs_store.proofs.Settled.{left_unbegun}
-use Rattle.rs_refusal.specs.declared.refusal.Refusal.TheVariants as refusal
-use Rattle.rs_store.proofs.Rewritten.{left_unmade}
+use Rattle.std.specs.FinMap as names
+use Rattle.rs_store.proofs.Changed.{given_so, redefined_becomes, redefined_left, redefined_rests}
+use Rattle.rs_store.proofs.Keeping.{store_over}
+use Rattle.rs_store.proofs.Settled.{has_begun, left_unbegun}
+use Rattle.rs_store.proofs.store.Store.define_index.Given.{Over}
 use Rattle.rs_store.proofs.store.Store.define_index.Goals as goal
 
-pub write_index-made-requires-clause-more : goal.write_index-made-requires-clause-more
-write_index-made-requires-clause-more g c = λ one there.
-    let d = g.D.Disk in
-    let old = c.args.self.now in
-    let was = c.self.inside in
-    let name = c.args.name.bytes in
-    let item : IndexItem = record { number = c.in_ok-define_index.field-0; table = c.args.table.bytes; table_number = c.args.table_number; column = c.args.column } in
-    let listed : was.catalog ≡ old.catalog = ap (λ (s : StoreState g.row.D.Denot). s.catalog) c.self.view_is ∙ c.mark.ensures.keeps.catalog in
-    let new : has was.catalog.indexes name ≡ false = ap (λ (k : Definitions). has k.indexes name) listed ∙ c.requires.new in
-    let added = c.define_index.new.self in
-    let is : added ≡ changes.with_index was.catalog name item = c.in_ok-define_index.ensures.ok in
-    let of : IsColumnOf was.catalog.tables c.args.table.bytes c.args.table_number c.args.column =
-    subst (λ (k : Definitions). IsColumnOf k.tables c.args.table.bytes c.args.table_number c.args.column) (sym listed) c.requires.of in
-    let placed = (c.table_place-place.ensures of.table of.there).numbered in
-    let same : item ≡ one = index_there was.catalog added name item one is there in
-    subst (λ (x : IndexItem). HasIndexListed name x c.table_place-place.result (said_catalogue was.file.definitions) (listing_of added)) same
-    (index_listed c.tables_of_lines_fit_pages.ensures.index was.catalog added (said_catalogue was.file.definitions) name item c.table_place-place.result c.stand-2.ensures c.self.invariant.rests.listing is
-    (c.one_index_is_listed_more_or_less.ensures.more was.catalog name item new) of (c.self.invariant.rests.columns c.args.table.bytes of.table of.there) placed
-    (given_once was.catalog c.stand.ensures).tables_once)
+module _ (g : Over) (c : goal.After-settle g) where
+  abbrev was : StoreState g.row.D.Denot
+  was = store_over g.D.Disk c.self.inside.pager c.self.inside.file c.self.inside.catalog c.self.inside.referents c.self.inside.is_marked
 
-pub write_index-made-requires-clause-there : goal.write_index-made-requires-clause-there
-write_index-made-requires-clause-there g c = index_has c.self.inside.catalog c.define_index.new.self c.args.name.bytes
-    (record { number = c.in_ok-define_index.field-0; table = c.args.table.bytes; table_number = c.args.table_number; column = c.args.column }) c.in_ok-define_index.ensures.ok
+  begun : HasBegun g.D.Disk was (store_over g.D.Disk c.begin_change.new.pager was.file was.catalog was.referents c.begin_change.new.is_marked)
+  begun = has_begun g.D.Disk was c.begin_change.new.pager c.begin_change.new.is_marked c.in_ok-begin_change.ensures.begins
 
-pub invariant_of-self-then-is_err : goal.invariant_of-self-then-is_err
-invariant_of-self-then-is_err g c =
-    let d = g.D.Disk in
-    let old = c.args.self.now in
-    let was = c.self.inside in
-    let name = c.args.name.bytes in
-    let item : IndexItem = record { number = c.in_ok-define_index.field-0; table = c.args.table.bytes; table_number = c.args.table_number; column = c.args.column } in
-    let listed : was.catalog ≡ old.catalog = ap (λ (s : StoreState g.row.D.Denot). s.catalog) c.self.view_is ∙ c.mark.ensures.keeps.catalog in
-    let new : has was.catalog.indexes name ≡ false = ap (λ (k : Definitions). has k.indexes name) listed ∙ c.requires.new in
-    let added = c.define_index.new.self in
-    let is : added ≡ changes.with_index was.catalog name item = c.in_ok-define_index.ensures.ok in
-    let file = c.write_index-made.new.file in
-    let last = c.write_index-made.new.pager in
-    let result = c.write_index-made.result in
-    let columns : Each added.tables (λ n table. AreColumnsOfTable table.columns) =
-    subst (λ (k : Definitions). Each k.tables (λ n table. AreColumnsOfTable table.columns)) (sym is) c.self.invariant.rests.columns in
-    let rests = c.write_index-made.ensures.rewrites.rests was.catalog added c.self.invariant.rests refl columns in
-    let back : c.drop_index.new.self ≡ was.catalog = c.drop_index.ensures ∙ index_back was.catalog added name item new is in
-    let refused : is_err result ≡ true = sym c.is_err.ensures.value ∙ c.if-is_err.true in
+  room : was.file.accepted < CHANGES
+  room = subst (λ (s : StoreState g.row.D.Denot). s.file.accepted < CHANGES) (sym c.self.view_is) c.requires.room
+
+  abbrev number : ℕ
+  number = c.define_index_in_both-made.ensures.number
+
+  abbrev item : IndexItem
+  item = record { number = number; table = c.args.table.bytes; table_number = c.args.table_number; column = c.args.column }
+
+  abbrev next : Definitions
+  next = changes.with_index was.catalog c.args.name.bytes item
+
+  abbrev after : State → State
+  after state = with_index state c.args.name.bytes (record { table = c.args.table.bytes; column = c.args.column })
+
+  abbrev may : State → Type 0
+  may state = IsLawful (after state)
+
+  of : IsColumnOf was.catalog.tables c.args.table.bytes c.args.table_number c.args.column
+  of = subst (λ (s : StoreState g.row.D.Denot). IsColumnOf s.catalog.tables c.args.table.bytes c.args.table_number c.args.column) (sym c.self.view_is) c.requires.of
+
+  gives : AreDefinitions next → IndexesGive g.D.Disk was next after
+  gives are = index_gives g.D.Disk was room c.index_listed_gives_its_state.ensures.defined c.args.name.bytes item next refl are
+      (ap (λ (s : StoreState g.row.D.Denot). has s.catalog.indexes c.args.name.bytes) c.self.view_is ∙ c.requires.new)
+
+  abbrev now : StoreState g.row.D.Denot
+  now = store_over g.D.Disk c.settle.new.pager c.settle.new.file c.define_index_in_both-made.new.catalog was.referents c.begin_change.new.is_marked
+
+pub invariant_of-self-2 : goal.invariant_of-self-2
+invariant_of-self-2 g c =
+    let made = c.define_index_in_both-made in
+    let redefines = c.define_index_in_both-made.ensures.redefines in
     record {
-      shut = c.write_index-made.ensures.shut;
-      narrow = c.write_index-made.ensures.most_clean ∙ c.self.invariant.narrow;
-      rests = subst (λ (k : Definitions). IsAtRest file k) (sym back) (of_refused (IsAtRest file added) result refused rests);
+      shut = c.settle.ensures.shut;
+      narrow = c.settle.ensures.most_clean ∙ redefines.rewrites.below.most_clean ∙ c.begin_change.ensures.most_clean ∙ c.self.invariant.narrow;
+      rests = redefined_rests g.D.Disk (was g c) c.begin_change.new.pager made.new.pages c.settle.new.pager made.new.file c.settle.new.file c.begin_change.new.is_marked (begun g c)
+          c.args.oldest (ChangesListed (listing_of (next g c))) (next g c) made.result made.new.catalog redefines c.settle.ensures.settles c.self.invariant.rests (room g c) c.self.invariant.rests.columns;
     }
 
-pub invariant_of-self-else-is_err : goal.invariant_of-self-else-is_err
-invariant_of-self-else-is_err g c =
-    let d = g.D.Disk in
-    let old = c.args.self.now in
-    let was = c.self.inside in
-    let name = c.args.name.bytes in
-    let item : IndexItem = record { number = c.in_ok-define_index.field-0; table = c.args.table.bytes; table_number = c.args.table_number; column = c.args.column } in
-    let listed : was.catalog ≡ old.catalog = ap (λ (s : StoreState g.row.D.Denot). s.catalog) c.self.view_is ∙ c.mark.ensures.keeps.catalog in
-    let new : has was.catalog.indexes name ≡ false = ap (λ (k : Definitions). has k.indexes name) listed ∙ c.requires.new in
-    let added = c.define_index.new.self in
-    let is : added ≡ changes.with_index was.catalog name item = c.in_ok-define_index.ensures.ok in
-    let file = c.write_index-made.new.file in
-    let last = c.write_index-made.new.pager in
-    let result = c.write_index-made.result in
-    let columns : Each added.tables (λ n table. AreColumnsOfTable table.columns) =
-    subst (λ (k : Definitions). Each k.tables (λ n table. AreColumnsOfTable table.columns)) (sym is) c.self.invariant.rests.columns in
-    let rests = c.write_index-made.ensures.rewrites.rests was.catalog added c.self.invariant.rests refl columns in
-    let made : is_err result ≡ false = sym c.is_err.ensures.value ∙ c.if-is_err.false in
-    record { shut = c.write_index-made.ensures.shut; narrow = c.write_index-made.ensures.most_clean ∙ c.self.invariant.narrow; rests = of_made (IsAtRest file was.catalog) result made rests }
+pub returns-clause-leaves : goal.returns-clause-leaves
+returns-clause-leaves g c =
+    let made = c.define_index_in_both-made in
+    given_so (λ r s. LeavesStore g.D.Disk (may g c) r s (now g c)) made.result c.settle.result (was g c) c.args.self.now c.settle.ensures.same c.self.view_is
+    (redefined_left g.D.Disk (was g c) c.begin_change.new.pager made.new.pages c.settle.new.pager made.new.file c.settle.new.file c.begin_change.new.is_marked (begun g c) {may = may g c}
+    c.args.oldest (ChangesListed (listing_of (next g c))) (next g c) made.result made.new.catalog (was g c).referents c.define_index_in_both-made.ensures.redefines c.settle.ensures.settles (err_always {P = (route : ℕ) → referents_on (was g c).referents route ≡ referents_on (was g c).referents route} made.result (λ route. refl)) c.self.invariant.rests.committed
+    (λ is. indexes_kept g.D.Disk (was g c) (next g c) (after g c) (gives g c (made.ensures.numbered (λ none. absurd (cc (is, none))))) c.shortest_line_defines_the_view.ensures.readable c.table_place-place.result
+    (of g c).table.number (c.table_place-place.ensures (of g c).table (of g c).there).numbered))
 
-pub returns-then-is_err-clause-leaves : goal.returns-then-is_err-clause-leaves
-returns-then-is_err-clause-leaves g c =
-    let d = g.D.Disk in
-    let old = c.args.self.now in
-    let was = c.self.inside in
-    let name = c.args.name.bytes in
-    let item : IndexItem = record { number = c.in_ok-define_index.field-0; table = c.args.table.bytes; table_number = c.args.table_number; column = c.args.column } in
-    let listed : was.catalog ≡ old.catalog = ap (λ (s : StoreState g.row.D.Denot). s.catalog) c.self.view_is ∙ c.mark.ensures.keeps.catalog in
-    let new : has was.catalog.indexes name ≡ false = ap (λ (k : Definitions). has k.indexes name) listed ∙ c.requires.new in
-    let added = c.define_index.new.self in
-    let is : added ≡ changes.with_index was.catalog name item = c.in_ok-define_index.ensures.ok in
-    let file = c.write_index-made.new.file in
-    let last = c.write_index-made.new.pager in
-    let result = c.write_index-made.result in
-    let of : IsColumnOf was.catalog.tables c.args.table.bytes c.args.table_number c.args.column =
-    subst (λ (k : Definitions). IsColumnOf k.tables c.args.table.bytes c.args.table_number c.args.column) (sym listed) c.requires.of in
-    let placed = (c.table_place-place.ensures of.table of.there).numbered in
-    let back : c.drop_index.new.self ≡ was.catalog = c.drop_index.ensures ∙ index_back was.catalog added name item new is in
-    let at = store_over d was.pager was.file was.catalog was.referents was.is_marked in
-    let goes : GoesOn d old at = record {
-      keeps = subst (λ (s : StoreState g.row.D.Denot). KeepsStore d old s) (sym c.self.view_is) c.mark.ensures.keeps;
-      changes = subst (λ (s : StoreState g.row.D.Denot). KeepsChanges old.pager s.pager) (sym c.self.view_is) c.mark.ensures.changes;
-      failures = ap (λ (s : StoreState g.row.D.Denot). d.failures s.pager.disk) c.self.view_is ∙ c.in_ok-mark.ensures.count;
-    } in
-    let after : State → State = λ state. with_index state name (record { table = c.args.table.bytes; column = c.args.column }) in
-    let gives = index_gives d old at goes c.requires.room c.index_listed_gives_its_state.ensures.defined name item added is c.stand-2.ensures new in
-    let may : State → Type 0 = λ state. IsLawful (after state) in
-    left_where d {may = may} {other = WhereKept (listing_of added)} result old (store_over d last file c.drop_index.new.self was.referents was.is_marked)
-    (indexes_kept d old at goes added after gives c.shortest_line_defines_the_view.ensures.readable c.table_place-place.result of.table.number placed)
-    (c.write_index-made.ensures.rewrites.leaves old was.catalog c.drop_index.new.self was.referents was.referents was.is_marked goes (err_always result back) (err_always result refl))
+pub returns-clause-defines : goal.returns-clause-defines
+returns-clause-defines g c =
+    let made = c.define_index_in_both-made in
+    given_so (λ r s. StandsNext g.D.Disk c.args.oldest (may g c) (after g c) r s (now g c)) made.result c.settle.result (was g c) c.args.self.now c.settle.ensures.same c.self.view_is
+    (λ from state stands low high allowed. redefined_becomes g.D.Disk (was g c) c.begin_change.new.pager made.new.pages c.settle.new.pager made.new.file c.settle.new.file c.begin_change.new.is_marked (begun g c)
+    c.args.oldest (ChangesListed (listing_of (next g c))) (next g c) made.result made.new.catalog (was g c).referents c.define_index_in_both-made.ensures.redefines c.settle.ensures.settles c.kept_change_gives_its_state.ensures (room g c)
+    from state (after g c state) stands low high (λ some. ok_always made.result (gives g c (made.ensures.numbered some) from c.args.oldest state stands low allowed)) allowed.views)
 
-pub returns-else-is_err-clause-leaves : goal.returns-else-is_err-clause-leaves
-returns-else-is_err-clause-leaves g c =
-    let d = g.D.Disk in
-    let old = c.args.self.now in
-    let was = c.self.inside in
-    let name = c.args.name.bytes in
-    let item : IndexItem = record { number = c.in_ok-define_index.field-0; table = c.args.table.bytes; table_number = c.args.table_number; column = c.args.column } in
-    let listed : was.catalog ≡ old.catalog = ap (λ (s : StoreState g.row.D.Denot). s.catalog) c.self.view_is ∙ c.mark.ensures.keeps.catalog in
-    let new : has was.catalog.indexes name ≡ false = ap (λ (k : Definitions). has k.indexes name) listed ∙ c.requires.new in
-    let added = c.define_index.new.self in
-    let is : added ≡ changes.with_index was.catalog name item = c.in_ok-define_index.ensures.ok in
-    let file = c.write_index-made.new.file in
-    let last = c.write_index-made.new.pager in
-    let result = c.write_index-made.result in
-    let of : IsColumnOf was.catalog.tables c.args.table.bytes c.args.table_number c.args.column =
-    subst (λ (k : Definitions). IsColumnOf k.tables c.args.table.bytes c.args.table_number c.args.column) (sym listed) c.requires.of in
-    let placed = (c.table_place-place.ensures of.table of.there).numbered in
-    let made : is_err result ≡ false = sym c.is_err.ensures.value ∙ c.if-is_err.false in
-    let at = store_over d was.pager was.file was.catalog was.referents was.is_marked in
-    let goes : GoesOn d old at = record {
-      keeps = subst (λ (s : StoreState g.row.D.Denot). KeepsStore d old s) (sym c.self.view_is) c.mark.ensures.keeps;
-      changes = subst (λ (s : StoreState g.row.D.Denot). KeepsChanges old.pager s.pager) (sym c.self.view_is) c.mark.ensures.changes;
-      failures = ap (λ (s : StoreState g.row.D.Denot). d.failures s.pager.disk) c.self.view_is ∙ c.in_ok-mark.ensures.count;
-    } in
-    let after : State → State = λ state. with_index state name (record { table = c.args.table.bytes; column = c.args.column }) in
-    let gives = index_gives d old at goes c.requires.room c.index_listed_gives_its_state.ensures.defined name item added is c.stand-2.ensures new in
-    let may : State → Type 0 = λ state. IsLawful (after state) in
-    left_where d {may = may} {other = WhereKept (listing_of added)} result old (store_over d last file added was.referents was.is_marked)
-    (indexes_kept d old at goes added after gives c.shortest_line_defines_the_view.ensures.readable c.table_place-place.result of.table.number placed)
-    (c.write_index-made.ensures.rewrites.leaves old was.catalog added was.referents was.referents was.is_marked goes (err_never (added ≡ was.catalog) result made) (err_always result refl))
+pub define_index_in_both-made-requires-clause-new : goal.define_index_in_both-made-requires-clause-new
+define_index_in_both-made-requires-clause-new g c = ap (λ (s : StoreState g.row.D.Denot). has s.catalog.indexes c.args.name.bytes) c.self.view_is ∙ c.requires.new
 
-pub returns-else-is_err-clause-defines : goal.returns-else-is_err-clause-defines
-returns-else-is_err-clause-defines g c = λ from state stands low high lawful.
-    let d = g.D.Disk in
-    let old = c.args.self.now in
-    let was = c.self.inside in
-    let name = c.args.name.bytes in
-    let item : IndexItem = record { number = c.in_ok-define_index.field-0; table = c.args.table.bytes; table_number = c.args.table_number; column = c.args.column } in
-    let listed : was.catalog ≡ old.catalog = ap (λ (s : StoreState g.row.D.Denot). s.catalog) c.self.view_is ∙ c.mark.ensures.keeps.catalog in
-    let new : has was.catalog.indexes name ≡ false = ap (λ (k : Definitions). has k.indexes name) listed ∙ c.requires.new in
-    let added = c.define_index.new.self in
-    let is : added ≡ changes.with_index was.catalog name item = c.in_ok-define_index.ensures.ok in
-    let file = c.write_index-made.new.file in
-    let last = c.write_index-made.new.pager in
-    let result = c.write_index-made.result in
-    let at = store_over d was.pager was.file was.catalog was.referents was.is_marked in
-    let goes : GoesOn d old at = record {
-      keeps = subst (λ (s : StoreState g.row.D.Denot). KeepsStore d old s) (sym c.self.view_is) c.mark.ensures.keeps;
-      changes = subst (λ (s : StoreState g.row.D.Denot). KeepsChanges old.pager s.pager) (sym c.self.view_is) c.mark.ensures.changes;
-      failures = ap (λ (s : StoreState g.row.D.Denot). d.failures s.pager.disk) c.self.view_is ∙ c.in_ok-mark.ensures.count;
-    } in
-    let after : State → State = λ state. with_index state name (record { table = c.args.table.bytes; column = c.args.column }) in
-    let gives = index_gives d old at goes c.requires.room c.index_listed_gives_its_state.ensures.defined name item added is c.stand-2.ensures new in
-    c.write_index-made.ensures.rewrites.becomes old was.catalog added was.referents was.referents was.is_marked goes from state (after state) stands low high
-    (gives from c.args.oldest state stands low lawful) lawful.views
+pub define_index_in_both-made-requires-clause-few : goal.define_index_in_both-made-requires-clause-few
+define_index_in_both-made-requires-clause-few g c = subst (λ (s : StoreState g.row.D.Denot). names.len s.catalog.indexes < INDEXES) (sym c.self.view_is) c.requires.few
 
-pub returns-in_err-mark-clause-leaves : goal.returns-in_err-mark-clause-leaves
-returns-in_err-mark-clause-leaves g c =
+pub define_index_in_both-made-requires-clause-of : goal.define_index_in_both-made-requires-clause-of
+define_index_in_both-made-requires-clause-of g c =
+    subst (λ (s : StoreState g.row.D.Denot). IsColumnOf s.catalog.tables c.args.table.bytes c.args.table_number c.args.column) (sym c.self.view_is) c.requires.of
+
+pub table_place-place-requires-clause-there : goal.table_place-place-requires-clause-there
+table_place-place-requires-clause-there g c =
+    let of : IsColumnOf c.self.inside.catalog.tables c.args.table.bytes c.args.table_number c.args.column =
+    subst (λ (s : StoreState g.row.D.Denot). IsColumnOf s.catalog.tables c.args.table.bytes c.args.table_number c.args.column) (sym c.self.view_is) c.requires.of in
+    ap is_some of.there
+
+pub define_index_in_both-made-requires-clause-room : goal.define_index_in_both-made-requires-clause-room
+define_index_in_both-made-requires-clause-room g c = subst (λ (s : StoreState g.row.D.Denot). s.file.accepted < CHANGES) (sym c.self.view_is) c.requires.room
+
+pub returns-in_err-begin_change-clause-leaves : goal.returns-in_err-begin_change-clause-leaves
+returns-in_err-begin_change-clause-leaves g c =
+    let at = store_over g.D.Disk c.self.inside.pager c.self.inside.file c.self.inside.catalog c.self.inside.referents c.self.inside.is_marked in
+    let now = store_over g.D.Disk c.begin_change.new.pager at.file at.catalog at.referents c.begin_change.new.is_marked in
+    let may : State → Type 0 = λ state. IsLawful (with_index state c.args.name.bytes (record { table = c.args.table.bytes; column = c.args.column })) in
     let p = err_from_is_err_and c.from_residual.result c.from_residual.ensures.1 in
-    rw (p.1, p.2) (left_unbegun g.D.Disk c.in_err-mark.field-0.0 c.args.self.now c.mark.new.self c.mark.ensures.keeps c.mark.ensures.changes
-    c.in_err-mark.ensures.refused c.in_err-mark.ensures.count)
-
-pub returns-in_err-define_index-clause-leaves : goal.returns-in_err-define_index-clause-leaves
-returns-in_err-define_index-clause-leaves g c =
-    let d = g.D.Disk in
-    let old = c.args.self.now in
-    let was = c.self.inside in
-    let goes : GoesOn d old (store_over d was.pager was.file was.catalog was.referents was.is_marked) = record {
-      keeps = subst (λ (s : StoreState g.row.D.Denot). KeepsStore d old s) (sym c.self.view_is) c.mark.ensures.keeps;
-      changes = subst (λ (s : StoreState g.row.D.Denot). KeepsChanges old.pager s.pager) (sym c.self.view_is) c.mark.ensures.changes;
-      failures = ap (λ (s : StoreState g.row.D.Denot). d.failures s.pager.disk) c.self.view_is ∙ c.in_ok-mark.ensures.count;
-    } in
-    let p = err_from_is_err_and c.from_residual-in_err-define_index.result c.from_residual-in_err-define_index.ensures.1 in
-    rw (p.1, p.2) (left_unmade d refusal.OutOfMemory old (store_over d was.pager was.file c.define_index.new.self was.referents was.is_marked)
-    (subst (λ (k : Definitions). GoesOn d old (store_over d was.pager was.file k was.referents was.is_marked)) (sym c.in_err-define_index.ensures.err) goes) (inl refl))
+    rw (p.1, p.2) (subst (λ (s : StoreState g.row.D.Denot). LeavesStore g.D.Disk may {T = Unit {0}} (Err c.in_err-begin_change.field-0.0) s now) c.self.view_is
+    (left_unbegun g.D.Disk {may = may} {T = Unit {0}} c.in_err-begin_change.field-0.0 at c.begin_change.new.pager c.begin_change.new.is_marked c.in_err-begin_change.ensures.begins))

@@ -1,39 +1,42 @@
 -- The view is in the file and in memory, and so it is in the state.
-use Rattle.std.proofs.Common.{◌∙◌, ap, string_bytes, subst, sym}
+use Rattle.std.proofs.Common.{◌≡◌, ◌<◌, ◌∙◌, ℕ, Err, ap, false, refl, string_bytes, subst, sym}
 use Rattle.rs_catalog.specs.Changes as changes
-use Rattle.rs_catalog.specs.Definitions.{Definitions, ViewItem}
+use Rattle.rs_catalog.specs.Definitions.{Definitions}
+use Rattle.rs_catalog.specs.Referents.{referents_on}
 use Rattle.rs_file_meaning.specs.States.{HasLine}
+use Rattle.rs_file_parts.specs.Calls.{ChangesDefinitions}
 use Rattle.rs_machine.specs.Lawful.{IsLawful}
 use Rattle.rs_machine.specs.State.{State, has}
 use Rattle.rs_machine.specs.Step.{with_view}
-use Rattle.rs_pager.specs.Maps.{KeepsChanges, committed}
-use Rattle.rs_store.specs.Calls.{KeepsStore}
+use Rattle.rs_machine.specs.declared.limits.TheConstants.{CHANGES}
+use Rattle.rs_pager.specs.Maps.{committed}
+use Rattle.rs_store.proofs.Redefined.{Gives, given_kept, next_lives, stands_still}
+use Rattle.rs_store.proofs.Results.{err_always, ok_always}
+use Rattle.rs_store.specs.Bracket.{StandsNext}
+use Rattle.rs_store.specs.Changing.{LeavesStore}
 use Rattle.rs_store.specs.Kept.{StoreState}
-use Rattle.rs_store.specs.Rewriting.{GoesOn}
-use Rattle.rs_store.proofs.Keeping.{store_over}
-use Rattle.rs_store.proofs.Redefined.{Gives, become_redefined, left_redefined, next_lives, stands_still}
-use Rattle.rs_store.proofs.store.Store.define_view.Given.{Over}
-use Rattle.std.proofs.lemmas.Result.{err_from_is_err_and}
-use Rattle.rs_store.proofs.Settled.{left_unbegun}
-use Rattle.rs_store.proofs.store.Store.define_view.Goals as goal
+use Rattle.rs_store.specs.Settling.{HasBegun}
+use Rattle.rs_stored_catalog.specs.Listing.{listing_of}
 use Rattle.rs_syntax.specs.QueryView.{query_tree}
+use Rattle.std.proofs.lemmas.Result.{err_from_is_err_and}
+use Rattle.rs_store.proofs.Changed.{given_so, redefined_becomes, redefined_left, redefined_rests}
+use Rattle.rs_store.proofs.Keeping.{store_over}
+use Rattle.rs_store.proofs.Settled.{has_begun, left_unbegun}
+use Rattle.rs_store.proofs.store.Store.define_view.Given.{Over}
+use Rattle.rs_store.proofs.store.Store.define_view.Goals as goal
 
-module _ (g : Over) (c : goal.After-define_view_in_both g) where
+module _ (g : Over) (c : goal.After-settle g) where
   abbrev was : StoreState g.row.D.Denot
   was = store_over g.D.Disk c.self.inside.pager c.self.inside.file c.self.inside.catalog c.self.inside.referents c.self.inside.is_marked
 
-  goes : GoesOn g.D.Disk c.args.self.now was
-  goes = record {
-    keeps = subst (λ (s : StoreState g.row.D.Denot). KeepsStore g.D.Disk c.args.self.now s) (sym c.self.view_is) c.mark.ensures.keeps;
-    changes = subst (λ (s : StoreState g.row.D.Denot). KeepsChanges c.args.self.now.pager s.pager) (sym c.self.view_is) c.mark.ensures.changes;
-    failures = ap (λ (s : StoreState g.row.D.Denot). g.D.Disk.failures s.pager.disk) c.self.view_is ∙ c.in_ok-mark.ensures.count;
-  }
+  begun : HasBegun g.D.Disk was (store_over g.D.Disk c.begin_change.new.pager was.file was.catalog was.referents c.begin_change.new.is_marked)
+  begun = has_begun g.D.Disk was c.begin_change.new.pager c.begin_change.new.is_marked c.in_ok-begin_change.ensures.begins
 
-  abbrev item : ViewItem
-  item = record { query = c.args.query; text = string_bytes c.args.text }
+  room : was.file.accepted < CHANGES
+  room = subst (λ (s : StoreState g.row.D.Denot). s.file.accepted < CHANGES) (sym c.self.view_is) c.requires.room
 
   abbrev next : Definitions
-  next = changes.with_view was.catalog c.args.name.bytes item
+  next = changes.with_view was.catalog c.args.name.bytes (record { query = c.args.query; text = string_bytes c.args.text })
 
   abbrev after : State → State
   after state = with_view state c.args.name.bytes (query_tree c.args.query)
@@ -41,24 +44,53 @@ module _ (g : Over) (c : goal.After-define_view_in_both g) where
   abbrev may : State → Type 0
   may state = HasLine c.args.name.bytes (query_tree c.args.query) (string_bytes c.args.text) × IsLawful (after state)
 
-  gives : Gives g.D.Disk c.args.self.now was goes next may after
+  gives : Gives g.D.Disk was next may after
   gives from oldest state stands low allowed part changed =
-      c.view_listed_gives_its_state.ensures.defined from oldest (committed g.D.Disk was.pager) was.file was.catalog was.referents state
-      (stands_still g.D.Disk c.args.self.now was goes from state stands) low (next_lives g.D.Disk c.args.self.now was goes from state stands c.requires.room) c.args.name.bytes item part
-      (ap (λ (k : Definitions). has k.views c.args.name.bytes) goes.keeps.catalog ∙ c.requires.new) allowed.0 changed allowed.1
+      c.view_listed_gives_its_state.ensures.defined from oldest (committed g.D.Disk was.pager) was.file was.catalog was.referents state (stands_still g.D.Disk was from state stands) low
+      (next_lives g.D.Disk was from state stands room) c.args.name.bytes (record { query = c.args.query; text = string_bytes c.args.text }) part
+      (ap (λ (s : StoreState g.row.D.Denot). has s.catalog.views c.args.name.bytes) c.self.view_is ∙ c.requires.new) allowed.0 changed allowed.1
+
+  abbrev now : StoreState g.row.D.Denot
+  now = store_over g.D.Disk c.settle.new.pager c.settle.new.file c.define_view_in_both-made.new.catalog was.referents c.begin_change.new.is_marked
+
+pub invariant_of-self-2 : goal.invariant_of-self-2
+invariant_of-self-2 g c =
+    let made = c.define_view_in_both-made in
+    let redefines = c.define_view_in_both-made.ensures in
+    record {
+      shut = c.settle.ensures.shut;
+      narrow = c.settle.ensures.most_clean ∙ redefines.rewrites.below.most_clean ∙ c.begin_change.ensures.most_clean ∙ c.self.invariant.narrow;
+      rests = redefined_rests g.D.Disk (was g c) c.begin_change.new.pager made.new.pages c.settle.new.pager made.new.file c.settle.new.file c.begin_change.new.is_marked (begun g c)
+          c.args.oldest (ChangesDefinitions (listing_of (next g c))) (next g c) made.result made.new.catalog redefines c.settle.ensures.settles c.self.invariant.rests (room g c) c.self.invariant.rests.columns;
+    }
 
 pub returns-clause-leaves : goal.returns-clause-leaves
 returns-clause-leaves g c =
-    left_redefined g.D.Disk c.args.self.now (was g c) (goes g c) c.define_view_in_both.new.pager c.define_view_in_both.new.file c.define_view_in_both.new.catalog (next g c) c.args.oldest
-    c.define_view_in_both.result c.define_view_in_both.ensures.redefines (may g c) (after g c) (gives g c) c.shortest_line_defines_the_view.ensures.readable
+    let made = c.define_view_in_both-made in
+    given_so (λ r s. LeavesStore g.D.Disk (may g c) r s (now g c)) made.result c.settle.result (was g c) c.args.self.now c.settle.ensures.same c.self.view_is
+    (redefined_left g.D.Disk (was g c) c.begin_change.new.pager made.new.pages c.settle.new.pager made.new.file c.settle.new.file c.begin_change.new.is_marked (begun g c) {may = may g c}
+    c.args.oldest (ChangesDefinitions (listing_of (next g c))) (next g c) made.result made.new.catalog (was g c).referents c.define_view_in_both-made.ensures c.settle.ensures.settles (err_always {P = (route : ℕ) → referents_on (was g c).referents route ≡ referents_on (was g c).referents route} made.result (λ route. refl)) c.self.invariant.rests.committed
+    (λ is. given_kept g.D.Disk (was g c) c.shortest_line_defines_the_view.ensures.readable (next g c) (may g c) (after g c) (gives g c)))
 
 pub returns-clause-defines : goal.returns-clause-defines
-returns-clause-defines g c = λ from state stands low high line lawful.
-    become_redefined g.D.Disk c.args.self.now (was g c) (goes g c) c.define_view_in_both.new.pager c.define_view_in_both.new.file c.define_view_in_both.new.catalog (next g c) c.args.oldest
-    c.define_view_in_both.result c.define_view_in_both.ensures.redefines (may g c) (after g c) (gives g c) from state stands low high (line, lawful) lawful.views
+returns-clause-defines g c =
+    let made = c.define_view_in_both-made in
+    given_so (λ r s. StandsNext g.D.Disk c.args.oldest (may g c) (after g c) r s (now g c)) made.result c.settle.result (was g c) c.args.self.now c.settle.ensures.same c.self.view_is
+    (λ from state stands low high allowed. redefined_becomes g.D.Disk (was g c) c.begin_change.new.pager made.new.pages c.settle.new.pager made.new.file c.settle.new.file c.begin_change.new.is_marked (begun g c)
+    c.args.oldest (ChangesDefinitions (listing_of (next g c))) (next g c) made.result made.new.catalog (was g c).referents c.define_view_in_both-made.ensures c.settle.ensures.settles c.kept_change_gives_its_state.ensures (room g c)
+    from state (after g c state) stands low high (λ some. ok_always made.result (λ part changed. gives g c from c.args.oldest state stands low allowed part changed)) allowed.1.views)
 
-pub returns-in_err-mark-clause-leaves : goal.returns-in_err-mark-clause-leaves
-returns-in_err-mark-clause-leaves g c =
+pub define_view_in_both-made-requires-clause-new : goal.define_view_in_both-made-requires-clause-new
+define_view_in_both-made-requires-clause-new g c = ap (λ (s : StoreState g.row.D.Denot). has s.catalog.views c.args.name.bytes) c.self.view_is ∙ c.requires.new
+
+pub define_view_in_both-made-requires-clause-room : goal.define_view_in_both-made-requires-clause-room
+define_view_in_both-made-requires-clause-room g c = subst (λ (s : StoreState g.row.D.Denot). s.file.accepted < CHANGES) (sym c.self.view_is) c.requires.room
+
+pub returns-in_err-begin_change-clause-leaves : goal.returns-in_err-begin_change-clause-leaves
+returns-in_err-begin_change-clause-leaves g c =
+    let at = store_over g.D.Disk c.self.inside.pager c.self.inside.file c.self.inside.catalog c.self.inside.referents c.self.inside.is_marked in
+    let now = store_over g.D.Disk c.begin_change.new.pager at.file at.catalog at.referents c.begin_change.new.is_marked in
+    let may : State → Type 0 = λ state. HasLine c.args.name.bytes (query_tree c.args.query) (string_bytes c.args.text) × IsLawful (with_view state c.args.name.bytes (query_tree c.args.query)) in
     let p = err_from_is_err_and c.from_residual.result c.from_residual.ensures.1 in
-    rw (p.1, p.2) (left_unbegun g.D.Disk c.in_err-mark.field-0.0 c.args.self.now c.mark.new.self c.mark.ensures.keeps c.mark.ensures.changes
-    c.in_err-mark.ensures.refused c.in_err-mark.ensures.count)
+    rw (p.1, p.2) (subst (λ (s : StoreState g.row.D.Denot). LeavesStore g.D.Disk may {T = Unit {0}} (Err c.in_err-begin_change.field-0.0) s now) c.self.view_is
+    (left_unbegun g.D.Disk {may = may} {T = Unit {0}} c.in_err-begin_change.field-0.0 at c.begin_change.new.pager c.begin_change.new.is_marked c.in_err-begin_change.ensures.begins))

@@ -1,144 +1,96 @@
--- The referent moves by a change of the file, which is kept or taken back, and then in memory.
-use Rattle.std.proofs.Common.{◌≡◌, ◌≤◌, ◌<◌, ◌+◌, ◌∙◌, ℕ, OnOk, Ok, Result, Some, ap, refl, subst, sym}
-use Rattle.std.specs.FinMap as names
-use Rattle.std.specs.declared.alloc.AllocError.{AllocError}
-use Rattle.std.proofs.lemmas.Result.{err_from_is_err_and}
-use Rattle.rs_catalog.specs.Definitions.{Definitions}
+-- The referent moves by a change of the file and of memory, which is kept or taken back.
+use Rattle.std.proofs.Common.{◌≡◌, ◌≤◌, ◌<◌, ◌+◌, ◌∙◌, ℕ, Err, Result, Some, ap, refl, subst, sym, true}
 use Rattle.rs_catalog.specs.Referents.{at_number, referents_on}
 use Rattle.rs_change_laws.specs.Changing.{ChangesFile}
 use Rattle.rs_change_laws.specs.Parts.{MovesReferent}
-use Rattle.rs_file.specs.declared.opened.OpenedFile.{OpenedFile}
+use Rattle.rs_machine.specs.Lawful.{IsLawful}
+use Rattle.rs_machine.specs.State.{State, has}
 use Rattle.rs_machine.specs.Step.{with_referents}
 use Rattle.rs_machine.specs.declared.limits.TheConstants.{CHANGES}
-use Rattle.rs_pager.specs.Maps.{KeepsChanges, working}
-use Rattle.rs_refusal.specs.Counts.{counted_on}
-use Rattle.rs_refusal.specs.declared.refusal.Refusal.{Refusal}
-use Rattle.rs_store.specs.Calls.{KeepsStore}
-use Rattle.rs_store.specs.Changing.{Always, LeavesStore}
-use Rattle.rs_store.specs.Kept.{StoreState}
-use Rattle.rs_store.specs.Settling.{IsKept, Settles}
+use Rattle.rs_pager.specs.Maps.{working}
+use Rattle.rs_store.proofs.Changed.{given_so}
 use Rattle.rs_store.proofs.Keeping.{store_over}
-use Rattle.rs_store.proofs.Results.{err_always}
-use Rattle.rs_store.proofs.Rows.{by_part, next_below}
-use Rattle.rs_store.proofs.Settled.{begins, begun_keeps, left_settled, left_unbegun, rests_settled, stands_at_first}
-use Rattle.rs_store.proofs.HeldChanges.{begins_with, changes-trans}
+use Rattle.rs_store.proofs.Rows.{by_part, made_both, next_below}
+use Rattle.rs_store.proofs.Settled.{has_begun, left_settled, left_unbegun, rests_settled, stands_at_first}
+use Rattle.rs_store.specs.Bracket.{StandsNext}
+use Rattle.rs_store.specs.Changing.{Always, HasBecome, LeavesStore}
+use Rattle.rs_store.specs.Kept.{StoreState}
+use Rattle.rs_store.specs.Settling.{HasBegun}
+use Rattle.std.proofs.lemmas.Result.{err_from_is_err_and}
+use Rattle.std.specs.FinMap as names
+use Rattle.std.specs.Prelude.{OnOk}
+use Rattle.rs_store.proofs.store.Store.move_referent.Given.{Over}
 use Rattle.rs_store.proofs.store.Store.move_referent.Goals as goal
 
-pub returns-in_err-begin-clause-leaves : goal.returns-in_err-begin-clause-leaves
-returns-in_err-begin-clause-leaves g c =
-    let d = g.D.Disk in
-    let old = c.args.self.now in
-    let was = c.self.inside in
-    let first = c.begin.new.self in
-    let kept = subst (λ (s : StoreState g.row.D.Denot). KeepsStore d old s) (sym c.self.view_is) c.mark.ensures.keeps in
-    let same = subst (λ (s : StoreState g.row.D.Denot). KeepsChanges old.pager s.pager) (sym c.self.view_is) c.mark.ensures.changes in
-    let failed : d.failures was.pager.disk ≡ d.failures old.pager.disk =
-    ap (λ (s : StoreState g.row.D.Denot). d.failures s.pager.disk) c.self.view_is ∙ c.in_ok-mark.ensures.count in
-    let p = err_from_is_err_and c.from_residual-in_err-begin.result c.from_residual-in_err-begin.ensures.1 in
-    rw (p.1, p.2) (left_unbegun d c.in_err-begin.field-0.0 old (store_over d first was.file was.catalog was.referents was.is_marked)
-    (begun_keeps d old was.pager first was.file was.catalog was.referents was.is_marked kept c.begin.ensures.keeps c.begin.ensures.masked)
-    (changes-trans old.pager was.pager first same c.in_err-begin.ensures.refused.0) c.in_err-begin.ensures.refusal (c.in_err-begin.ensures.count ∙ ap counted_on failed))
+module _ (g : Over) (c : goal.After-settle g) where
+  abbrev was : StoreState g.row.D.Denot
+  was = store_over g.D.Disk c.self.inside.pager c.self.inside.file c.self.inside.catalog c.self.inside.referents c.self.inside.is_marked
 
-pub move_referent-made-requires-clause-may : goal.move_referent-made-requires-clause-may
-move_referent-made-requires-clause-may g c =
-    let same : c.self.inside.file ≡ c.args.self.now.file = ap (λ (s : StoreState g.row.D.Denot). s.file) c.self.view_is ∙ c.mark.ensures.keeps.file in
-    record {
-      begun = c.in_ok-begin.ensures.begun;
-      opened = c.self.invariant.rests.may;
-      room = subst (λ (f : OpenedFile). f.accepted < CHANGES) (sym same) c.requires.room;
-    }
+  begun : HasBegun g.D.Disk was (store_over g.D.Disk c.begin_change.new.pager was.file was.catalog was.referents c.begin_change.new.is_marked)
+  begun = has_begun g.D.Disk was c.begin_change.new.pager c.begin_change.new.is_marked c.in_ok-begin_change.ensures.begins
 
-pub invariant_of-self-in_err-settle : goal.invariant_of-self-in_err-settle
-invariant_of-self-in_err-settle g c =
-    let was = c.self.inside in
-    let same : was.file ≡ c.args.self.now.file = ap (λ (s : StoreState g.row.D.Denot). s.file) c.self.view_is ∙ c.mark.ensures.keeps.file in
-    record {
-      shut = c.settle.ensures.shut;
-      narrow = c.settle.ensures.most_clean ∙ c.move_referent-made.ensures.leaves.keeps.most_clean ∙ c.begin.ensures.keeps.most_clean ∙ c.self.invariant.narrow;
-      rests = rests_settled g.D.Disk c.move_referent-made.result c.move_referent-made.new.pages c.settle.new.pager was.file c.move_referent-made.new.file c.settle.new.file was.catalog
-          c.self.invariant.rests (subst (λ (f : OpenedFile). f.accepted < CHANGES) (sym same) c.requires.room) c.move_referent-made.ensures.opened.next c.move_referent-made.ensures.opened.stays c.settle.ensures.settles;
-    }
+  room : was.file.accepted < CHANGES
+  room = subst (λ (s : StoreState g.row.D.Denot). s.file.accepted < CHANGES) (sym c.self.view_is) c.requires.room
 
-pub returns-in_err-settle-clause-leaves : goal.returns-in_err-settle-clause-leaves
-returns-in_err-settle-clause-leaves g c =
-    let d = g.D.Disk in
-    let old = c.args.self.now in
-    let was = c.self.inside in
-    let first = c.begin.new.self in
-    let between = c.move_referent-made.new.pages in
-    let changed = c.move_referent-made.new.file in
-    let last = c.settle.new.pager in
-    let settled = c.settle.new.file in
-    let result = c.move_referent-made.result in
-    let kept = subst (λ (s : StoreState g.row.D.Denot). KeepsStore d old s) (sym c.self.view_is) c.mark.ensures.keeps in
-    let same = subst (λ (s : StoreState g.row.D.Denot). KeepsChanges old.pager s.pager) (sym c.self.view_is) c.mark.ensures.changes in
-    let failed : d.failures was.pager.disk ≡ d.failures old.pager.disk =
-    ap (λ (s : StoreState g.row.D.Denot). d.failures s.pager.disk) c.self.view_is ∙ c.in_ok-mark.ensures.count in
-    let begun = begins d old was.pager first was.file was.catalog was.referents was.is_marked kept c.begin.ensures.keeps c.begin.ensures.masked failed c.in_ok-begin.ensures.count same
-    (begins_with d was.pager first c.in_ok-begin.ensures.few c.in_ok-begin.ensures.many c.begin.ensures.copies c.begin.ensures.same c.begin.ensures.keeps) in
-    let p = err_from_is_err_and c.from_residual-in_err-settle.result c.from_residual-in_err-settle.ensures.1 in
-    rw (p.1, p.2) (subst (λ (r : Result (Unit {0}) Refusal). LeavesStore d Always r old (store_over d last settled was.catalog was.referents was.is_marked)) (sym c.settle.ensures.same ∙ c.in_err-settle.was)
-    (left_settled d old first between last was.file changed settled was.catalog was.referents was.is_marked begun c.move_referent-made.ensures.leaves.keeps
-    result was.file.definitions was.catalog was.referents c.move_referent-made.ensures.leaves.stores c.move_referent-made.ensures.opened.next c.move_referent-made.ensures.opened.stays
-    c.self.invariant.rests.committed c.settle.ensures.settles (err_always result refl) (err_always result (λ route. refl))))
+  abbrev now : StoreState g.row.D.Denot
+  now = store_over g.D.Disk c.settle.new.pager c.settle.new.file was.catalog c.move_in_both-made.new.referents c.begin_change.new.is_marked
+
+pub move_in_both-made-requires-clause-may : goal.move_in_both-made-requires-clause-may
+move_in_both-made-requires-clause-may g c = record {
+  begun = c.in_ok-begin_change.ensures.begun;
+  opened = c.self.invariant.rests.may;
+  room = subst (λ (s : StoreState g.row.D.Denot). s.file.accepted < CHANGES) (sym c.self.view_is) c.requires.room;
+}
 
 pub invariant_of-self-2 : goal.invariant_of-self-2
 invariant_of-self-2 g c =
-    let was = c.self.inside in
-    let same : was.file ≡ c.args.self.now.file = ap (λ (s : StoreState g.row.D.Denot). s.file) c.self.view_is ∙ c.mark.ensures.keeps.file in
+    let made = c.move_in_both-made in
     record {
       shut = c.settle.ensures.shut;
-      narrow = c.settle.ensures.most_clean ∙ c.move_referent-made.ensures.leaves.keeps.most_clean ∙ c.begin.ensures.keeps.most_clean ∙ c.self.invariant.narrow;
-      rests = rests_settled g.D.Disk c.move_referent-made.result c.move_referent-made.new.pages c.settle.new.pager was.file c.move_referent-made.new.file c.settle.new.file was.catalog
-          c.self.invariant.rests (subst (λ (f : OpenedFile). f.accepted < CHANGES) (sym same) c.requires.room) c.move_referent-made.ensures.opened.next c.move_referent-made.ensures.opened.stays c.settle.ensures.settles;
+      narrow = c.settle.ensures.most_clean ∙ made.ensures.leaves.keeps.most_clean ∙ c.begin_change.ensures.most_clean ∙ c.self.invariant.narrow;
+      rests = rests_settled g.D.Disk made.result made.new.pages c.settle.new.pager (was g c).file made.new.file c.settle.new.file (was g c).catalog
+          c.self.invariant.rests (room g c) made.ensures.opened.next made.ensures.opened.stays c.settle.ensures.settles;
     }
 
+pub returns-clause-leaves : goal.returns-clause-leaves
+returns-clause-leaves g c =
+    let made = c.move_in_both-made in
+    given_so (λ r s. LeavesStore g.D.Disk Always r s (now g c)) made.result c.settle.result (was g c) c.args.self.now c.settle.ensures.same c.self.view_is
+    (left_settled g.D.Disk (was g c) c.begin_change.new.pager made.new.pages c.settle.new.pager (was g c).file made.new.file c.settle.new.file (was g c).catalog (was g c).referents c.begin_change.new.is_marked (begun g c) made.ensures.leaves.keeps
+    {may = Always} made.result (was g c).file.definitions made.new.referents made.ensures.leaves.stores made.ensures.opened.next made.ensures.opened.stays c.self.invariant.rests.committed
+    c.settle.ensures.settles made.ensures.back)
+
 pub returns-clause-moves : goal.returns-clause-moves
-returns-clause-moves g c = λ from state stands low high route on there numbered is lawful.
+returns-clause-moves g c = λ route on there numbered.
     let d = g.D.Disk in
-    let old = c.args.self.now in
-    let was = c.self.inside in
-    let first = c.begin.new.self in
-    let between = c.move_referent-made.new.pages in
-    let changed = c.move_referent-made.new.file in
-    let last = c.settle.new.pager in
-    let settled = c.settle.new.file in
-    let result = c.move_referent-made.result in
-    let kept = subst (λ (s : StoreState g.row.D.Denot). KeepsStore d old s) (sym c.self.view_is) c.mark.ensures.keeps in
-    let same = subst (λ (s : StoreState g.row.D.Denot). KeepsChanges old.pager s.pager) (sym c.self.view_is) c.mark.ensures.changes in
-    let failed : d.failures was.pager.disk ≡ d.failures old.pager.disk =
-    ap (λ (s : StoreState g.row.D.Denot). d.failures s.pager.disk) c.self.view_is ∙ c.in_ok-mark.ensures.count in
-    let begun = begins d old was.pager first was.file was.catalog was.referents was.is_marked kept c.begin.ensures.keeps c.begin.ensures.masked failed c.in_ok-begin.ensures.count same
-    (begins_with d was.pager first c.in_ok-begin.ensures.few c.in_ok-begin.ensures.many c.begin.ensures.copies c.begin.ensures.same c.begin.ensures.keeps) in
+    let made = c.move_in_both-made in
+    let first = c.begin_change.new.pager in
     let one = c.args.referent.now in
     let name = one.name.bytes in
-    let held = c.put.new.self in
-    let next = with_referents state route (names.insert (state.referents route) name one.measure) in
-    let made : result ≡ Ok c.in_ok-settle.field-0 = sym c.settle.ensures.same ∙ c.in_ok-settle.was in
-    let tied = (begun.keeps.contents stands.contents stands.keeps).tied in
-    let route_there : names.get was.catalog.routes route ≡ Some on = ap (λ (k : Definitions). names.get k.routes route) kept.catalog ∙ there in
-    let changes : ChangesFile c.args.oldest (working d first) (working d between) was.file changed (MovesReferent on.number name one.measure) =
-    subst (λ (n : ℕ). ChangesFile c.args.oldest (working d first) (working d between) was.file changed (MovesReferent n name one.measure)) (sym numbered)
-    (subst (λ (r : Result (Unit {0}) Refusal). OnOk r (ChangesFile c.args.oldest (working d first) (working d between) was.file changed (MovesReferent one.route name one.measure))) made
-    (c.move_referent-made.ensures.moves tied)) in
-    let keeps : IsKept d between last changed settled = subst (λ (r : Result (Unit {0}) Refusal). Settles d r between last changed settled) made c.settle.ensures.settles in
-    let put : referents_on held ≡ at_number one.route (names.insert (referents_on was.referents one.route) name one.measure) (referents_on was.referents) =
-    subst (λ (r : Result (Unit {0}) AllocError). OnOk r (referents_on held ≡ at_number one.route (names.insert (referents_on was.referents one.route) name one.measure) (referents_on was.referents)))
-    c.unwrap.ensures c.put.ensures.ok in
-    let moved : referents_on held ≡ at_number on.number (names.insert (referents_on was.referents on.number) name one.measure) (referents_on was.referents) =
-    subst (λ (n : ℕ). referents_on held ≡ at_number n (names.insert (referents_on was.referents n) name one.measure) (referents_on was.referents)) (sym numbered) put in
-    let below = c.move_referent-made.ensures.leaves.keeps in
-    let law = c.kept_change_gives_its_state.ensures in
-    by_part d old first between last was.file changed settled was.catalog was.referents was.is_marked begun below law from c.args.oldest state stands low high c.requires.room
-    was.catalog held next (MovesReferent on.number name one.measure) changes
-    (λ part moves. c.referent_moved_gives_its_state.ensures from c.args.oldest (working d first) was.file was.catalog was.referents held state
-    (stands_at_first d old first between last was.file changed settled was.catalog was.referents was.is_marked begun below from state stands) low
-    (next_below d old first between last was.file changed settled was.catalog was.referents was.is_marked begun below law from c.args.oldest state stands low high c.requires.room)
-    route name one.measure on part route_there is moved moves lawful)
-    lawful.views keeps
+    let held = made.new.referents in
+    let was = was g c in
+    let next : State → State = λ state. with_referents state route (names.insert (state.referents route) name one.measure) in
+    let route_there : names.get was.catalog.routes route ≡ Some on = ap (λ (s : StoreState g.row.D.Denot). names.get s.catalog.routes route) c.self.view_is ∙ there in
+    given_so (λ r s. StandsNext d c.args.oldest (λ (state : State). (has (state.referents route) name ≡ true) × IsLawful (next state)) next r s (now g c))
+    made.result c.settle.result was c.args.self.now c.settle.ensures.same c.self.view_is
+    (λ from state stands low high allowed.
+    made_both d (λ answer. ChangesFile c.args.oldest (working d first) (working d made.new.pages) was.file made.new.file (MovesReferent one.route name one.measure))
+    (λ answer. HasBecome d c.args.oldest stands.contents (now g c) (next state))
+    made.result made.new.pages c.settle.new.pager made.new.file c.settle.new.file (made.ensures.moves ((begun g c).keeps.contents stands.contents stands.keeps).tied) made.ensures.held c.settle.ensures.settles
+    (λ answer changes put keeps. by_part g.D.Disk was c.begin_change.new.pager made.new.pages c.settle.new.pager was.file made.new.file c.settle.new.file was.catalog was.referents c.begin_change.new.is_marked (begun g c) made.ensures.leaves.keeps
+    c.kept_change_gives_its_state.ensures from c.args.oldest state stands low high (room g c) was.catalog held (next state) (MovesReferent on.number name one.measure)
+    (subst (λ (n : ℕ). ChangesFile c.args.oldest (working d first) (working d made.new.pages) was.file made.new.file (MovesReferent n name one.measure)) (sym numbered) changes)
+    (λ part turns. c.referent_moved_gives_its_state.ensures from c.args.oldest (working d first) was.file was.catalog was.referents held state
+    (stands_at_first g.D.Disk was c.begin_change.new.pager made.new.pages c.settle.new.pager was.file made.new.file c.settle.new.file was.catalog was.referents c.begin_change.new.is_marked (begun g c) made.ensures.leaves.keeps from state stands) low
+    (next_below g.D.Disk was c.begin_change.new.pager made.new.pages c.settle.new.pager was.file made.new.file c.settle.new.file was.catalog was.referents c.begin_change.new.is_marked (begun g c) made.ensures.leaves.keeps c.kept_change_gives_its_state.ensures from c.args.oldest state stands low high (room g c))
+    route name one.measure on part route_there allowed.0
+    (subst (λ (n : ℕ). referents_on held ≡ at_number n (names.insert (referents_on was.referents n) name one.measure) (referents_on was.referents)) (sym numbered) put) turns allowed.1)
+    allowed.1.views keeps))
 
-pub returns-in_err-mark-clause-leaves : goal.returns-in_err-mark-clause-leaves
-returns-in_err-mark-clause-leaves g c =
+pub returns-in_err-begin_change-clause-leaves : goal.returns-in_err-begin_change-clause-leaves
+returns-in_err-begin_change-clause-leaves g c =
+    let at = store_over g.D.Disk c.self.inside.pager c.self.inside.file c.self.inside.catalog c.self.inside.referents c.self.inside.is_marked in
+    let now = store_over g.D.Disk c.begin_change.new.pager at.file at.catalog at.referents c.begin_change.new.is_marked in
     let p = err_from_is_err_and c.from_residual.result c.from_residual.ensures.1 in
-    rw (p.1, p.2) (left_unbegun g.D.Disk c.in_err-mark.field-0.0 c.args.self.now c.mark.new.self c.mark.ensures.keeps c.mark.ensures.changes
-    c.in_err-mark.ensures.refused c.in_err-mark.ensures.count)
+    rw (p.1, p.2) (subst (λ (s : StoreState g.row.D.Denot). LeavesStore g.D.Disk Always {T = Unit {0}} (Err c.in_err-begin_change.field-0.0) s now) c.self.view_is
+    (left_unbegun g.D.Disk {may = Always} {T = Unit {0}} c.in_err-begin_change.field-0.0 at c.begin_change.new.pager c.begin_change.new.is_marked c.in_err-begin_change.ensures.begins))

@@ -22,7 +22,7 @@ returns-then-has-clause-puts g c = λ from state stands low high lawful.
     let is : has (referents_on old.referents on.number) name ≡ true =
     ap (λ (s : StoreState g.row.D.Denot). has (referents_on s.referents on.number) name) (sym c.self.view_is)
     ∙ ap (λ (n : ℕ). has (referents_on c.self.inside.referents n) name) (sym c.number-number.ensures) ∙ sym c.has.ensures ∙ c.if-has.true in
-    c.move_referent.ensures.moves from state stands low high route on there (sym c.number-number.ensures) (ap (λ (m : Names ℕ). has m name) found ∙ is) lawful
+    c.move_referent.ensures.moves route on there (sym c.number-number.ensures) from state stands low high (ap (λ (m : Names ℕ). has m name) found ∙ is, lawful)
 
 pub returns-else-has-clause-puts : goal.returns-else-has-clause-puts
 returns-else-has-clause-puts g c = λ from state stands low high lawful.
@@ -37,4 +37,4 @@ returns-else-has-clause-puts g c = λ from state stands low high lawful.
     let is : has (referents_on old.referents on.number) name ≡ false =
     ap (λ (s : StoreState g.row.D.Denot). has (referents_on s.referents on.number) name) (sym c.self.view_is)
     ∙ ap (λ (n : ℕ). has (referents_on c.self.inside.referents n) name) (sym c.number-number.ensures) ∙ sym c.has.ensures ∙ c.if-has.false in
-    c.define_referent.ensures.puts from state stands low high route on there (sym c.number-number.ensures) (ap (λ (m : Names ℕ). has m name) found ∙ is) lawful
+    c.define_referent.ensures.puts route on there (sym c.number-number.ensures) from state stands low high (ap (λ (m : Names ℕ). has m name) found ∙ is, lawful)

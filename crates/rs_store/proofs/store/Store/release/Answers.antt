@@ -1,84 +1,69 @@
 -- Records are cleared in pages that are kept or taken back.
-use Rattle.std.proofs.Common.{◌≡◌, ◌∙◌, ℕ, IfOk, Result, ap, subst, sym}
-use Rattle.std.proofs.lemmas.Result.{err_from_is_err_and}
-use Rattle.rs_refusal.specs.Counts.{counted_on}
-use Rattle.rs_refusal.specs.declared.refusal.Refusal.{Refusal}
-use Rattle.rs_store.specs.Calls.{KeepsStore}
+use Rattle.std.proofs.Common.{◌≡◌, ◌≤◌, ◌∙◌, ℕ, Err, IfOk, Ok, arith, refl, subst}
+use Rattle.rs_machine.specs.State.{State}
+use Rattle.rs_store.proofs.Changed.{given_so}
+use Rattle.rs_store.proofs.Keeping.{store_over}
+use Rattle.rs_store.proofs.NoneDead.{none_released}
+use Rattle.rs_store.proofs.Released.{left_released, released, rests_released, unreleased}
+use Rattle.rs_store.proofs.Settled.{has_begun}
+use Rattle.rs_store.specs.Kept.{StandsIn}
 use Rattle.rs_store.specs.Kept.{StoreState}
 use Rattle.rs_store.specs.Releasing.{HasReleased, LeavesReleased}
-use Rattle.rs_store.proofs.Keeping.{store_over}
-use Rattle.rs_store.proofs.Released.{left_released, released, rests_released, unreleased}
-use Rattle.rs_store.proofs.Settled.{begins, begun_keeps}
-use Rattle.rs_pager.specs.Maps.{KeepsChanges}
-use Rattle.rs_store.proofs.HeldChanges.{begins_with, changes-trans}
+use Rattle.rs_store.specs.Settling.{HasBegun}
+use Rattle.std.proofs.lemmas.Bool.Decides.{nat_tests}
+use Rattle.std.proofs.lemmas.Result.{err_from_is_err_and}
+use Rattle.rs_store.proofs.store.Store.release.Given.{Over}
 use Rattle.rs_store.proofs.store.Store.release.Goals as goal
 
-pub returns-in_err-mark-clause-leaves : goal.returns-in_err-mark-clause-leaves
-returns-in_err-mark-clause-leaves g c =
-    let p = err_from_is_err_and c.from_residual.result c.from_residual.ensures.1 in
-    rw (p.1, p.2) (unreleased g.D.Disk c.in_err-mark.field-0.0 c.args.self.now c.mark.new.self c.mark.ensures.keeps c.mark.ensures.changes c.in_err-mark.ensures.refused c.in_err-mark.ensures.count)
+module _ (g : Over) (c : goal.After-settle g) where
+  abbrev was : StoreState g.row.D.Denot
+  was = store_over g.D.Disk c.self.inside.pager c.self.inside.file c.self.inside.catalog c.self.inside.referents c.self.inside.is_marked
 
-pub returns-in_err-begin-clause-leaves : goal.returns-in_err-begin-clause-leaves
-returns-in_err-begin-clause-leaves g c =
-    let d = g.D.Disk in
-    let old = c.args.self.now in
-    let was = c.self.inside in
-    let first = c.begin.new.self in
-    let kept = subst (λ (s : StoreState g.row.D.Denot). KeepsStore d old s) (sym c.self.view_is) c.mark.ensures.keeps in
-    let same = subst (λ (s : StoreState g.row.D.Denot). KeepsChanges old.pager s.pager) (sym c.self.view_is) c.mark.ensures.changes in
-    let failed : d.failures was.pager.disk ≡ d.failures old.pager.disk =
-    ap (λ (s : StoreState g.row.D.Denot). d.failures s.pager.disk) c.self.view_is ∙ c.in_ok-mark.ensures.count in
-    let p = err_from_is_err_and c.from_residual-in_err-begin.result c.from_residual-in_err-begin.ensures.1 in
-    rw (p.1, p.2) (unreleased d c.in_err-begin.field-0.0 old (store_over d first was.file was.catalog was.referents was.is_marked)
-    (begun_keeps d old was.pager first was.file was.catalog was.referents was.is_marked kept c.begin.ensures.keeps c.begin.ensures.masked)
-    (changes-trans old.pager was.pager first same c.in_err-begin.ensures.refused.0) c.in_err-begin.ensures.refusal (c.in_err-begin.ensures.count ∙ ap counted_on failed))
+  begun : HasBegun g.D.Disk was (store_over g.D.Disk c.begin_change.new.pager was.file was.catalog was.referents c.begin_change.new.is_marked)
+  begun = has_begun g.D.Disk was c.begin_change.new.pager c.begin_change.new.is_marked c.in_ok-begin_change.ensures.begins
+
+  abbrev now : StoreState g.row.D.Denot
+  now = store_over g.D.Disk c.settle.new.pager c.settle.new.file was.catalog was.referents c.begin_change.new.is_marked
 
 pub invariant_of-self-2 : goal.invariant_of-self-2
 invariant_of-self-2 g c =
-    let was = c.self.inside in
+    let made = c.clear_only-made in
     record {
       shut = c.settle.ensures.shut;
-      narrow = c.settle.ensures.most_clean ∙ c.clear_only-made.ensures.leaves.keeps.most_clean ∙ c.begin.ensures.keeps.most_clean ∙ c.self.invariant.narrow;
-      rests = rests_released g.D.Disk c.clear_only-made.result c.clear_only-made.new.pages c.settle.new.pager was.file c.clear_only-made.new.file c.settle.new.file was.catalog
-          c.self.invariant.rests c.clear_only-made.ensures.keeps c.clear_only-made.ensures.may c.settle.ensures.settles;
+      narrow = c.settle.ensures.most_clean ∙ made.ensures.leaves.keeps.most_clean ∙ c.begin_change.ensures.most_clean ∙ c.self.invariant.narrow;
+      rests = rests_released g.D.Disk made.result made.new.pages c.settle.new.pager (was g c).file made.new.file c.settle.new.file (was g c).catalog
+          c.self.invariant.rests made.ensures.keeps made.ensures.may c.settle.ensures.settles;
     }
 
 pub returns-clause-leaves : goal.returns-clause-leaves
 returns-clause-leaves g c =
-    let d = g.D.Disk in
-    let old = c.args.self.now in
-    let was = c.self.inside in
-    let first = c.begin.new.self in
-    let last = c.settle.new.pager in
-    let kept = subst (λ (s : StoreState g.row.D.Denot). KeepsStore d old s) (sym c.self.view_is) c.mark.ensures.keeps in
-    let same = subst (λ (s : StoreState g.row.D.Denot). KeepsChanges old.pager s.pager) (sym c.self.view_is) c.mark.ensures.changes in
-    let failed : d.failures was.pager.disk ≡ d.failures old.pager.disk =
-    ap (λ (s : StoreState g.row.D.Denot). d.failures s.pager.disk) c.self.view_is ∙ c.in_ok-mark.ensures.count in
-    let begun = begins d old was.pager first was.file was.catalog was.referents was.is_marked kept c.begin.ensures.keeps c.begin.ensures.masked failed c.in_ok-begin.ensures.count same
-    (begins_with d was.pager first c.in_ok-begin.ensures.few c.in_ok-begin.ensures.many c.begin.ensures.copies c.begin.ensures.same c.begin.ensures.keeps) in
-    subst (λ (r : Result ℕ Refusal). LeavesReleased d r old (store_over d last c.settle.new.file was.catalog was.referents was.is_marked)) (sym c.settle.ensures.same)
-    (left_released d old first c.clear_only-made.new.pages last was.file c.clear_only-made.new.file c.settle.new.file was.catalog was.referents was.is_marked begun
-    c.clear_only-made.ensures.leaves.keeps c.clear_only-made.result c.clear_only-made.ensures.leaves.stores c.clear_only-made.ensures.keeps c.self.invariant.rests.committed
-    c.clear_only-made.ensures.room c.settle.ensures.settles)
+    let made = c.clear_only-made in
+    given_so (λ r s. LeavesReleased g.D.Disk r s (now g c)) made.result c.settle.result (was g c) c.args.self.now c.settle.ensures.same c.self.view_is
+    (left_released g.D.Disk (was g c) c.begin_change.new.pager made.new.pages c.settle.new.pager (was g c).file made.new.file c.settle.new.file (was g c).catalog (was g c).referents c.begin_change.new.is_marked (begun g c) made.ensures.leaves.keeps
+    made.result made.ensures.leaves.stores made.ensures.keeps c.self.invariant.rests.committed made.ensures.room c.settle.ensures.settles)
 
 pub returns-clause-releases : goal.returns-clause-releases
-returns-clause-releases g c = λ from state stands low high.
+returns-clause-releases g c =
     let d = g.D.Disk in
-    let old = c.args.self.now in
-    let was = c.self.inside in
-    let first = c.begin.new.self in
-    let last = c.settle.new.pager in
-    let settled = c.settle.new.file in
-    let kept = subst (λ (s : StoreState g.row.D.Denot). KeepsStore d old s) (sym c.self.view_is) c.mark.ensures.keeps in
-    let same = subst (λ (s : StoreState g.row.D.Denot). KeepsChanges old.pager s.pager) (sym c.self.view_is) c.mark.ensures.changes in
-    let failed : d.failures was.pager.disk ≡ d.failures old.pager.disk =
-    ap (λ (s : StoreState g.row.D.Denot). d.failures s.pager.disk) c.self.view_is ∙ c.in_ok-mark.ensures.count in
-    let begun = begins d old was.pager first was.file was.catalog was.referents was.is_marked kept c.begin.ensures.keeps c.begin.ensures.masked failed c.in_ok-begin.ensures.count same
-    (begins_with d was.pager first c.in_ok-begin.ensures.few c.in_ok-begin.ensures.many c.begin.ensures.copies c.begin.ensures.same c.begin.ensures.keeps) in
-    subst (λ (r : Result ℕ Refusal). IfOk r (λ gone. HasReleased d c.args.oldest gone stands.contents (store_over d last settled was.catalog was.referents was.is_marked) state)) (sym c.settle.ensures.same)
-    (released d old first c.clear_only-made.new.pages last was.file c.clear_only-made.new.file settled was.catalog was.referents was.is_marked begun c.clear_only-made.ensures.leaves.keeps
+    let made = c.clear_only-made in
+    given_so (λ r s. (from : ℕ) (state : State) (stands : StandsIn d from s state) → from ≤ c.args.oldest → c.args.oldest ≤ s.file.accepted
+    → IfOk r (λ gone. HasReleased d c.args.oldest gone stands.contents (now g c) state))
+    made.result c.settle.result (was g c) c.args.self.now c.settle.ensures.same c.self.view_is
+    (λ from state stands low high. released g.D.Disk (was g c) c.begin_change.new.pager made.new.pages c.settle.new.pager (was g c).file made.new.file c.settle.new.file (was g c).catalog (was g c).referents c.begin_change.new.is_marked (begun g c) made.ensures.leaves.keeps
     c.meant_contents_stay_meant.ensures.says c.meant_contents_stay_meant.ensures.same c.contents_have_one_state.ensures.same
     c.live_versions_see_their_events.ensures.unchanged c.live_versions_see_their_referents.ensures.unchanged
     c.live_versions_see_the_same.ensures.records c.live_versions_see_the_same.ensures.joined c.cleared_file_stands_for_the_same_state.ensures
-    c.clear_only-made.result from c.args.oldest state stands low high
-    (c.clear_only-made.ensures.clears (begun.keeps.contents stands.contents stands.keeps).tied) c.settle.ensures.settles)
+    made.result from c.args.oldest state stands low high (made.ensures.clears ((begun g c).keeps.contents stands.contents stands.keeps).tied) c.settle.ensures.settles)
+
+pub returns-in_err-begin_change-clause-leaves : goal.returns-in_err-begin_change-clause-leaves
+returns-in_err-begin_change-clause-leaves g c =
+    let at = store_over g.D.Disk c.self.inside.pager c.self.inside.file c.self.inside.catalog c.self.inside.referents c.self.inside.is_marked in
+    let now = store_over g.D.Disk c.begin_change.new.pager at.file at.catalog at.referents c.begin_change.new.is_marked in
+    let p = err_from_is_err_and c.from_residual.result c.from_residual.ensures.1 in
+    rw (p.1, p.2) (subst (λ (s : StoreState g.row.D.Denot). LeavesReleased g.D.Disk {T = ℕ} (Err c.in_err-begin_change.field-0.0) s now) c.self.view_is
+    (unreleased g.D.Disk {T = ℕ} c.in_err-begin_change.field-0.0 at c.begin_change.new.pager c.begin_change.new.is_marked c.in_err-begin_change.ensures.begins))
+
+pub returns-then-garbage-eq0-clause-releases : goal.returns-then-garbage-eq0-clause-releases
+returns-then-garbage-eq0-clause-releases g c = λ from state stands low high.
+    none_released g.D.Disk c.live_versions_see_the_same.ensures.directory c.args.self.now (grind (arith, nat_tests, c.garbage.ensures, c.if-garbage-eq0.true))
+    from c.args.oldest state stands low high

@@ -1,6 +1,6 @@
 -- What the laws say of the contents, and what is kept of them.
 use Rattle.rs_store.proofs.Settled.{has_become}
-use Rattle.rs_store.proofs.settling.kept_change_gives_its_state.Goals as goal
+use Rattle.rs_store.proofs.bracket.kept_change_gives_its_state.Goals as goal
 
 pub returns : goal.returns
 returns g c = λ old first between last file changed settled catalog now referents held is_marked begun below kept from oldest state next stands low high part completes gives views.

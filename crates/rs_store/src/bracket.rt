@@ -1,6 +1,6 @@
-//! This module keeps a change that was made, or takes back one that was refused: its pages, and what is open.
+//! This module begins a change and ends it: one that was made is kept, one that was refused is taken back, in pages and in what is open.
 
-ghost use Rattle.std.specs.Prelude.{◌≡◌, ◌≤◌, ◌+◌, ℕ, Bool, true, false};
+ghost use Rattle.std.specs.Prelude.{◌≡◌, ◌≤◌, ◌+◌, ℕ, Bool, true, false, OnErr, OnOk};
 ghost use Rattle.rs_catalog.specs.Definitions.{Definitions, Numbered};
 ghost use Rattle.rs_catalog.specs.Referents.{HeldReferents};
 ghost use Rattle.rs_file.specs.Contents.{Contents};
@@ -10,10 +10,12 @@ ghost use Rattle.rs_machine.specs.State.{State};
 ghost use Rattle.rs_pager.specs.Maps.{KeepsBelow, working};
 ghost use Rattle.rs_pager.specs.Paged.{Paged};
 ghost use Rattle.rs_change_laws.specs.Changing.{Completes, GivesState};
+ghost use Rattle.rs_store.specs.Bracket.{BeginsChange};
 ghost use Rattle.rs_store.specs.Changing.{HasBecome};
 ghost use Rattle.rs_store.specs.Kept.{StandsIn, StoreState};
 ghost use Rattle.rs_store.specs.Settling.{HasBegun, IsKept, Settles};
 
+use crate::marking::mark;
 use rs_change_laws::completing::completed_change_has_its_state;
 use rs_disk::Disk;
 use rs_file::OpenedFile;
@@ -25,6 +27,21 @@ use rs_file_meaning::standing::contents_have_one_state;
 use rs_file_parts::{keep, take_back};
 use rs_pager::Pager;
 use rs_refusal::Refusal;
+
+/// Marks the disk as open where it isn't, and begins changes. It is refused with 91 alone; then none are begun.
+pub(crate) fn begin_change<D: Disk>(
+    pager: &mut Pager<D>,
+    is_marked: &mut bool,
+) -> Result<(), Refusal>
+    requires { pager.old.is_begun ≡ false }
+    ensures begins { BeginsChange D.Disk result pager.old pager.new is_marked.old is_marked.new }
+    ensures begun { OnOk result (pager.new.is_begun ≡ true) }
+    ensures shut { OnErr result (pager.new.is_begun ≡ false) }
+    ensures most_clean { pager.new.most_clean ≡ pager.old.most_clean }
+{
+    mark(pager, is_marked)?;
+    pager.begin()
+}
 
 /// Keeps the change in its pages and in what is open where it was made, and takes it back where it was refused. It hands on the answer.
 pub(crate) fn settle<D: Disk, T>(
