@@ -1,6 +1,7 @@
 -- The entries of an attribute index: for each cell of a table the bytes of one of its values, and then the cell.
 use Rattle.std.specs.Prelude.{◌≡◌, ◌≤◌, ℕ, ◌+◌, ◌*◌, Some, List, [], ◌++◌, IsPermutation, drop, length, map, slice_get, take}
 use Rattle.std.specs.List.{AllByRecursion}
+use Rattle.rs_page.specs.declared.header.TheConstants.{PAGE_ROOM}
 use Rattle.rs_page_owners.specs.Counts.{◌&◌}
 use Rattle.rs_page_owners.specs.Owners.{Moves, Shares}
 use Rattle.rs_pages.specs.PageMap.{PageMap}
@@ -26,7 +27,7 @@ pub record IsColumn (types : List ColumnType) (column : ℕ) (field : Field) : T
 
 -- three entries of an inner page of the index of this column fit it
 pub record FitsPages (types : List ColumnType) (column : ℕ) : Type 0 where
-  pub fits : (type : ColumnType) → slice_get types column ≡ Some type → 3 * (4 + (width type + event_width types)) ≤ 4080
+  pub fits : (type : ColumnType) → slice_get types column ≡ Some type → 3 * (4 + (width type + event_width types)) ≤ PAGE_ROOM
 
 -- the bytes of the value that a cell has in the field
 abbrev pub value_in : Field → List ℕ → List ℕ

@@ -13,6 +13,7 @@ ghost use Rattle.rs_records.specs.Listed.{listed, record_width};
 ghost use Rattle.rs_tree.specs.Cells.{with_cell, without_cell};
 ghost use Rattle.rs_tree.specs.Tree.{IsTree};
 ghost use Rattle.rs_tree_whole.specs.Calls.{RefusesToCheck};
+ghost use Rattle.rs_value.specs.declared.column.TheConstants.{COLUMNS};
 ghost use Rattle.rs_value.specs.Encoding.{row_width};
 ghost use Rattle.rs_value.specs.Values.{IsOfType};
 ghost use Rattle.rs_value.specs.View.{datum_of};
@@ -55,6 +56,7 @@ pub struct AttrIndex {
 
 impl Model for AttrIndex {
     ghost use Rattle.std.specs.Prelude.{◌≡◌, ◌≤◌, ◌+◌, ◌*◌};
+    ghost use Rattle.rs_page.specs.declared.header.TheConstants.{PAGE_ROOM};
     ghost use Rattle.rs_attr.specs.Entries.{entry_bytes};
     ghost use Rattle.rs_attr.specs.Tables.{IndexState};
     ghost use Rattle.rs_value.specs.Encoding.{width};
@@ -68,7 +70,7 @@ impl Model for AttrIndex {
     } };
 
     ghost invariant = { λ index. (index.tree.width ≡ width index.column + index.cell_width) × (index.start + (width index.column + 20) ≤ index.cell_width)
-        × (3 * (4 + (width index.column + index.cell_width)) ≤ 4080) };
+        × (3 * (4 + (width index.column + index.cell_width)) ≤ PAGE_ROOM) };
 }
 
 impl AttrIndex {
@@ -267,7 +269,7 @@ impl AttrIndex {
 
 /// How many bytes a value of each of these columns takes together.
 fn bytes_of(columns: &[ColumnType]) -> usize
-    requires few { length columns.now ≤ 12 }
+    requires few { length columns.now ≤ COLUMNS }
     ensures { result ≡ row_width columns.now }
 {
     let mut total = 0;

@@ -9,6 +9,7 @@
 ghost use Rattle.std.specs.Prelude.{◌≡◌, ◌⊎◌, ◌<◌, ◌≤◌, ◌+◌, ◌++◌, ◌∷◌, ◌*◌, ◌^◌, [], ℕ, List, Contains, IfErr, IfOk, OnOk, length};
 ghost use Rattle.std.specs.List.{AllByRecursion};
 ghost use Rattle.std.specs.Int.{w32, to_be_bytes};
+ghost use Rattle.rs_page.specs.declared.header.TheConstants.{PAGE_ROOM};
 ghost use Rattle.rs_attr.specs.Calls.{IsOpened, Opens};
 ghost use Rattle.rs_attr.specs.OpeningCalls.{Checks, Gathers, LooksUp, Reaches};
 ghost use Rattle.rs_attr.specs.Tables.{AreOn};
@@ -49,7 +50,7 @@ pub fn open<P: Pages>(
     routes: &[RouteSpan],
     reached: &mut Reached,
 ) -> Result<EventTable, Refusal>
-    requires fits { 3 * (8 + event_width told.schema.items) ≤ 4080 }
+    requires fits { 3 * (8 + event_width told.schema.items) ≤ PAGE_ROOM }
     requires indexes { AreOn told.schema.items indexes.now }
     requires rising { AreRising routes.now }
     ensures rests { OnlyReads P.Pages result pages.old pages.new }

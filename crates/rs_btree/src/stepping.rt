@@ -1,6 +1,7 @@
 //! What one page of a tree tells of a cell: whether it is there, or which page leads to it.
 
 ghost use Rattle.std.specs.Prelude.{◌≡◌, ◌≤◌, ◌*◌, ◌↔◌, ◌++◌, [], ◌∷◌, Some, Contains, IfOk, IfErr, IsOkUnless, IsTrue, OnErr};
+ghost use Rattle.rs_page.specs.declared.header.TheConstants.{PAGE_ROOM};
 ghost use Rattle.rs_pages.specs.Calls.{OnlyReads, Reads};
 ghost use Rattle.rs_pages.specs.PageMap.{PageMap};
 ghost use Rattle.rs_records.specs.Order.{Ascends};
@@ -71,7 +72,7 @@ fn look_in<S: Summary>(
 
 /// Whether the cell is one of a leaf's.
 fn is_in_leaf(page: &Page, layout: Layout, count: usize, cell: &[u8]) -> bool
-    requires { count * layout.width ≤ 4080 }
+    requires { count * layout.width ≤ PAGE_ROOM }
     ensures { Ascends (records count layout.width (content page.now.bytes))
         → (IsTrue result ↔ Contains (records count layout.width (content page.now.bytes)) cell.now) }
 {
@@ -93,7 +94,7 @@ fn step_below<S: Summary>(
     after: &[u8],
 ) -> Step
     requires after { after.now ≡ cell.now ++ 0 ∷ [] }
-    requires fit { count * entry_bytes layout ≤ 4080 }
+    requires fit { count * entry_bytes layout ≤ PAGE_ROOM }
     ensures { LeadsFrom (form_in S.Summary layout) page.now.bytes count cell.now result }
 {
     let bytes = content(page);

@@ -4,6 +4,7 @@
 
 ghost use Rattle.std.specs.Prelude.{◌≡◌, ◌≢◌, ◌<◌, ◌≤◌, ◌+◌, ◌*◌, ◌++◌, [], ◌∷◌, IfOk, Err, true, length};
 ghost use Rattle.std.specs.Fn.{FnReturnsAt};
+ghost use Rattle.rs_page.specs.declared.header.TheConstants.{PAGE_ROOM};
 ghost use Rattle.rs_page_owners.specs.Counts.{no_pages};
 ghost use Rattle.rs_pages.specs.Calls.{OnlyReads};
 ghost use Rattle.rs_pages.specs.PageMap.{PageMap};
@@ -49,7 +50,7 @@ impl<S: Summary> Tree<S> {
     /// The empty tree of cells of this width. Three entries of an inner page fit it at least.
     pub fn new(width: usize) -> Tree<S>
         requires some { 0 < width }
-        requires fits { 3 * (4 + S.WIDTH + width) ≤ 4080 }
+        requires fits { 3 * (4 + S.WIDTH + width) ≤ PAGE_ROOM }
         ensures width { result.width ≡ width }
         ensures empty { (pages : PageMap)
             → IsTree (form S.Summary width) pages result.root [] no_pages }
@@ -60,7 +61,7 @@ impl<S: Summary> Tree<S> {
     /// The tree of cells of this width with this root.
     pub fn at(width: usize, root: PageNumber) -> Tree<S>
         requires some { 0 < width }
-        requires fits { 3 * (4 + S.WIDTH + width) ≤ 4080 }
+        requires fits { 3 * (4 + S.WIDTH + width) ≤ PAGE_ROOM }
         ensures width { result.width ≡ width }
         ensures root { result.root ≡ root }
     {

@@ -12,7 +12,7 @@ use Rattle.rs_page_owners.specs.Counts.{times}
 use Rattle.rs_catalog_pages.specs.Items.{IndexItem, TableItem}
 use Rattle.rs_catalog_meaning.specs.Meaning.{IsIndex, column_of}
 use Rattle.rs_catalog_meaning.specs.Stating.{column_indexed, named_table, table_with, tables_of}
-use Rattle.rs_syntax_laws.proofs.NameTexts.{not_empty}
+use Rattle.rs_lexer.proofs.NameTexts.{not_empty}
 use Rattle.rs_catalog_meaning.proofs.PlaceLaws.{same_by_number}
 use Rattle.rs_catalog_meaning.proofs.TableLaws.{HasColumn}
 use Rattle.rs_catalog_meaning.proofs.UnderNames.{under_name}

@@ -21,7 +21,7 @@ use Rattle.rs_catalog_meaning.specs.Stating.{AreListed, column_indexed, name_wit
 use Rattle.rs_catalog_meaning.proofs.Each.{each_of, each_said, said_each}
 use Rattle.rs_catalog_meaning.proofs.IndexLaws.{index_meant}
 use Rattle.rs_catalog_meaning.proofs.NameOrder.{sorted_values, to_T}
-use Rattle.rs_syntax_laws.proofs.NameTexts.{not_empty}
+use Rattle.rs_lexer.proofs.NameTexts.{not_empty}
 use Rattle.rs_catalog_meaning.proofs.StateLaws.{free_for_view}
 use Rattle.rs_catalog_meaning.proofs.UnderNames.{each_back, few_back, none_named}
 

@@ -9,8 +9,8 @@ ghost use Rattle.rs_catalog_meaning.specs.Places.{ArePlaces, LiesOn};
 use crate::by_number::{Places, places_of, route_with};
 use crate::names::are_in_order;
 use rs_catalog_pages::{StoredAlignment, StoredPiece, StoredRoute};
+use rs_lexer::is_name;
 use rs_machine::limits::{ALIGNMENTS, PIECES};
-use rs_syntax_laws::is_name;
 
 /// Whether these alignments pass the checks and limits of their DEFINE lines beside the routes, in the order of their names.
 pub fn are_alignments(routes: &[StoredRoute], alignments: &[StoredAlignment]) -> bool

@@ -9,9 +9,9 @@ ghost use Rattle.rs_catalog_meaning.specs.Meaning.{AreRoutes, ends_of};
 use crate::by_number::places_of;
 use crate::names::are_in_order;
 use rs_catalog_pages::StoredRoute;
+use rs_lexer::is_name;
 use rs_machine::limits::ROUTES;
 use rs_measure::GREATEST_MEASURE;
-use rs_syntax_laws::is_name;
 
 /// Whether these routes pass the checks and limits of their DEFINE lines, in the order of their names, each with a number of
 /// its own.

@@ -11,8 +11,8 @@ ghost use Rattle.rs_catalog_meaning.specs.Meaning.{AreIndexes, AreTables, AreVie
 
 use crate::names::{are_in_order, is_free};
 use rs_catalog_pages::{INDEXES, StoredColumn, StoredIndex, StoredTable, StoredView};
+use rs_lexer::is_name;
 use rs_machine::limits::{TABLES, VIEWS};
-use rs_syntax_laws::is_name;
 use rs_value::{COLUMNS, TEXT_BYTES};
 
 /// Whether these tables pass the checks and limits of their DEFINE lines, in the order of their names.

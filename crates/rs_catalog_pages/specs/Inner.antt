@@ -1,5 +1,6 @@
 -- What is so while the catalogue is read and written: facts of loops.
 use Rattle.std.specs.Prelude.{◌≡◌, ◌*◌, ◌++◌, ℕ, List, drop}
+use Rattle.rs_page.specs.declared.header.TheConstants.{PAGE_ROOM}
 use Rattle.rs_pages.specs.PageMap.{PageMap}
 use Rattle.rs_catalog_pages.specs.Chain.{HoldsFrom}
 
@@ -11,4 +12,4 @@ pub record HoldsUpTo (map : PageMap) (first : ℕ) (numbers bytes : List ℕ) (n
 
 -- the bytes for this page and those after it
 unfoldable pub parts_from : List ℕ → ℕ → List ℕ
-parts_from bytes index = drop (index * 4080) bytes
+parts_from bytes index = drop (index * PAGE_ROOM) bytes

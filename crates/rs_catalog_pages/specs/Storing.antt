@@ -5,6 +5,7 @@ use Rattle.rs_page_owners.specs.Changes.{EndsFull, CountsNothing}
 use Rattle.rs_page_owners.specs.Counts.{◌&◌, times}
 use Rattle.rs_page_owners.specs.Owners.{Moves, Shares}
 use Rattle.rs_page.specs.PageBytes.{IsFit}
+use Rattle.rs_page.specs.declared.header.TheConstants.{PAGE_ROOM}
 use Rattle.rs_pages.specs.PageMap.{PageMap, in_use}
 use Rattle.rs_pages.specs.Store.{Store, KeepsCounts}
 use Rattle.rs_pages.specs.Uses.{Wants}
@@ -52,14 +53,14 @@ pub record StoresAfter {T : Type 0} (damaged : Type 0) (result : Result T Refusa
 pub record StoresSaid (old new : PageMap) (before after : List ℕ) (catalogue : CatalogueItems) : Type 0 where
   pub bytes : List ℕ
   pub says : SaysCatalogue bytes catalogue
-  pub few : length after * 4080 < length bytes + 4080
+  pub few : length after * PAGE_ROOM < length bytes + PAGE_ROOM
   pub stores : StoresBytes old new before after bytes
 
 -- bytes that say the catalogue are more than these pages hold
 pub record NeedsMorePages (numbers : List ℕ) (catalogue : CatalogueItems) : Type 0 where
   pub bytes : List ℕ
   pub says : SaysCatalogue bytes catalogue
-  pub more : length numbers * 4080 < length bytes
+  pub more : length numbers * PAGE_ROOM < length bytes
 
 -- the catalogue is in these pages now: those that there were, as far as they are needed, come first
 pub record StoresCatalogue (old new : PageMap) (before after : List ℕ) (catalogue : CatalogueItems) : Type 0 where

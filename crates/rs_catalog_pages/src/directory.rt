@@ -6,6 +6,7 @@ ghost use Rattle.rs_page_owners.specs.Calls.{Leaves};
 ghost use Rattle.rs_page.specs.Header.{IsHeader};
 ghost use Rattle.rs_page.specs.PageBytes.{empty_header};
 ghost use Rattle.rs_page.specs.declared.header.PageKind.TheVariants as kinds;
+ghost use Rattle.rs_page.specs.declared.header.TheConstants.{PAGE_ROOM};
 ghost use Rattle.rs_pages.specs.Calls.{OnlyReads};
 ghost use Rattle.rs_pages.specs.PageMap.{HasNoFit};
 ghost use Rattle.rs_catalog_pages.specs.Calls.{LoadsDirectory, RefusesToLoadDirectory, StaysRefused, StoresNewDirectory, WantsMemoryForDirectory};
@@ -110,10 +111,10 @@ pub fn store_directory<P: Pages>(
 
 /// Makes a page the directory of these bytes.
 fn put_directory(page: &mut Page, bytes: &[u8])
-    requires { length bytes.now ≤ 4080 }
+    requires { length bytes.now ≤ PAGE_ROOM }
     ensures header { IsHeader page.new.bytes (empty_header kinds.Directory 1 0) }
     ensures size { length page.new.bytes ≡ PAGE_SIZE }
-    ensures bytes { content page.new.bytes ≡ bytes.now ++ replicate (4080 - length bytes.now) 0 }
+    ensures bytes { content page.new.bytes ≡ bytes.now ++ replicate (PAGE_ROOM - length bytes.now) 0 }
 {
     *page = Page::blank(PageKind::Directory, PageNumber::new(1), PageNumber::new(0));
     put_content(&mut page.bytes, bytes);

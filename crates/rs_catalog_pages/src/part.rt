@@ -4,7 +4,7 @@ ghost use Rattle.std.specs.Prelude.{◌≡◌, ◌⊎◌, ◌≤◌, ◌<◌, �
 ghost use Rattle.rs_page.specs.declared.page.TheConstants.{PAGE_SIZE};
 ghost use Rattle.rs_page.specs.Header.{IsHeader};
 ghost use Rattle.rs_page.specs.Number.{number_at};
-ghost use Rattle.rs_page.specs.declared.header.TheConstants.{HEADER_SIZE};
+ghost use Rattle.rs_page.specs.declared.header.TheConstants.{HEADER_SIZE, PAGE_ROOM};
 ghost use Rattle.rs_catalog_pages.specs.Chain.{catalogue_header};
 ghost use Rattle.rs_catalog_pages.specs.Parts.{content, IsPart, HasNoPart, AppendsPart};
 
@@ -14,7 +14,7 @@ use rs_refusal::Refusal;
 /// What follows the header of a page.
 pub(crate) fn content(page: &Page) -> &[u8]
     ensures bytes { result.now ≡ content page.now.bytes }
-    ensures size { length result.now ≡ 4080 }
+    ensures size { length result.now ≡ PAGE_ROOM }
     ensures page { length page.now.bytes ≡ PAGE_SIZE }
 {
     after_header(&page.bytes)
@@ -66,7 +66,7 @@ pub(crate) fn append_part(
 
 /// Fills a page of the catalogue. The bytes past these stay.
 pub(crate) fn put_part(page: &mut Page, number: PageNumber, next: PageNumber, part: &[u8])
-    requires { length part.now ≤ 4080 }
+    requires { length part.now ≤ PAGE_ROOM }
     ensures header { IsHeader page.new.bytes (catalogue_header (length part.now) number next) }
     ensures size { length page.new.bytes ≡ PAGE_SIZE }
     ensures bytes { take (length part.now) (content page.new.bytes) ≡ part.now }
@@ -83,7 +83,7 @@ pub(crate) fn put_part(page: &mut Page, number: PageNumber, next: PageNumber, pa
 /// Puts bytes after the header. The header stays.
 pub(crate) fn put_content(bytes: &mut [u8], part: &[u8])
     requires size { length bytes.old ≡ PAGE_SIZE }
-    requires fits { length part.now ≤ 4080 }
+    requires fits { length part.now ≤ PAGE_ROOM }
     ensures before { (k n : ℕ) → k + n ≤ HEADER_SIZE → number_at k n bytes.new ≡ number_at k n bytes.old }
     ensures bytes { take (length part.now) (content bytes.new) ≡ part.now }
     ensures after { drop (length part.now) (content bytes.new) ≡ drop (length part.now) (content bytes.old) }

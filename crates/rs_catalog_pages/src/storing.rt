@@ -3,6 +3,7 @@
 //! It keeps the pages that it has, and takes or gives back those that are missing or too many.
 
 ghost use Rattle.std.specs.Prelude.{◌≡◌, ◌≢◌, ◌≤◌, ◌<◌, ◌+◌, ◌-◌, ◌*◌, ◌^◌, true, Err, IfOk, length};
+ghost use Rattle.rs_page.specs.declared.header.TheConstants.{PAGE_ROOM};
 ghost use Rattle.rs_page_owners.specs.Calls.{Makes, WorksOn};
 ghost use Rattle.rs_pages.specs.PageMap.{HasNoFit};
 ghost use Rattle.rs_catalog_pages.specs.Calls.{LeavesCatalogue, StaysRefused, Stores};
@@ -16,13 +17,10 @@ use crate::items::StoredCatalogue;
 use crate::part::put_part;
 use crate::placing::{grow, shrink};
 use rs_bytes::Item;
-use rs_page::PageNumber;
+use rs_page::{PAGE_ROOM, PageNumber};
 use rs_pages::Pages;
 use rs_refusal::Refusal;
 use std::alloc::Global;
-
-/// The bytes of the catalogue that a page holds at the most.
-pub const PART_SIZE: usize = 4080;
 
 /// Stores the catalogue in place of the one in these pages, and answers which pages it has now: those that it had, then
 /// new ones, and no more than it needs. The file gains at most as many pages as the catalogue does. The caller keeps the old
@@ -58,11 +56,11 @@ pub fn store<P: Pages>(
 
 /// How many pages so many bytes need.
 fn parts_of(length: usize) -> usize
-    ensures room { length ≤ result * 4080 }
-    ensures few { result * 4080 < length + 4080 }
+    ensures room { length ≤ result * PAGE_ROOM }
+    ensures few { result * PAGE_ROOM < length + PAGE_ROOM }
 {
-    let full = length / PART_SIZE;
-    if length % PART_SIZE == 0 {
+    let full = length / PAGE_ROOM;
+    if length % PAGE_ROOM == 0 {
         full
     } else {
         full + 1
@@ -73,7 +71,7 @@ fn parts_of(length: usize) -> usize
 fn write_parts<P: Pages>(pages: &mut P, numbers: &[PageNumber], bytes: &[u8]) -> Result<(), Refusal>
     requires begun { (P.store pages.old).is_begun ≡ true }
     requires few { length numbers.now < 2 ^ 40 }
-    requires room { length bytes.now ≤ length numbers.now * 4080 }
+    requires room { length bytes.now ≤ length numbers.now * PAGE_ROOM }
     ensures keeps { P.keeps pages.old pages.new }
     ensures works { WorksOn P.Pages (AreNotOwn (P.store pages.old).map numbers.now) result pages.old pages.new }
     ensures writes { Makes P.Pages (λ old new _. WritesParts old new numbers.now bytes.now (number_from numbers.now 0)) result
@@ -105,15 +103,15 @@ fn part_at(bytes: &[u8], index: usize) -> &[u8]
     requires { index < 2 ^ 40 }
     ensures { result.now ≡ part_at bytes.now index }
 {
-    let start = index * PART_SIZE;
+    let start = index * PAGE_ROOM;
     if start >= bytes.len() {
         return &[];
     }
     let (_, rest) = bytes.split_at(start);
-    if rest.len() <= PART_SIZE {
+    if rest.len() <= PAGE_ROOM {
         return rest;
     }
-    let (part, _) = rest.split_at(PART_SIZE);
+    let (part, _) = rest.split_at(PAGE_ROOM);
     part
 }
 
@@ -126,7 +124,7 @@ fn write_part<P: Pages>(
     part: &[u8],
 ) -> Result<(), Refusal>
     requires begun { (P.store pages.old).is_begun ≡ true }
-    requires fits { length part.now ≤ 4080 }
+    requires fits { length part.now ≤ PAGE_ROOM }
     ensures keeps { P.keeps pages.old pages.new }
     ensures works { WorksOn P.Pages (HasNoFit (P.store pages.old).map number) result pages.old pages.new }
     ensures written { Makes P.Pages (λ old new _. WritesPart old new number next part.now) result pages.old pages.new }

@@ -1,5 +1,6 @@
 -- What the steps of a change leave, whatever cells are dead.
 use Rattle.std.specs.Prelude.{◌≡◌, ◌↔◌, ◌≤◌, ◌+◌, ◌*◌, ℕ, Bool, false, IsTrue, List, Contains, [], ◌∷◌, ◌++◌, if◌then◌else◌}
+use Rattle.rs_page.specs.declared.header.TheConstants.{PAGE_ROOM}
 use Rattle.rs_page_owners.specs.Counts.{◌&◌}
 use Rattle.rs_page_owners.specs.Owners.{Shares}
 use Rattle.rs_pages.specs.PageMap.{PageMap, SamePages}
@@ -50,4 +51,4 @@ pub record HoldsNoneFirst (form : Form) (pages : PageMap) (root : ℕ) (first : 
 -- cells of which three entries of an inner page fit it
 pub record FitsPages (summary width : ℕ) : Type 0 where
   pub some : 20 ≤ width
-  pub fits : 3 * (4 + summary + width) ≤ 4080
+  pub fits : 3 * (4 + summary + width) ≤ PAGE_ROOM

@@ -4,6 +4,7 @@
 
 ghost use Rattle.std.specs.Prelude.{◌≡◌, ◌<◌, ◌≤◌, ◌*◌, ◌-◌, ◌++◌, ℕ, List, [], ◌∷◌, Some, IfOk, IsOkUnless, slice_get};
 ghost use Rattle.rs_page.specs.Number.{number_at};
+ghost use Rattle.rs_page.specs.declared.header.TheConstants.{PAGE_ROOM};
 ghost use Rattle.rs_records.specs.Records.{records};
 ghost use Rattle.rs_tree.specs.Content.{content};
 ghost use Rattle.rs_tree.specs.Layouts.{entry_bytes};
@@ -51,7 +52,7 @@ pub(crate) fn bound_above<P: Pages, S: Summary>(
 /// The last cell of a leaf and one byte more. It is refused for want of memory alone.
 fn after_last(alloc: Global, page: &Page, layout: Layout, count: usize) -> Result<Vec<u8>, Refusal>
     requires some { 0 < count }
-    requires fit { count * layout.width ≤ 4080 }
+    requires fit { count * layout.width ≤ PAGE_ROOM }
     ensures after { IfOk result (λ bound. (cell : List ℕ)
         → slice_get (records count layout.width (content page.now.bytes)) (count - 1) ≡ Some cell
         → bound.items ≡ cell ++ 0 ∷ []) }
@@ -69,7 +70,7 @@ fn after_last(alloc: Global, page: &Page, layout: Layout, count: usize) -> Resul
 /// The page that the last entry of an inner page says.
 fn last_child(page: &Page, layout: Layout, count: usize) -> PageNumber
     requires some { 0 < count }
-    requires fit { count * entry_bytes layout ≤ 4080 }
+    requires fit { count * entry_bytes layout ≤ PAGE_ROOM }
     ensures { (entry : List ℕ)
         → slice_get (records count (entry_bytes layout) (content page.now.bytes)) (count - 1) ≡ Some entry
         → result ≡ number_at 0 4 entry }

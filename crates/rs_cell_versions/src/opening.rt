@@ -4,6 +4,7 @@
 //! that no more than one part is in memory at a time.
 
 ghost use Rattle.std.specs.Prelude.{◌≡◌, ◌⊎◌, ◌≤◌, ◌*◌, ◌+◌, IfOk, IfErr, OnOk, false, length};
+ghost use Rattle.rs_page.specs.declared.header.TheConstants.{PAGE_ROOM};
 ghost use Rattle.rs_pages.specs.Calls.{OnlyReads};
 ghost use Rattle.rs_page_marks.specs.Marks.{taken};
 ghost use Rattle.rs_records.specs.Order.{is_below};
@@ -74,7 +75,7 @@ impl<S: Summary> Opening<S> {
         reached: &mut Reached,
     ) -> Result<Opening<S>, Refusal>
         requires some { 20 ≤ width }
-        requires fits { 3 * (4 + S.WIDTH + width) ≤ 4080 }
+        requires fits { 3 * (4 + S.WIDTH + width) ≤ PAGE_ROOM }
         ensures rests { OnlyReads P.Pages result pages.old pages.new }
         ensures size { length reached.new ≡ length reached.old }
         ensures begun { IfOk result (IsBegun (form S.Summary width) width told.now) }

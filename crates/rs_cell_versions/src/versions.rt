@@ -4,6 +4,7 @@
 //! pages are to be committed or abandoned with them.
 
 ghost use Rattle.std.specs.Prelude.{◌≡◌, ◌≢◌, ◌<◌, ◌≤◌, ◌*◌, ◌+◌, ℕ, [], IsTrue, IfOk, OnOk, true, length, Err};
+ghost use Rattle.rs_page.specs.declared.header.TheConstants.{PAGE_ROOM};
 ghost use Rattle.rs_page_owners.specs.Counts.{no_pages};
 ghost use Rattle.rs_pages.specs.PageMap.{PageMap};
 ghost use Rattle.rs_tree.specs.Forms.{form};
@@ -54,7 +55,7 @@ impl<S: Summary> Versions<S> {
     /// No cells, of this width. Three entries of an inner page fit it at least.
     pub fn new(alloc: Global, width: usize) -> Versions<S>
         requires some { 20 ≤ width }
-        requires fits { 3 * (4 + S.WIDTH + width) ≤ 4080 }
+        requires fits { 3 * (4 + S.WIDTH + width) ≤ PAGE_ROOM }
         ensures width { result.width ≡ width }
         ensures working { result.working ≡ nothing_stands }
         ensures committed { result.committed ≡ nothing_stands }
@@ -99,7 +100,7 @@ impl<S: Summary> Versions<S> {
     pub fn width(&self) -> usize
         ensures width { result ≡ self.now.width }
         ensures some { 20 ≤ result }
-        ensures fits { 3 * (4 + S.WIDTH + result) ≤ 4080 }
+        ensures fits { 3 * (4 + S.WIDTH + result) ≤ PAGE_ROOM }
     {
         self.dead.width()
     }

@@ -6,9 +6,8 @@ ghost use Rattle.rs_methods.specs.Position.{start_name, expression_of};
 ghost use Rattle.rs_facts.specs.Insert.{same_name};
 ghost use Rattle.rs_machine.specs.State.{has};
 ghost use Rattle.rs_machine.specs.Checks.{has_referent};
-ghost use Rattle.rs_machine.specs.Step.{counted, referent_defined, referent_moved, referent_dropped};
 ghost use Rattle.rs_machine.specs.declared.limits.TheConstants.{CHANGES};
-ghost use Rattle.rs_command_checks.specs.Referents.{route_of_referent, with_referent, without_referent};
+ghost use Rattle.rs_command_checks.specs.Referents.{route_of_referent, DefinesReferent, RefusesToDefineReferent, MovesReferent, RefusesToMoveReferent, DropsReferent, RefusesToDropReferent};
 ghost use Rattle.rs_command_checks.specs.States.{Unseen, state_by};
 
 use crate::checks::Checks;
@@ -26,8 +25,8 @@ impl Checks<'_> {
         name: &Name,
         position: &Position,
     ) -> Result<Measure, Refusal>
-        ensures accepted { (unseen : Unseen) → IfOk result (λ measure. referent_defined (state_by self.now unseen) route.now.bytes name.now.bytes (expression_of position.now) ≡ Ok (counted 0 (with_referent (state_by self.now unseen) route.now.bytes name.now.bytes measure))) }
-        ensures refused { (unseen : Unseen) → IfErr result (λ refusal. referent_defined (state_by self.now unseen) route.now.bytes name.now.bytes (expression_of position.now) ≡ Err refusal) }
+        ensures accepted { (unseen : Unseen) → IfOk result (DefinesReferent self.now unseen route.now.bytes name.now.bytes (expression_of position.now)) }
+        ensures refused { (unseen : Unseen) → IfErr result (RefusesToDefineReferent self.now unseen route.now.bytes name.now.bytes (expression_of position.now)) }
         ensures there { OnOk result (has self.now.catalog.now.routes route.now.bytes ≡ true) }
         ensures not_start { OnOk result (name.now.bytes ≢ start_name) }
         ensures new { (unseen : Unseen) → OnOk result (has ((state_by self.now unseen).referents route.now.bytes) name.now.bytes ≡ false) }
@@ -44,8 +43,8 @@ impl Checks<'_> {
         name: &Name,
         position: &Position,
     ) -> Result<Measure, Refusal>
-        ensures accepted { (unseen : Unseen) → IfOk result (λ measure. referent_moved (state_by self.now unseen) route.now.bytes name.now.bytes (expression_of position.now) ≡ Ok (counted 0 (with_referent (state_by self.now unseen) route.now.bytes name.now.bytes measure))) }
-        ensures refused { (unseen : Unseen) → IfErr result (λ refusal. referent_moved (state_by self.now unseen) route.now.bytes name.now.bytes (expression_of position.now) ≡ Err refusal) }
+        ensures accepted { (unseen : Unseen) → IfOk result (MovesReferent self.now unseen route.now.bytes name.now.bytes (expression_of position.now)) }
+        ensures refused { (unseen : Unseen) → IfErr result (RefusesToMoveReferent self.now unseen route.now.bytes name.now.bytes (expression_of position.now)) }
         ensures there { OnOk result (has self.now.catalog.now.routes route.now.bytes ≡ true) }
         ensures not_start { OnOk result (name.now.bytes ≢ start_name) }
         ensures has { (unseen : Unseen) → OnOk result (has ((state_by self.now unseen).referents route.now.bytes) name.now.bytes ≡ true) }
@@ -58,8 +57,8 @@ impl Checks<'_> {
     /// The route of a referent that may be dropped. Checks, in order: 20; 25; it is START or a view's window lies by it (23);
     /// 27.
     pub fn check_old_referent(&self, route: &Name, name: &Name) -> Result<RouteEntry, Refusal>
-        ensures accepted { (unseen : Unseen) → OnOk result (referent_dropped (state_by self.now unseen) route.now.bytes name.now.bytes ≡ Ok (counted 0 (without_referent (state_by self.now unseen) route.now.bytes name.now.bytes))) }
-        ensures refused { (unseen : Unseen) → IfErr result (λ refusal. referent_dropped (state_by self.now unseen) route.now.bytes name.now.bytes ≡ Err refusal) }
+        ensures accepted { (unseen : Unseen) → OnOk result (DropsReferent self.now unseen route.now.bytes name.now.bytes) }
+        ensures refused { (unseen : Unseen) → IfErr result (RefusesToDropReferent self.now unseen route.now.bytes name.now.bytes) }
         ensures there { IfOk result (λ entry. names.get self.now.catalog.now.routes route.now.bytes ≡ Some entry) }
         ensures not_start { OnOk result (name.now.bytes ≢ start_name) }
         ensures has { (unseen : Unseen) → OnOk result (has ((state_by self.now unseen).referents route.now.bytes) name.now.bytes ≡ true) }
@@ -82,8 +81,8 @@ impl Checks<'_> {
         position: &Position,
     ) -> Result<Measure, Refusal>
         requires there { names.get self.now.catalog.now.routes route.now.bytes ≡ Some entry }
-        ensures accepted { (unseen : Unseen) → IfOk result (λ measure. referent_defined (state_by self.now unseen) route.now.bytes name.now.bytes (expression_of position.now) ≡ Ok (counted 0 (with_referent (state_by self.now unseen) route.now.bytes name.now.bytes measure))) }
-        ensures refused { (unseen : Unseen) → IfErr result (λ refusal. referent_defined (state_by self.now unseen) route.now.bytes name.now.bytes (expression_of position.now) ≡ Err refusal) }
+        ensures accepted { (unseen : Unseen) → IfOk result (DefinesReferent self.now unseen route.now.bytes name.now.bytes (expression_of position.now)) }
+        ensures refused { (unseen : Unseen) → IfErr result (RefusesToDefineReferent self.now unseen route.now.bytes name.now.bytes (expression_of position.now)) }
         ensures not_start { OnOk result (name.now.bytes ≢ start_name) }
         ensures new { (unseen : Unseen) → OnOk result (has ((state_by self.now unseen).referents route.now.bytes) name.now.bytes ≡ false) }
         ensures may_change { OnOk result (self.now.changes < CHANGES) }
@@ -109,8 +108,8 @@ impl Checks<'_> {
     ) -> Result<Measure, Refusal>
         requires there { names.get self.now.catalog.now.routes route.now.bytes ≡ Some entry }
         requires movable { (unseen : Unseen) → route_of_referent (state_by self.now unseen) route.now.bytes name.now.bytes ≡ Ok entry.ends }
-        ensures accepted { (unseen : Unseen) → IfOk result (λ measure. referent_moved (state_by self.now unseen) route.now.bytes name.now.bytes (expression_of position.now) ≡ Ok (counted 0 (with_referent (state_by self.now unseen) route.now.bytes name.now.bytes measure))) }
-        ensures refused { (unseen : Unseen) → IfErr result (λ refusal. referent_moved (state_by self.now unseen) route.now.bytes name.now.bytes (expression_of position.now) ≡ Err refusal) }
+        ensures accepted { (unseen : Unseen) → IfOk result (MovesReferent self.now unseen route.now.bytes name.now.bytes (expression_of position.now)) }
+        ensures refused { (unseen : Unseen) → IfErr result (RefusesToMoveReferent self.now unseen route.now.bytes name.now.bytes (expression_of position.now)) }
         ensures may_change { OnOk result (self.now.changes < CHANGES) }
     {
         let measure = self.referents.located(entry, position)?;

@@ -2,10 +2,8 @@
 //!
 //! Names, positions and numbers are read by the grammar that reads lines, so blanks may stand around them.
 
-ghost use Rattle.std.specs.Prelude.{◌≡◌, ◌↔◌, [], ◌∷◌, ℕ, List, IsTrue, IfOk, IfErr, All, MatchOption, true, false, if◌then◌else◌};
-ghost use Rattle.csv.specs.Records.{fields_of, field_at};
-ghost use Rattle.rs_value.specs.Values.{is_text, is_control};
-ghost use Rattle.std.specs.List.{list_any};
+ghost use Rattle.std.specs.Prelude.{◌≡◌, ◌↔◌, [], IfOk, All, true};
+ghost use Rattle.csv.specs.Records.{fields_of};
 ghost use Rattle.rs_lexer.specs.Lexis.{AreTokensFrom, IsTokenOf};
 ghost use Rattle.rs_methods.specs.Position.{expression_of};
 ghost use Rattle.rs_csv_lines.specs.Fields.{content, SaysName, SpellsPosition, SpellsNumber};
@@ -20,8 +18,8 @@ use rs_meaning::meaning::{self, GREATEST_NUMBER};
 use rs_methods::{Name, Position};
 use rs_refusal::Refusal;
 use rs_syntax::written::{WrittenPosition, WrittenValue};
+use rs_value::as_text;
 use std::alloc::Global;
-use std::str;
 
 /// The text of a field, without the quote that was read before it, and whether the field has nothing.
 #[derive(Clone, Copy)]
@@ -39,24 +37,6 @@ pub fn content(field: &[u8]) -> &[u8]
     match field.split_first() {
         Some((first, rest)) => { if *first == b'"' { rest } else { field } }
         None => field,
-    }
-}
-
-// Whether a byte is below the space, or 127.
-pub(crate) fn has_control(bytes: &[u8]) -> bool
-    ensures { result ≡ list_any is_control bytes.now }
-{
-    bytes.iter().any(|byte| *byte < b' ' || *byte == 127)
-}
-
-// The bytes as text, where they are UTF-8 without a control character.
-fn as_text(bytes: &[u8]) -> Option<&str>
-    ensures { MatchOption result (is_text bytes.now ≡ false)
-        (λ text. (text.now ≡ bytes.now) × (is_text bytes.now ≡ true)) }
-{
-    match str::from_utf8(bytes) {
-        Ok(text) => { if has_control(bytes) { None } else { Some(text) } }
-        Err(_) => None,
     }
 }
 

@@ -8,12 +8,12 @@ ghost use Rattle.rs_machine.specs.Request.{Asks, command};
 ghost use Rattle.rs_syntax.specs.Sound.{IsSound};
 ghost use Rattle.rs_syntax.specs.View.{tree_of};
 
-use crate::fields::has_control;
 use crate::put::put_session;
 use rs_machine::limits::LINE_BYTES;
 use rs_parser::command_of;
 use rs_refusal::Refusal;
 use rs_syntax::Command;
+use rs_value::has_control;
 use std::alloc::Global;
 
 // The command that a line asks after its session's digits.

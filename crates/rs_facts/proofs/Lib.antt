@@ -1,3 +1,4 @@
+pub mod NameOrder
 pub mod Rows
 pub mod Sets
 pub mod Placing

@@ -1,9 +1,9 @@
 -- Facts: which rows hold at each single thousandth of each route.
-use Rattle.std.specs.Prelude.{ℕ, ◌-◌, Bool, List}
+use Rattle.std.specs.Prelude.{◌≢◌, ℕ, ◌-◌, Bool, List, [], ◌∷◌}
 use Rattle.std.specs.declared.cmp.Ordering.{Ordering}
 use Rattle.std.specs.Ordering.{nat_cmp}
 use Rattle.std.specs.Cmp.Lexicographic.{slice_cmp}
-use Rattle.std.specs.List.{range_with_len}
+use Rattle.std.specs.List.{AllByRecursion, range_with_len}
 use Rattle.std.specs.FinMap as map
 use Rattle.rs_value.specs.Row.{Row, row_cmp}
 
@@ -13,6 +13,11 @@ Name = List ℕ
 
 unfoldable pub name_cmp : Name → Name → Ordering
 name_cmp = slice_cmp nat_cmp
+
+-- no name stands twice
+abbrev pub AreDistinct : List Name → Type 0
+AreDistinct [] = Unit {0}
+AreDistinct (name ∷ more) = AllByRecursion (λ other. name ≢ other) more × AreDistinct more
 
 -- what stands under names: in the order of the names, each name once
 abbrev pub Names : Type 0 → Type 0

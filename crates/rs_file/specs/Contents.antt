@@ -1,6 +1,7 @@
 -- What stands in the pages of a file: the definitions, the directory, the tables with their indexes, the referents.
 use Rattle.std.specs.Prelude.{◌≡◌, ◌≤◌, ◌<◌, ◌+◌, ◌*◌, ◌^◌, ◌==◌, ℕ, Some, List, filter, if◌then◌else◌, length, map, slice_get}
 use Rattle.std.specs.List.{AllByRecursion, AllZip}
+use Rattle.rs_page.specs.declared.header.TheConstants.{PAGE_ROOM}
 use Rattle.rs_attr.specs.Entries.{Field, FitsPages, IsColumn}
 use Rattle.rs_attr.specs.Tables.{HoldsTable, IndexState, all_of}
 use Rattle.rs_catalog_pages.specs.Chain.{HoldsBytes}
@@ -71,7 +72,7 @@ pub record IsIndex (types : List ColumnType) (directory : DirectoryItems) (item 
 pub record IsTable (directory : DirectoryItems) (items : List IndexItem) (item : TableItem) (table : TableContents) : Type 0 where
   pub few : length item.columns ≤ COLUMNS
   pub types : table.types ≡ map type_of item.columns
-  pub fits : 3 * (8 + event_width table.types) ≤ 4080
+  pub fits : 3 * (8 + event_width table.types) ≤ PAGE_ROOM
   pub stands : slice_get directory.tables item.number ≡ Some (item_of table.standing)
   pub indexes : AllZip (IsIndex table.types directory) (filter (λ index. index.table == item.number) items) table.indexes
 

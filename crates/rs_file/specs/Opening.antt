@@ -1,6 +1,7 @@
 -- What opening a file answers. Pages are told by how often they were reached before and after it.
 use Rattle.std.specs.Prelude.{◌≡◌, ◌≤◌, ◌<◌, ◌+◌, ◌*◌, ◌^◌, ◌==◌, ℕ, List, false, filter, length, map, replicate}
 use Rattle.std.specs.List.{AllByRecursion, AllZip}
+use Rattle.rs_page.specs.declared.header.TheConstants.{PAGE_ROOM}
 use Rattle.rs_attr.specs.Tables.{all_of}
 use Rattle.rs_catalog_pages.specs.Directory.{DirectoryItems, HasDirectory, TreeItem}
 use Rattle.rs_catalog_pages.specs.Fitting.{FitsCatalogue}
@@ -40,7 +41,7 @@ pub record IsOpened (opened : OpenedTable) (table : TableContents) : Type 0 wher
 pub record IsTableOf (directory : DirectoryItems) (definitions : CatalogueItems) (item : TableItem) (opened : OpenedTable) : Type 0 where
   pub few : length item.columns ≤ COLUMNS
   pub types : opened.records.types ≡ map type_of item.columns
-  pub fits : 3 * (8 + event_width opened.records.types) ≤ 4080
+  pub fits : 3 * (8 + event_width opened.records.types) ≤ PAGE_ROOM
   pub indexes : AllZip (IsIndex opened.records.types directory) (filter (λ index. index.table == item.number) definitions.indexes) opened.indexes.items
   pub committed : opened.records.committed ≡ opened.records.working
   pub indexes_committed : AllByRecursion (λ index. index.committed ≡ index.working) opened.indexes.items

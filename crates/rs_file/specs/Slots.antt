@@ -2,6 +2,7 @@
 -- there is none.
 use Rattle.std.specs.Prelude.{◌≡◌, ◌≤◌, ◌<◌, ◌+◌, ◌*◌, ◌^◌, ◌==◌, ℕ, Some, All, List, filter, length, map, slice_get}
 use Rattle.std.specs.List.{AllZip}
+use Rattle.rs_page.specs.declared.header.TheConstants.{PAGE_ROOM}
 use Rattle.rs_attr.specs.Entries.{FitsPages, IsColumn}
 use Rattle.rs_attr.specs.Tables.{IndexState}
 use Rattle.rs_catalog_pages.specs.Directory.{TreeItem}
@@ -30,7 +31,7 @@ pub record IsIndexOf (types : List ColumnType) (item : IndexItem) (index : Index
 pub record IsOfItem (definitions : CatalogueItems) (item : TableItem) (opened : OpenedTable) : Type 0 where
   pub few : length item.columns ≤ COLUMNS
   pub types : opened.records.types ≡ map type_of item.columns
-  pub fits : 3 * (8 + event_width opened.records.types) ≤ 4080
+  pub fits : 3 * (8 + event_width opened.records.types) ≤ PAGE_ROOM
   pub indexes : AllZip (IsIndexOf opened.records.types) (indexes_on definitions.indexes item.number) opened.indexes.items
 
 -- the slot of the table's number has its tree

@@ -2,6 +2,7 @@
 
 ghost use Rattle.std.specs.Prelude.{◌≡◌, ◌≤◌, ◌+◌, ◌*◌, ◌==◌, ◌⊎◌, Err, IfErr, IfNone, IfOk, IfSome, List, filter, length, map};
 ghost use Rattle.std.specs.List.{AllByRecursion, AllZip};
+ghost use Rattle.rs_page.specs.declared.header.TheConstants.{PAGE_ROOM};
 ghost use Rattle.rs_attr.specs.Tables.{IndexState};
 ghost use Rattle.rs_catalog_pages.specs.Said.{said_column, said_directory, said_index, said_table};
 ghost use Rattle.rs_file.specs.Contents.{IsIndex, type_of};
@@ -12,14 +13,12 @@ ghost use Rattle.rs_versioned.specs.Events.{event_width};
 use rs_attr::AttrIndex;
 use rs_catalog_pages::{StoredColumn, StoredDirectory, StoredIndex, StoredTable};
 use rs_refusal::Refusal;
+use rs_tree::GREATEST_ENTRY;
 use rs_value::{ColumnType, Schema, column_width, row_width};
 use rs_versioned::event::EVENT_BYTES;
 use std::alloc::Global;
 
-/// The bytes that an entry of an inner page may take at the most where three of them fit it.
-const ENTRY_BYTES: usize = 1360;
-
-/// The bytes of such an entry of a table's tree beside its cell.
+/// The bytes of an entry of an inner page of a table's tree beside its cell.
 const TABLE_ENTRY_FRONT: usize = 8;
 
 /// The bytes of such an entry of an index's tree beside its value and its cell.
@@ -28,9 +27,9 @@ const INDEX_ENTRY_FRONT: usize = 4;
 /// The columns of a table; none where they are too many, or three entries of an inner page of its tree would not fit it.
 pub fn schema_of(table: &StoredTable) -> Option<Schema>
     ensures columns { IfSome result (λ schema. schema.items ≡ map type_of (said_table table.now).columns) }
-    ensures fits { IfSome result (λ schema. (length (said_table table.now).columns ≤ COLUMNS) × (3 * (8 + event_width schema.items) ≤ 4080)) }
+    ensures fits { IfSome result (λ schema. (length (said_table table.now).columns ≤ COLUMNS) × (3 * (8 + event_width schema.items) ≤ PAGE_ROOM)) }
     ensures none { IfNone result (length (said_table table.now).columns ≤ COLUMNS
-        → 3 * (8 + event_width (map type_of (said_table table.now).columns)) ≤ 4080 → ⊥) }
+        → 3 * (8 + event_width (map type_of (said_table table.now).columns)) ≤ PAGE_ROOM → ⊥) }
 {
     let mut schema = Schema::new();
     for column in table.columns.list.as_slice() {
@@ -39,7 +38,7 @@ pub fn schema_of(table: &StoredTable) -> Option<Schema>
         }
         schema.push(type_of(column));
     }
-    if row_width(&schema) > ENTRY_BYTES - TABLE_ENTRY_FRONT - EVENT_BYTES {
+    if row_width(&schema) > GREATEST_ENTRY - TABLE_ENTRY_FRONT - EVENT_BYTES {
         return None;
     }
     Some(schema)
@@ -99,7 +98,7 @@ fn index_of(schema: &Schema, item: &StoredIndex, directory: &StoredDirectory) ->
         .get(item.number as usize)?
         .root;
     let width = column_width(*schema.as_slice().get(column)?);
-    if row_width(schema) > ENTRY_BYTES - INDEX_ENTRY_FRONT - EVENT_BYTES - width {
+    if row_width(schema) > GREATEST_ENTRY - INDEX_ENTRY_FRONT - EVENT_BYTES - width {
         return None;
     }
     Some(AttrIndex::with(schema, column, root))

@@ -2,6 +2,7 @@
 
 ghost use Rattle.std.specs.Prelude.{◌≡◌, ◌≤◌, ◌<◌, ◌+◌, ◌*◌, ◌^◌, ℕ, List, ◌++◌, ◌∷◌, length, map};
 ghost use Rattle.std.specs.List.{AllByRecursion, AllZip};
+ghost use Rattle.rs_page.specs.declared.header.TheConstants.{PAGE_ROOM};
 ghost use Rattle.rs_attr.specs.Entries.{FitsPages};
 ghost use Rattle.rs_catalog_pages.specs.Chain.{StoresBytes};
 ghost use Rattle.rs_catalog_pages.specs.Directory.{DirectoryItems, HasDirectory, StoresDirectory};
@@ -125,7 +126,7 @@ pub fn table_without_roots_goes()
 /// its tree fit a page, and three of that of an index of each column.
 pub fn tables_of_lines_fit_pages()
     ensures table { (types : List ColumnType) → length types ≤ COLUMNS → AllByRecursion (λ type. width type ≤ TEXT_BYTES + 1) types
-        → 3 * (8 + event_width types) ≤ 4080 }
+        → 3 * (8 + event_width types) ≤ PAGE_ROOM }
     ensures index { (types : List ColumnType) → length types ≤ COLUMNS → AllByRecursion (λ type. width type ≤ TEXT_BYTES + 1) types
         → (column : ℕ) → FitsPages types column }
 {}

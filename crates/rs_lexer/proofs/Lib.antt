@@ -1,3 +1,4 @@
 mod ScanningLaws
 pub mod CutLaws
 pub mod TokenLaws
+pub mod NameTexts

@@ -1,2 +1,3 @@
 pub mod Lexis
+pub mod Names
 pub mod Scanning

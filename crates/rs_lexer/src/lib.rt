@@ -1,4 +1,4 @@
-//! The tokens of a line.
+//! The tokens of a line, and which texts are names.
 //!
 //! A line is cut by the longest match: each token is a slice of the line, in order, and only blanks come
 //! between them. A line has one cut, or none, and then it is refused.
@@ -8,9 +8,11 @@ ghost use Rattle.std.specs.Prelude.{◌≡◌, ℕ, List};
 ghost use Rattle.rs_lexer.specs.declared.token.Token.{Token};
 ghost use Rattle.rs_lexer.specs.Lexis.{AreTokensFrom};
 
+pub mod names;
 mod scan;
 pub mod token;
 
+pub use names::{are_name_bytes, is_name};
 pub use rs_grammar::kind::{NAME_BYTES, TokenKind};
 pub use scan::front_token;
 pub use token::{Token, tokens};

@@ -1,7 +1,7 @@
 -- What is so of every state that the machine comes to.
 --
 -- A law says so: the state at the beginning is lawful, and whatever lines are answered leave it lawful.
-use Rattle.std.specs.Prelude.{◌≡◌, ◌≢◌, ℕ, ◌<◌, ◌≤◌, true, false, IsTrue, List, [], ◌∷◌, length, Some, Ok}
+use Rattle.std.specs.Prelude.{◌≡◌, ◌≢◌, ℕ, ◌<◌, ◌≤◌, true, false, IsTrue, List, length, Some, Ok}
 use Rattle.std.specs.List.{AllByRecursion}
 use Rattle.std.specs.FinMap as names
 use Rattle.rs_measure.specs.declared.measure.TheConstants.{GREATEST_MEASURE}
@@ -12,6 +12,7 @@ use Rattle.rs_value.specs.declared.column.TheConstants.{COLUMNS}
 use Rattle.rs_value.specs.Row.{Row}
 use Rattle.rs_value.specs.Values.{IsRowOf}
 use Rattle.rs_facts.specs.Fact.{Name, Names, contains}
+pub use Rattle.rs_facts.specs.Fact.{AreDistinct}
 use Rattle.rs_facts.specs.Query.{RouteEnds, Column, Table, Piece, Query}
 use Rattle.rs_planning.specs.Basis.{IndexedColumn}
 use Rattle.rs_facts.specs.WellFormed.{ArePiecesOn}
@@ -60,11 +61,6 @@ pub record IsReferent (routes : Names RouteEnds) (route name : Name) (measure : 
   pub lies : OnRoute routes route (IsPlaceOf measure)
 
 -- ---- tables
-
--- no name stands twice
-abbrev pub AreDistinct : List Name → Type 0
-AreDistinct [] = Unit {0}
-AreDistinct (name ∷ more) = AllByRecursion (λ other. name ≢ other) more × AreDistinct more
 
 -- from 1 to COLUMNS columns, each with a name of its own and a type
 pub record AreColumnsOfTable (columns : List Column) : Type 0 where

@@ -11,7 +11,7 @@ ghost use Rattle.rs_machine.specs.declared.limits.TheConstants.{ROUTES, REFERENT
 pub const ROUTES: usize = 4_096;
 
 /// How many referents a route may have beside START.
-pub const REFERENTS: usize = 1_000;
+pub const REFERENTS: usize = rs_methods::REFERENTS;
 
 /// How many tables there may be.
 pub const TABLES: usize = 128;

@@ -1,18 +1,11 @@
 -- The text of a position: what it says.
-use Rattle.std.specs.Prelude.{◌≡◌, ℕ, ◌≤◌, ◌⊎◌, IsTrue, List, [], ◌∷◌, ◌++◌, codes}
-use Rattle.std.specs.Char.{is_ascii_alphabetic}
-use Rattle.std.specs.List.{list_all}
-use Rattle.rs_grammar.specs.Words.{is_word_byte}
+use Rattle.std.specs.Prelude.{◌≡◌, ℕ, ◌≤◌, ◌⊎◌, List, [], ◌∷◌, ◌++◌, codes}
+pub use Rattle.rs_grammar.specs.Words.{IsWord}
 use Rattle.rs_measure.specs.declared.measure.TheConstants.{GREATEST_MEASURE}
 use Rattle.rs_measure.specs.declared.part.TheConstants.{GREATEST_PART}
 use Rattle.rs_measure.specs.Measure.{SaysMeasure}
 use Rattle.rs_measure.specs.Part.{SaysPart}
 use Rattle.rs_methods.specs.Position.{PositionExpression, absolute, beyond, before, interpolative}
-
--- A word: an ASCII letter, then letters, digits and `_`.
-abbrev pub IsWord : List ℕ → Type 0
-IsWord [] = ⊥
-IsWord (letter ∷ bytes) = IsTrue (is_ascii_alphabetic letter) × IsTrue (list_all is_word_byte bytes)
 
 -- `@` and a name alone: the place of that referent
 pub record SaysReferent (text name : List ℕ) (measure : ℕ) : Type 0 where

@@ -6,6 +6,7 @@
 #![tactic(auto)]
 
 pub mod expressing;
+pub mod limits;
 pub mod locating;
 pub mod position;
 pub mod referents;
@@ -15,6 +16,7 @@ pub mod text;
 pub use expressing::{
     ceiling_rounds_up, express, nearest_referent_is_one, nearest_referent_is_taken,
 };
+pub use limits::REFERENTS;
 pub use locating::locate;
 pub use position::{Method, Name, Position, START, Sign};
 pub use referents::{

@@ -15,6 +15,9 @@ use crate::page::PAGE_SIZE;
 /// The bytes of a page's header.
 pub const HEADER_SIZE: usize = 16;
 
+/// The bytes of a page after its header.
+pub const PAGE_ROOM: usize = PAGE_SIZE - HEADER_SIZE;
+
 /// What a page holds.
 #[derive(Clone, Copy, PartialEq, Eq, Debug)]
 pub enum PageKind {

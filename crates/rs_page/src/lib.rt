@@ -12,6 +12,6 @@ pub mod number;
 pub mod page;
 
 pub use file_header::{FLAG_OFFSET, FileHeader};
-pub use header::{ContentKind, HEADER_SIZE, PageHeader, PageKind};
+pub use header::{ContentKind, HEADER_SIZE, PAGE_ROOM, PageHeader, PageKind};
 pub use number::PageNumber;
 pub use page::{PAGE_SIZE, Page};

@@ -6,6 +6,7 @@ pub mod Sorting
 pub mod OverlayLaws
 pub mod NodeLaws
 pub mod QueryVariants
+pub mod Pairs
 pub mod Standing
 pub mod WidthLaws
 pub mod LeafLaws

@@ -1,8 +1,8 @@
 -- Plans on their way up: what is known of them, and what they are together. No clause of another crate speaks of it.
-use Rattle.std.specs.Prelude.{◌≡◌, ℕ, ◌+◌, ◌-◌, ◌*◌, ◌^◌, ◌<◌, ◌≤◌, ◌==◌, List, [], ◌∷◌, map, flat_map, sum_by, min, Contains}
+use Rattle.std.specs.Prelude.{◌≡◌, Bool, true, false, ℕ, ◌+◌, ◌-◌, ◌*◌, ◌^◌, ◌<◌, ◌≤◌, ◌==◌, List, [], ◌∷◌, map, flat_map, sum_by, min, Contains}
 use Rattle.std.specs.List.{AllByRecursion, range_with_len, position_or_len}
 use Rattle.rs_facts.specs.Condition.{Condition}
-use Rattle.rs_facts.specs.Query.{Query}
+use Rattle.rs_facts.specs.Query.{Query, overlay_rows, cover_rows, merge_rows, minus_rows}
 use Rattle.rs_planning.specs.Basis.{Basis}
 use Rattle.rs_planning.specs.Checked.{nodes_of}
 use Rattle.rs_planning.specs.Numbered.{Numbered}
@@ -101,6 +101,14 @@ pub record IsOverlaid (conditions : List Condition) (operands made : List Operan
 -- a leaf's number of records
 abbrev pub most_records : ℕ
 most_records = 2 ^ 96 - 1
+
+-- two queries are joined
+abbrev pub is_pair : Query → Bool
+is_pair (overlay_rows left right) = true
+is_pair (cover_rows left_width right_width left right) = true
+is_pair (merge_rows left right) = true
+is_pair (minus_rows left right) = true
+is_pair _ = false
 
 -- the plans are those of the rule, in the written order
 pub record IsPlaced (counted : Counted) (query : Query) (named : List Numbered) (windows : List PlannedWindow) (conditions : List Condition) (operands : List Operand) : Type 0 where

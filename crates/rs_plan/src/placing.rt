@@ -2,9 +2,9 @@
 //!
 //! A query is taken by value, so no part of it is planned twice.
 
-ghost use Rattle.std.specs.Prelude.{IfOk};
+ghost use Rattle.std.specs.Prelude.{◌≡◌, IfOk, true};
 ghost use Rattle.rs_checker.specs.CheckedView.{query_of, named_in};
-ghost use Rattle.rs_plan.specs.Operands.{IsPlaced, IsPlacedAlone};
+ghost use Rattle.rs_plan.specs.Operands.{IsPlaced, IsPlacedAlone, is_pair};
 ghost use Rattle.rs_plan.specs.PlanView.{conditions_of};
 
 use crate::asking::{Asked, for_dissolve, same, shares_of, with_condition, with_window};
@@ -51,6 +51,34 @@ pub(crate) fn place<C: Counts>(
             let one = place_alone(alloc, Box::into_inner(operand), asked, counts)?;
             dissolve(alloc, columns, one)
         }
+        CheckedQuery::Transform(operand, name, pieces) => {
+            let Asked {
+                windows,
+                conditions,
+            } = asked;
+            let inside = Asked {
+                windows: Vec::new(alloc),
+                conditions,
+            };
+            let one = place_alone(alloc, Box::into_inner(operand), inside, counts)?;
+            transform(alloc, name, pieces.as_slice(), one, windows)
+        }
+        pair => place_pair(alloc, pair, asked, counts),
+    }
+}
+
+/// The plans of OVERLAY, COVER, MERGE or MINUS, seen so.
+#[cycle(place)]
+fn place_pair<C: Counts>(
+    alloc: Global,
+    query: CheckedQuery,
+    asked: Asked,
+    counts: &C,
+) -> Result<Vec<Operand>, AllocError>
+    requires pair { is_pair (query_of query) ≡ true }
+    ensures { IfOk result (λ operands. IsPlaced (C.counted counts.now) (query_of query) (named_in query) asked.windows.items (conditions_of asked.conditions) operands.items) }
+{
+    match query {
         CheckedQuery::Merge(first, second) => {
             let other = same(alloc, &asked)?;
             let left = place_alone(alloc, Box::into_inner(first), other, counts)?;
@@ -83,18 +111,7 @@ pub(crate) fn place<C: Counts>(
             let right = place_alone(alloc, Box::into_inner(second), inside, counts)?;
             cover(alloc, left_width, right_width, left, right, conditions)
         }
-        CheckedQuery::Transform(operand, name, pieces) => {
-            let Asked {
-                windows,
-                conditions,
-            } = asked;
-            let inside = Asked {
-                windows: Vec::new(alloc),
-                conditions,
-            };
-            let one = place_alone(alloc, Box::into_inner(operand), inside, counts)?;
-            transform(alloc, name, pieces.as_slice(), one, windows)
-        }
+        _ => unreachable!(),
     }
 }
 

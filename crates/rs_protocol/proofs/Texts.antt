@@ -1,11 +1,7 @@
 -- Lines as text: the CR at the end, UTF-8, control characters.
-use Rattle.std.proofs.Common.{◌≡◌, ℕ, true, false, not, ◌&&◌, ◌==◌, List, [], ◌∷◌, ◌++◌, if◌then◌else◌, refl, ap, ◌∙◌, arith, eq-eqb}
+use Rattle.std.proofs.Common.{◌≡◌, ℕ, true, false, ◌==◌, List, [], ◌∷◌, ◌++◌, if◌then◌else◌, refl, ap, ◌∙◌, arith, eq-eqb}
 use Rattle.std.proofs.lemmas.Bool.Decides.{nat_tests}
-use Rattle.std.specs.List.{list_any}
-use Rattle.std.specs.Prelude.{IsUtf8}
-use Rattle.std.specs.Str.{is_utf8}
-use Rattle.std.proofs.lemmas.Str.{IsUtf8-from_is_utf8, is_utf8-from_IsUtf8}
-use Rattle.rs_machine.specs.Request.{without_return, is_text, is_control, CARRIAGE_RETURN}
+use Rattle.rs_machine.specs.Request.{without_return, CARRIAGE_RETURN}
 
 -- the last byte goes where it is a CR
 pub without_return-last : (front : List ℕ) (last : ℕ) → without_return (front ++ last ∷ []) ≡ (if last == CARRIAGE_RETURN then front else front ++ last ∷ [])
@@ -23,14 +19,3 @@ without_return-dropped line front last cut is_return = rw cut (rw without_return
 
 pub without_return-kept : (line front : List ℕ) (last : ℕ) → line ≡ front ++ last ∷ [] → (last ≡ 13 → ⊥) → line ≡ without_return line
 without_return-kept line front last cut no_return = rw cut (rw without_return-last (rw (is_other last 13 no_return)))
-
--- UTF-8 without a control character is text, and nothing else
-pub is_text-true : (bytes : List ℕ) → IsUtf8 bytes → list_any is_control bytes ≡ false → is_text bytes ≡ true
-is_text-true bytes utf8 plain = rw (is_utf8-from_IsUtf8 bytes utf8, plain)
-
-pub is_text-control : (bytes : List ℕ) → list_any is_control bytes ≡ true → is_text bytes ≡ false
-is_text-control bytes control = rw control (elim (is_utf8 bytes) as (λ b. (b && false) ≡ false) [ true ↦ refl | false ↦ refl ])
-
-pub is_text-no_utf8 : (bytes : List ℕ) → (IsUtf8 bytes → ⊥) → is_text bytes ≡ false
-is_text-no_utf8 bytes none =
-    elim (is_utf8 bytes) as (λ b. is_utf8 bytes ≡ b → (b && not (list_any is_control bytes)) ≡ false) [ true ↦ λ e. absurd (none (IsUtf8-from_is_utf8 bytes e)) | false ↦ λ e. refl ] refl

@@ -2,16 +2,15 @@
 //!
 //! A line too long is refused first, then one that is not text, then one without a session.
 
-ghost use Rattle.std.specs.Prelude.{◌≡◌, ◌-◌, Some, None, false, true, if◌then◌else◌, MatchOption, MatchResult};
-ghost use Rattle.std.specs.List.{list_any};
+ghost use Rattle.std.specs.Prelude.{◌≡◌, ◌-◌, Some, None, if◌then◌else◌, MatchOption, MatchResult};
 ghost use Rattle.std.specs.Char.{is_ascii_digit};
-ghost use Rattle.rs_machine.specs.Request.{without_return as line_text, is_control, is_text, ends_number as may_end, session_digits, line_refusal};
+ghost use Rattle.rs_machine.specs.Request.{without_return as line_text, ends_number as may_end, session_digits, line_refusal};
 ghost use Rattle.rs_protocol.specs.Inner.{HasSession, IsRequest};
 
 use rs_machine::limits::{LINE_BYTES, SESSIONS};
 use rs_refusal::Refusal;
 use rs_serve::Session;
-use std::str;
+use rs_value::as_text;
 
 /// A carriage return, which may come once before the LF.
 const CARRIAGE_RETURN: u8 = b'\r';
@@ -38,24 +37,6 @@ fn without_return(line: &[u8]) -> &[u8]
         front
     } else {
         line
-    }
-}
-
-/// Whether a byte is below the space, or 127.
-fn has_control(bytes: &[u8]) -> bool
-    ensures { result ≡ list_any is_control bytes.now }
-{
-    bytes.iter().any(|byte| *byte < b' ' || *byte == 127)
-}
-
-/// The bytes as text, where they are UTF-8 without a control character.
-fn as_text(bytes: &[u8]) -> Option<&str>
-    ensures { MatchOption result (is_text bytes.now ≡ false)
-        (λ text. (text.now ≡ bytes.now) × (is_text bytes.now ≡ true)) }
-{
-    match str::from_utf8(bytes) {
-        Ok(text) => { if has_control(bytes) { None } else { Some(text) } }
-        Err(_) => None,
     }
 }
 

@@ -1,7 +1,6 @@
 //! The query that the text of a view says, read as the line that defines the view is read.
 
 ghost use Rattle.std.specs.Prelude.{◌≡◌, ◌↔◌, Err, IfNone, IfOk, IfSome, IsTrue, Ok, string_bytes};
-ghost use Rattle.std.specs.List.{list_any};
 ghost use Rattle.rs_catalog_pages.specs.Said.{said_view};
 ghost use Rattle.rs_stored_catalog.specs.EnteringViews.{IsQueryOf, RefusesViews};
 ghost use Rattle.rs_machine_laws.specs.ViewLines.{IsReadable, shortest_view_line};
@@ -10,7 +9,7 @@ ghost use Rattle.rs_syntax.specs.Sound.{IsName, IsQuery, IsSound};
 ghost use Rattle.rs_syntax.specs.Tree.{CommandTree, QueryTree, define_view};
 ghost use Rattle.rs_syntax.specs.Verdict.{Reads};
 ghost use Rattle.rs_syntax.specs.View.{tree_of};
-ghost use Rattle.rs_value.specs.Values.{is_control, is_text};
+ghost use Rattle.rs_value.specs.Values.{is_text};
 
 use rs_catalog_pages::StoredView;
 use rs_machine::limits::LINE_BYTES;
@@ -18,6 +17,7 @@ use rs_machine_laws::view_lines::shortest_line_defines_the_view;
 use rs_parser::command_of;
 use rs_refusal::Refusal;
 use rs_syntax::{Command, Query, line_has_one_answer};
+use rs_value::has_control;
 use std::alloc::{AllocError, Global};
 use std::str;
 
@@ -64,13 +64,6 @@ fn is_text(bytes: &[u8]) -> bool
         Ok(_) => !has_control(bytes),
         Err(_) => false,
     }
-}
-
-// Whether a byte is below the space, or 127.
-fn has_control(bytes: &[u8]) -> bool
-    ensures { result ≡ list_any is_control bytes.now }
-{
-    bytes.iter().any(|byte| *byte < b' ' || *byte == 127)
 }
 
 // The command that a line of a session of one digit says. It is refused with 90, and with 94 only where the line says none.

@@ -1,24 +1,17 @@
 -- What every command that a line says keeps to.
-use Rattle.std.specs.Prelude.{◌≡◌, ◌≢◌, ℕ, ◌≤◌, List, [], ◌∷◌, length, Option, Some, None}
+use Rattle.std.specs.Prelude.{◌≢◌, ℕ, ◌≤◌, List, [], ◌∷◌, length, Option, Some, None}
 use Rattle.std.specs.List.{AllByRecursion}
-use Rattle.rs_measure.specs.declared.measure.TheConstants.{GREATEST_MEASURE}
 use Rattle.rs_measure.specs.declared.part.TheConstants.{GREATEST_PART}
+pub use Rattle.rs_measure.specs.Measure.{IsMeasure}
 use Rattle.rs_value.specs.declared.column.TheConstants.{TEXT_BYTES}
 use Rattle.rs_value.specs.declared.column.ColumnType.{ColumnType}
 use Rattle.rs_value.specs.declared.column.ColumnType.TheVariants as types
 use Rattle.rs_value.specs.Row.{null}
 use Rattle.rs_value.specs.Values.{IsValue, AreValues}
-use Rattle.rs_grammar.specs.declared.kind.TheConstants.{NAME_BYTES, FETCHED_ROWS}
-use Rattle.rs_lexer.specs.Lexis.{reserved, kind_in}
+use Rattle.rs_grammar.specs.declared.kind.TheConstants.{FETCHED_ROWS}
+pub use Rattle.rs_lexer.specs.Names.{IsName}
 use Rattle.rs_methods.specs.Position.{PositionExpression, absolute, beyond, before, interpolative}
-use Rattle.rs_methods.specs.PositionText.{IsWord}
 use Rattle.rs_syntax.specs.Tree.{EventLocationTree, along, at_point, WindowTree, whole_route, part_of_route, PieceTree, OperandTree, column_named, written_value, ConditionTree, compare, is_null, is_not_null, negated, bracketed, both, either, QueryTree, named, filtered, dissolved, renamed, overlaid, covered, merged, subtracted, windowed, transformed, CommandTree, define_route, define_table, define_referent, define_index, define_view, define_alignment, move_referent, drop_route, drop_table, drop_index, drop_view, drop_alignment, drop_referent, insert, remove, translate, select, total, explain, open_cursor, fetch, close_cursor, save, reopen}
-
--- A name: a word of at most NAME_BYTES bytes that is not reserved.
-pub record IsName (name : List ℕ) : Type 0 where
-  pub word : IsWord name
-  pub short : length name ≤ NAME_BYTES
-  pub not_reserved : kind_in reserved name ≡ None
 
 -- a text's column has room for a byte at least
 abbrev pub IsColumnType : ColumnType → Type 0
@@ -28,9 +21,6 @@ IsColumnType (types.Text most) = (1 ≤ most) × (most ≤ TEXT_BYTES)
 abbrev pub AreColumns : List (List ℕ × ColumnType) → Type 0
 AreColumns [] = Unit {0}
 AreColumns (column ∷ columns) = IsName column.0 × IsColumnType column.1 × AreColumns columns
-
-abbrev pub IsMeasure : ℕ → Type 0
-IsMeasure thousandths = thousandths ≤ GREATEST_MEASURE
 
 -- the referent's name is a name, the measure a measure, the part at most all
 abbrev pub IsPosition : PositionExpression → Type 0

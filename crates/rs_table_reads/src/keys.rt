@@ -1,15 +1,14 @@
 //! The value of a column that a literal is.
 
 ghost use Rattle.std.specs.Prelude.{◌≡◌, ◌≤◌, ℕ, IfNone, IfSome, List, length, min};
-ghost use Rattle.std.specs.List.{list_any};
 ghost use Rattle.rs_value.specs.Encoding.{SaysDatum};
 ghost use Rattle.rs_value.specs.Row as rows;
-ghost use Rattle.rs_value.specs.Values.{IsOfType, IsValue, is_control};
+ghost use Rattle.rs_value.specs.Values.{IsOfType, IsValue};
 ghost use Rattle.rs_value.specs.declared.column.TheConstants.{TEXT_BYTES};
 ghost use Rattle.rs_value.specs.View.{datum_of, literal_datum};
 
 use arrayvec::ArrayString;
-use rs_value::{ColumnType, Literal, Value};
+use rs_value::{ColumnType, Literal, Value, has_control};
 
 /// The greatest number of a value, and the least with its sign turned.
 const GREATEST_NUMBER: u64 = 1_000_000_000_000;
@@ -53,11 +52,4 @@ fn text_of(most: u8, text: &str) -> Option<Value>
         Ok(bytes) => Some(Value::Text(bytes)),
         Err(_) => None,
     }
-}
-
-/// Whether a byte among these may not be in a text.
-fn has_control(bytes: &[u8]) -> bool
-    ensures { result ≡ list_any is_control bytes.now }
-{
-    bytes.iter().any(|byte| *byte < 32 || *byte == 127)
 }

@@ -4,6 +4,7 @@
 
 ghost use Rattle.std.specs.Prelude.{◌≡◌, ◌≤◌, ◌*◌, ◌++◌, [], ◌∷◌, Bool, OnOk, IsOkUnless, filter, length};
 ghost use Rattle.std.specs.Fn.{FnReturnsAt};
+ghost use Rattle.rs_page.specs.declared.header.TheConstants.{PAGE_ROOM};
 ghost use Rattle.rs_records.specs.Order.{Ascends};
 ghost use Rattle.rs_records.specs.Records.{records};
 ghost use Rattle.rs_records.specs.Listed.{listed, record_width};
@@ -29,7 +30,7 @@ pub fn collect<S: Summary, F: Fn(&S) -> bool>(
     cells: &mut Cells,
 ) -> Result<(), Refusal>
     requires callable { F.IsAlwaysCallable keep.now }
-    requires fit { count * layout.width ≤ 4080 }
+    requires fit { count * layout.width ≤ PAGE_ROOM }
     requires width { record_width cells.old ≡ layout.width }
     ensures width { record_width cells.new ≡ layout.width }
     ensures refused { IsOkUnless result Refusal.OutOfMemory }

@@ -1,6 +1,7 @@
 //! The widths in the pages of a tree.
 
 ghost use Rattle.std.specs.Prelude.{◌≡◌, ◌<◌, ◌≤◌, ◌*◌, ◌+◌};
+ghost use Rattle.rs_page.specs.declared.header.TheConstants.{PAGE_ROOM};
 ghost use Rattle.rs_tree.specs.Form.{least_from};
 
 /// The bytes of a cell and of a summary. Three entries fit an inner page at least.
@@ -9,7 +10,7 @@ pub struct Layout {
     pub width: usize,
     pub summary: usize,
     ghost some: { 0 < width },
-    ghost fits: { 3 * (4 + summary + width) ≤ 4080 },
+    ghost fits: { 3 * (4 + summary + width) ≤ PAGE_ROOM },
 }
 
 impl Layout {
@@ -18,7 +19,7 @@ impl Layout {
     /// Cells of this width, and summaries of that one.
     pub fn new(width: usize, summary: usize) -> Layout
         requires some { 0 < width }
-        requires fits { 3 * (4 + summary + width) ≤ 4080 }
+        requires fits { 3 * (4 + summary + width) ≤ PAGE_ROOM }
         ensures width { result.width ≡ width }
         ensures summary { result.summary ≡ summary }
     {
@@ -37,7 +38,7 @@ impl Layout {
     /// The bytes of an entry.
     pub fn entry_width(self) -> usize
         ensures width { result ≡ entry_bytes self }
-        ensures fits { 3 * result ≤ 4080 }
+        ensures fits { 3 * result ≤ PAGE_ROOM }
     {
         self.least_from() + self.width
     }

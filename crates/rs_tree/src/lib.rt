@@ -23,7 +23,7 @@ pub mod wanted;
 
 pub use entry::write_entry;
 pub use layout::Layout;
-pub use limits::GREATEST_WIDTH;
+pub use limits::{GREATEST_ENTRY, GREATEST_WIDTH};
 pub use node::{Node, content, read_node};
 pub use search::{LEVELS, descend, range};
 pub use splicing::splice_page;

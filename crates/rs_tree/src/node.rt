@@ -1,6 +1,7 @@
 //! What a page of a tree holds: cells or entries, and how many.
 
 ghost use Rattle.std.specs.Prelude.{◌≡◌, ◌≤◌, ◌<◌, ◌+◌, ◌*◌, ◌↔◌, IsTrue, IfSome, IfNone, length};
+ghost use Rattle.rs_page.specs.declared.header.TheConstants.{PAGE_ROOM};
 
 use crate::layout::Layout;
 use rs_page::{HEADER_SIZE, PAGE_SIZE, Page, PageKind, PageNumber};
@@ -19,7 +20,7 @@ ghost use Rattle.rs_tree.specs.declared.node.Node.{Node};
 /// What follows the header of a page.
 pub fn content(page: &Page) -> &[u8]
     ensures bytes { result.now ≡ content page.now.bytes }
-    ensures size { length result.now ≡ 4080 }
+    ensures size { length result.now ≡ PAGE_ROOM }
     ensures page { length page.now.bytes ≡ PAGE_SIZE }
 {
     after_header(&page.bytes)
@@ -56,7 +57,7 @@ pub fn read_node(page: &Page, number: PageNumber, layout: Layout) -> Option<Node
 /// Whether so many records fit a page.
 fn fits(page: &Page, count: usize, width: usize) -> bool
     requires small { count < 65536 }
-    requires narrow { width ≤ 4080 }
+    requires narrow { width ≤ PAGE_ROOM }
     ensures fit { IsTrue result ↔ (count * width ≤ length (content page.now.bytes)) }
     ensures size { length page.now.bytes ≡ PAGE_SIZE }
 {

@@ -3,6 +3,7 @@
 ghost use Rattle.std.specs.Prelude.{◌≡◌, ℕ, ◌+◌, ◌-◌, ◌*◌, ◌<◌, ◌≤◌, ◌++◌, length, take, drop};
 ghost use Rattle.rs_page.specs.Header.{IsHeader};
 ghost use Rattle.rs_page.specs.Number.{number_at};
+ghost use Rattle.rs_page.specs.declared.header.TheConstants.{PAGE_ROOM};
 ghost use Rattle.rs_records.specs.Records.{records};
 ghost use Rattle.rs_tree.specs.Content.{content};
 
@@ -21,9 +22,9 @@ pub fn splice_page(
     removed: usize,
     added: &[u8],
 )
-    requires fit { count * width ≤ 4080 }
+    requires fit { count * width ≤ PAGE_ROOM }
     requires part { at + removed ≤ count }
-    requires room { (count - removed) * width + length added.now ≤ 4080 }
+    requires room { (count - removed) * width + length added.now ≤ PAGE_ROOM }
     ensures header { IsHeader page.new.bytes header }
     ensures size { length page.new.bytes ≡ PAGE_SIZE }
     ensures records { (more : ℕ) → length added.now ≡ more * width
@@ -47,9 +48,9 @@ fn splice_content(
     added: &[u8],
 )
     requires size { length bytes.old ≡ PAGE_SIZE }
-    requires fit { count * width ≤ 4080 }
+    requires fit { count * width ≤ PAGE_ROOM }
     requires part { at + removed ≤ count }
-    requires room { (count - removed) * width + length added.now ≤ 4080 }
+    requires room { (count - removed) * width + length added.now ≤ PAGE_ROOM }
     ensures before { (k n : ℕ) → k + n ≤ HEADER_SIZE → number_at k n bytes.new ≡ number_at k n bytes.old }
     ensures records { (more : ℕ) → length added.now ≡ more * width
         → records (count - removed + more) width (content bytes.new)

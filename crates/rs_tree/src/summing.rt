@@ -3,6 +3,7 @@
 ghost use Rattle.std.specs.Prelude.{◌≡◌, ◌≤◌, ◌*◌, List, length, take, drop};
 ghost use Rattle.std.specs.List.{AllZip, flat_map};
 ghost use Rattle.rs_page.specs.Number.{number_at};
+ghost use Rattle.rs_page.specs.declared.header.TheConstants.{PAGE_ROOM};
 ghost use Rattle.rs_records.specs.Records.{records};
 ghost use Rattle.rs_tree.specs.Content.{Child, SaysChild, content};
 ghost use Rattle.rs_tree.specs.Form.{child_bytes, joined, least_from};
@@ -19,7 +20,7 @@ use rs_records::record_at;
 
 /// The summary of the cells of a leaf.
 pub fn leaf_summary<S: Summary>(page: &Page, count: usize, layout: Layout) -> S
-    requires { count * layout.width ≤ 4080 }
+    requires { count * layout.width ≤ PAGE_ROOM }
     ensures { result ≡ joined S.unit S.join S.of (records count layout.width (content page.now.bytes)) }
 {
     let bytes = content(page);
@@ -32,7 +33,7 @@ pub fn leaf_summary<S: Summary>(page: &Page, count: usize, layout: Layout) -> S
 
 /// The summary of all cells below an inner page, from its entries.
 pub fn inner_summary<S: Summary>(page: &Page, count: usize, layout: Layout) -> S
-    requires fit { count * entry_bytes layout ≤ 4080 }
+    requires fit { count * entry_bytes layout ≤ PAGE_ROOM }
     requires summary { layout.summary ≡ S.WIDTH }
     ensures { (children : List Child)
         → AllZip (SaysChild (form_in S.Summary layout))

@@ -4,6 +4,7 @@
 
 ghost use Rattle.std.specs.Prelude.{◌≡◌, ◌<◌, ◌≤◌, ◌*◌, IfErr, length};
 ghost use Rattle.std.specs.Fn.{FnReturnsAt};
+ghost use Rattle.rs_page.specs.declared.header.TheConstants.{PAGE_ROOM};
 ghost use Rattle.rs_records.specs.Listed.{listed, record_width};
 ghost use Rattle.rs_records.specs.Records.{records, keys};
 ghost use Rattle.rs_tree.specs.Calls.{WalksBy};
@@ -73,7 +74,7 @@ fn walk_entries<P: Pages, S: Summary, F: Fn(&S) -> bool>(
     requires callable { F.IsAlwaysCallable wanted.now.keep.now }
     requires width { record_width cells.old ≡ wanted.now.layout.width }
     requires summary { wanted.now.layout.summary ≡ S.WIDTH }
-    requires fit { count * entry_bytes wanted.now.layout ≤ 4080 }
+    requires fit { count * entry_bytes wanted.now.layout ≤ PAGE_ROOM }
     requires levels { 0 < levels }
     ensures rests { OnlyReads P.Pages result pages.old pages.new }
     ensures width { record_width cells.new ≡ wanted.now.layout.width }

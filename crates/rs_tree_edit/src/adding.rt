@@ -2,6 +2,7 @@
 
 ghost use Rattle.std.specs.Prelude.{◌≡◌, ◌≤◌, ◌<◌, ◌*◌, true, IfOk, length};
 ghost use Rattle.rs_page.specs.Header.{page_kind};
+ghost use Rattle.rs_page.specs.declared.header.TheConstants.{PAGE_ROOM};
 ghost use Rattle.rs_records.specs.Records.{records};
 ghost use Rattle.rs_tree_edit.specs.Editing.{AddsPage, HasNoFreeList};
 ghost use Rattle.rs_page_owners.specs.Calls.{Makes, WorksOn};
@@ -22,7 +23,7 @@ pub fn add_page<P: Pages>(
     requires begun { (P.store pages.old).is_begun ≡ true }
     requires wide { 0 < width }
     requires whole { length bytes.now ≡ count * width }
-    requires fit { count * width ≤ 4080 }
+    requires fit { count * width ≤ PAGE_ROOM }
     ensures keeps { P.keeps pages.old pages.new }
     ensures works { WorksOn P.Pages (HasNoFreeList (P.store pages.old).map) result pages.old pages.new }
     ensures added { Makes P.Pages (λ old new number. AddsPage old new number (page_kind kind) width

@@ -2,6 +2,7 @@
 
 ghost use Rattle.std.specs.Prelude.{◌≡◌, ◌≢◌, ◌≤◌, ◌<◌, ◌+◌, ◌-◌, ◌*◌, None, true, IfErr, length, Err};
 ghost use Rattle.rs_page.specs.Header.{page_kind};
+ghost use Rattle.rs_page.specs.declared.header.TheConstants.{PAGE_ROOM};
 ghost use Rattle.rs_pages.specs.PageMap.{HasNoFit};
 ghost use Rattle.rs_pages.specs.Uses.{HoldsUsed};
 ghost use Rattle.rs_records.specs.Records.{records};
@@ -41,10 +42,10 @@ pub fn edit_page<P: Pages>(
 ) -> Result<(), Refusal>
     requires begun { (P.store pages.old).is_begun ≡ true }
     requires wide { 0 < edited.width }
-    requires fit { edited.count * edited.width ≤ 4080 }
+    requires fit { edited.count * edited.width ≤ PAGE_ROOM }
     requires part { edit.at + edit.removed ≤ edited.count }
     requires whole { length added.now ≡ edit.more * edited.width }
-    requires room { (edited.count - edit.removed + edit.more) * edited.width ≤ 4080 }
+    requires room { (edited.count - edit.removed + edit.more) * edited.width ≤ PAGE_ROOM }
     ensures keeps { P.keeps pages.old pages.new }
     ensures works { WorksOn P.Pages (HasNoFit (P.store pages.old).map edited.number) result pages.old pages.new }
     ensures room { result ≢ Err Refusal.FileFull }
@@ -71,7 +72,7 @@ pub fn edit_page<P: Pages>(
 /// The header of a page of so many records.
 pub fn header_of(kind: ContentKind, number: PageNumber, count: usize, width: usize) -> PageHeader
     requires wide { 0 < width }
-    requires room { count * width ≤ 4080 }
+    requires room { count * width ≤ PAGE_ROOM }
     ensures { result ≡ tree_header (page_kind kind) count number }
 {
     PageHeader {

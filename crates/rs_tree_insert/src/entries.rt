@@ -12,14 +12,11 @@ use crate::answer::Put;
 use rs_page::PageNumber;
 use rs_pages::Pages;
 use rs_refusal::Refusal;
-use rs_tree::{Layout, Summary};
+use rs_tree::{GREATEST_ENTRY, Layout, Summary};
 use rs_tree_edit::write_entry_of;
 
-/// The bytes of an entry at the most.
-pub const ONE_ENTRY: usize = 1360;
-
 /// The bytes of two entries at the most.
-pub const TWO_ENTRIES: usize = 2 * 1360;
+pub const TWO_ENTRIES: usize = 2 * GREATEST_ENTRY;
 
 /// Writes the entry of a page, and that of the page that was split off it, and answers how many there are.
 pub fn write_entries<P: Pages, S: Summary>(

@@ -3,6 +3,7 @@
 //! The page is only lent: of an inner page the one entry that the cell belongs under is copied, and of a leaf nothing.
 
 ghost use Rattle.std.specs.Prelude.{◌≡◌, ◌≤◌, ◌*◌, ℕ, List, IfOk, OnErr, IsOkUnless, length};
+ghost use Rattle.rs_page.specs.declared.header.TheConstants.{PAGE_ROOM};
 ghost use Rattle.rs_tree.specs.Layouts.{entry_bytes};
 ghost use Rattle.rs_tree.specs.Node.{IsNode};
 ghost use Rattle.rs_tree.specs.declared.node.Node.{Node};
@@ -69,7 +70,7 @@ fn spot_in(
 
 /// Where the cell belongs in a leaf.
 fn leaf_spot(page: &Page, layout: Layout, count: usize, cell: &[u8]) -> Spot
-    requires { count * layout.width ≤ 4080 }
+    requires { count * layout.width ≤ PAGE_ROOM }
     ensures { (number : ℕ) (entry : List ℕ) → IsNode page.now.bytes number layout (Node.Leaf count)
         → IsSpot page.now.bytes number layout cell.now entry result }
 {
@@ -85,7 +86,7 @@ fn leaf_spot(page: &Page, layout: Layout, count: usize, cell: &[u8]) -> Spot
 /// Where the cell belongs in an inner page. The entry that it belongs under is copied.
 fn inner_spot(page: &Page, layout: Layout, count: usize, cell: &[u8], entry: &mut [u8]) -> Spot
     requires some { 1 ≤ count }
-    requires fit { count * entry_bytes layout ≤ 4080 }
+    requires fit { count * entry_bytes layout ≤ PAGE_ROOM }
     requires entry { length entry.old ≡ entry_bytes layout }
     ensures { (number : ℕ) → IsNode page.now.bytes number layout (Node.Inner count)
         → IsSpot page.now.bytes number layout cell.now entry.new result }

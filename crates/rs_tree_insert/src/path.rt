@@ -1,6 +1,7 @@
 //! The path of a cell: down to its leaf, and up again.
 
 ghost use Rattle.std.specs.Prelude.{◌≡◌, ◌⊎◌, ◌<◌, ◌≤◌, ◌+◌, ◌*◌, ℕ, List, Some, true, false, [], ◌∷◌, IfOk, IsTrue, length, take, drop, slice_get};
+ghost use Rattle.rs_page.specs.declared.header.TheConstants.{PAGE_ROOM};
 ghost use Rattle.rs_pages.specs.PageMap.{SamePages};
 ghost use Rattle.rs_records.specs.Records.{records};
 ghost use Rattle.rs_tree.specs.Content.{content};
@@ -14,14 +15,14 @@ ghost use Rattle.rs_page_owners.specs.Calls.{Makes, WithPage, WorksOn};
 ghost use Rattle.rs_pages.specs.Calls.{Reads};
 
 use crate::answer::Put;
-use crate::entries::{ONE_ENTRY, TWO_ENTRIES, write_entries};
+use crate::entries::{TWO_ENTRIES, write_entries};
 use crate::finding::{Spot, find_spot};
 use crate::writing::put_records;
 use rs_page::{ContentKind, PageNumber};
 use rs_pages::Pages;
 use rs_refusal::Refusal;
 use rs_tree::entry::{child, summary};
-use rs_tree::{Layout, Summary};
+use rs_tree::{GREATEST_ENTRY, Layout, Summary};
 use rs_tree_edit::{Edit, EditedPage};
 
 /// A place in a page of a tree: the page, how many records it has, which of them, and whether the page is the last of its level.
@@ -56,7 +57,7 @@ pub fn insert_below<P: Pages, S: Summary>(
     ensures found { Reads P.Pages (λ map put. TellsBelow (form_in S.Summary layout) map number cell.now put) result pages.old }
     ensures same { Makes P.Pages (λ old new put. is_found put ≡ true → SamePages new old) result pages.old pages.new }
 {
-    let mut bytes = [0; ONE_ENTRY];
+    let mut bytes = [0; GREATEST_ENTRY];
     let entry = &mut bytes[..layout.entry_width()];
     let spot = find_spot(pages, number, layout, cell, entry)?;
     match spot {
@@ -94,7 +95,7 @@ fn insert_here<P: Pages, S: Summary>(
 ) -> Result<Put, Refusal>
     requires begun { (P.store pages.old).is_begun ≡ true }
     requires width { length cell.now ≡ layout.width }
-    requires fit { place.count * layout.width ≤ 4080 }
+    requires fit { place.count * layout.width ≤ PAGE_ROOM }
     requires at { place.at ≤ place.count }
     ensures keeps { P.keeps pages.old pages.new }
     ensures works { WorksOn P.Pages (IsBroken (P.store pages.old).map place.number) result pages.old pages.new }
@@ -132,7 +133,7 @@ fn insert_under<P: Pages, S: Summary>(
     requires summary { layout.summary ≡ S.WIDTH }
     requires width { length cell.now ≡ layout.width }
     requires levels { 0 < levels }
-    requires fit { place.count * entry_bytes layout ≤ 4080 }
+    requires fit { place.count * entry_bytes layout ≤ PAGE_ROOM }
     requires at { place.at < place.count }
     requires entry { length entry.now ≡ entry_bytes layout }
     ensures keeps { P.keeps pages.old pages.new }
@@ -179,7 +180,7 @@ fn write_above<P: Pages, S: Summary>(
 ) -> Result<Put, Refusal>
     requires begun { (P.store pages.old).is_begun ≡ true }
     requires summary { layout.summary ≡ S.WIDTH }
-    requires fit { place.count * entry_bytes layout ≤ 4080 }
+    requires fit { place.count * entry_bytes layout ≤ PAGE_ROOM }
     requires at { place.at < place.count }
     requires entry { length entry.now ≡ entry_bytes layout }
     ensures keeps { P.keeps pages.old pages.new }

@@ -2,6 +2,7 @@
 
 ghost use Rattle.std.specs.Prelude.{◌≡◌, ◌≤◌, ◌<◌, ◌+◌, ◌-◌, ◌*◌, ◌/◌, true, IfOk, OnOk, length, take};
 ghost use Rattle.rs_page.specs.Header.{page_kind};
+ghost use Rattle.rs_page.specs.declared.header.TheConstants.{PAGE_ROOM};
 ghost use Rattle.rs_pages.specs.PageMap.{HasNoFit};
 ghost use Rattle.rs_records.specs.Records.{records};
 ghost use Rattle.rs_tree.specs.Content.{content};
@@ -9,7 +10,7 @@ ghost use Rattle.rs_tree_edit.specs.Editing.{Splices};
 ghost use Rattle.rs_tree_insert.specs.Writing.{IsBroken, SplitsPage, spliced};
 ghost use Rattle.rs_page_owners.specs.Calls.{Makes, WithPage, WorksOn};
 
-use rs_page::{Page, PageNumber};
+use rs_page::{PAGE_ROOM, Page, PageNumber};
 use rs_pages::Pages;
 use rs_records::splice;
 use rs_refusal::Refusal;
@@ -17,7 +18,7 @@ use rs_tree::{content, splice_page};
 use rs_tree_edit::{Edit, EditedPage, add_page, header_of};
 
 /// The bytes that two pages have for records.
-const TWO_PAGES: usize = 2 * 4080;
+const TWO_PAGES: usize = 2 * PAGE_ROOM;
 
 /// Puts records in the place of some of a page, where they fit it no more: the first ones stay, and the others go into a new
 /// page: half of them, unless the page is the last of its level.
@@ -30,12 +31,12 @@ pub fn split_page<P: Pages>(
 ) -> Result<PageNumber, Refusal>
     requires begun { (P.store pages.old).is_begun ≡ true }
     requires wide { 0 < edited.width }
-    requires narrow { 3 * edited.width ≤ 4080 }
-    requires fit { edited.count * edited.width ≤ 4080 }
+    requires narrow { 3 * edited.width ≤ PAGE_ROOM }
+    requires fit { edited.count * edited.width ≤ PAGE_ROOM }
     requires part { edit.at + edit.removed ≤ edited.count }
     requires one_more { edit.more ≤ edit.removed + 1 }
     requires whole { length added.now ≡ edit.more * edited.width }
-    requires full { 4080 < (edited.count - edit.removed + edit.more) * edited.width }
+    requires full { PAGE_ROOM < (edited.count - edit.removed + edit.more) * edited.width }
     ensures keeps { P.keeps pages.old pages.new }
     ensures works { WorksOn P.Pages (IsBroken (P.store pages.old).map edited.number) result pages.old pages.new }
     ensures splits { WithPage P.Pages edited.number (λ old new page. IfOk result (λ other. SplitsPage old new edited.number other
@@ -80,11 +81,11 @@ fn keep_first<P: Pages>(
 ) -> Result<(), Refusal>
     requires begun { (P.store pages.old).is_begun ≡ true }
     requires wide { 0 < edited.width }
-    requires fit { edited.count * edited.width ≤ 4080 }
+    requires fit { edited.count * edited.width ≤ PAGE_ROOM }
     requires part { edit.at + edit.removed ≤ edited.count }
     requires whole { length added.now ≡ edit.more * edited.width }
     requires room { (edited.count - edit.removed + edit.more) * edited.width ≤ 8160 }
-    requires first { first * edited.width ≤ 4080 }
+    requires first { first * edited.width ≤ PAGE_ROOM }
     requires size { length both.old ≡ 8160 }
     ensures keeps { P.keeps pages.old pages.new }
     ensures works { WorksOn P.Pages (HasNoFit (P.store pages.old).map edited.number) result pages.old pages.new }
@@ -106,7 +107,7 @@ fn keep_first<P: Pages>(
 /// Copies the records of a page to the beginning of other bytes, and puts records in the place of some there.
 fn splice_beside(page: &Page, both: &mut [u8], width: usize, count: usize, edit: Edit, added: &[u8])
     requires size { length both.old ≡ 8160 }
-    requires fit { count * width ≤ 4080 }
+    requires fit { count * width ≤ PAGE_ROOM }
     requires part { edit.at + edit.removed ≤ count }
     requires whole { length added.now ≡ edit.more * width }
     requires room { (count - edit.removed + edit.more) * width ≤ 8160 }

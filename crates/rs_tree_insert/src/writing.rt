@@ -2,12 +2,14 @@
 
 ghost use Rattle.std.specs.Prelude.{◌≡◌, ◌≤◌, ◌<◌, ◌+◌, ◌*◌, true, false, IfOk, length};
 ghost use Rattle.rs_page.specs.Header.{page_kind};
+ghost use Rattle.rs_page.specs.declared.header.TheConstants.{PAGE_ROOM};
 ghost use Rattle.rs_records.specs.Records.{records};
 ghost use Rattle.rs_tree_insert.specs.Writing.{IsBroken, PutsRecords, is_found};
 ghost use Rattle.rs_page_owners.specs.Calls.{WithPage, WorksOn};
 
 use crate::answer::Put;
 use crate::splitting::split_page;
+use rs_page::PAGE_ROOM;
 use rs_pages::Pages;
 use rs_refusal::Refusal;
 use rs_tree_edit::{Edit, EditedPage, edit_page};
@@ -23,8 +25,8 @@ pub fn put_records<P: Pages>(
 ) -> Result<Put, Refusal>
     requires begun { (P.store pages.old).is_begun ≡ true }
     requires wide { 0 < edited.width }
-    requires narrow { 3 * edited.width ≤ 4080 }
-    requires fit { edited.count * edited.width ≤ 4080 }
+    requires narrow { 3 * edited.width ≤ PAGE_ROOM }
+    requires fit { edited.count * edited.width ≤ PAGE_ROOM }
     requires part { edit.at + edit.removed ≤ edited.count }
     requires one_more { edit.more ≤ edit.removed + 1 }
     requires whole { length added.now ≡ edit.more * edited.width }
@@ -35,7 +37,7 @@ pub fn put_records<P: Pages>(
         (page_kind edited.kind) edited.width edited.count edit.at edit.removed (records edit.more edited.width added.now) put))
         pages.old pages.new }
 {
-    if (edited.count - edit.removed + edit.more) * edited.width <= 4080 {
+    if (edited.count - edit.removed + edit.more) * edited.width <= PAGE_ROOM {
         edit_page(pages, edited, edit, added)?;
         return Ok(Put::Placed);
     }

@@ -1,6 +1,7 @@
 //! An inner page whose parts gave way to fewer, or to others.
 
 ghost use Rattle.std.specs.Prelude.{◌≡◌, ◌≢◌, ◌≤◌, ◌<◌, ◌+◌, ◌-◌, ◌*◌, true, [], ◌∷◌, IfOk, length, Err};
+ghost use Rattle.rs_page.specs.declared.header.TheConstants.{PAGE_ROOM};
 ghost use Rattle.rs_tree.specs.Layouts.{entry_bytes};
 ghost use Rattle.rs_tree.specs.Forms.{form_in};
 ghost use Rattle.rs_tree_remove.specs.Finishing.{CantRenew, Finishes, NoneGaveWay, Renews};
@@ -13,7 +14,7 @@ use rs_pages::Pages;
 use rs_records::record_at;
 use rs_refusal::Refusal;
 use rs_tree::entry::child;
-use rs_tree::{Layout, Summary, content};
+use rs_tree::{GREATEST_ENTRY, Layout, Summary, content};
 use rs_tree_edit::{Edit, EditedPage, edit_page, write_entry_of};
 
 /// An inner page by its number, and how many entries it has.
@@ -40,7 +41,7 @@ pub fn drop_entry<P: Pages, S: Summary>(
     at: usize,
 ) -> Result<Removed, Refusal>
     requires begun { (P.store pages.old).is_begun ≡ true }
-    requires fit { inner.count * entry_bytes layout ≤ 4080 }
+    requires fit { inner.count * entry_bytes layout ≤ PAGE_ROOM }
     requires two { 2 ≤ inner.count }
     requires inside { at < inner.count }
     ensures keeps { P.keeps pages.old pages.new }
@@ -84,10 +85,10 @@ pub fn renew_entry<P: Pages, S: Summary>(
 ) -> Result<Removed, Refusal>
     requires begun { (P.store pages.old).is_begun ≡ true }
     requires summary { layout.summary ≡ S.WIDTH }
-    requires fit { inner.count * entry_bytes layout ≤ 4080 }
+    requires fit { inner.count * entry_bytes layout ≤ PAGE_ROOM }
     requires few { stretch.removed ≤ 2 }
     requires inside { stretch.at + stretch.removed ≤ inner.count }
-    requires room { (inner.count - stretch.removed + 1) * entry_bytes layout ≤ 4080 }
+    requires room { (inner.count - stretch.removed + 1) * entry_bytes layout ≤ PAGE_ROOM }
     ensures keeps { P.keeps pages.old pages.new }
     ensures works { WorksOn P.Pages (NoneGaveWay (form_in S.Summary layout)
         (P.store pages.old).map inner.number page.now.bytes inner.count stretch.at stretch.removed
@@ -101,7 +102,7 @@ pub fn renew_entry<P: Pages, S: Summary>(
     if count == removed {
         return Ok(Removed::Single(top));
     }
-    let mut buffer = [0; 1_360];
+    let mut buffer = [0; GREATEST_ENTRY];
     let width = layout.entry_width();
     renew::<P, S>(pages, layout, inner, stretch, top, &mut buffer[..width])?;
     Ok(Removed::Kept)
@@ -118,7 +119,7 @@ pub fn renew_two<P: Pages, S: Summary>(
 ) -> Result<(), Refusal>
     requires begun { (P.store pages.old).is_begun ≡ true }
     requires summary { layout.summary ≡ S.WIDTH }
-    requires fit { inner.count * entry_bytes layout ≤ 4080 }
+    requires fit { inner.count * entry_bytes layout ≤ PAGE_ROOM }
     requires inside { at + 2 ≤ inner.count }
     ensures keeps { P.keeps pages.old pages.new }
     ensures works { WorksOn P.Pages (NoneGaveWay (form_in S.Summary layout)
@@ -128,7 +129,7 @@ pub fn renew_two<P: Pages, S: Summary>(
     ensures finishes { Makes P.Pages (λ old new _. Finishes (form_in S.Summary layout) old new inner.number page.now.bytes
         inner.count at 2 (tops.first ∷ tops.second ∷ []) Removed.Kept) result pages.old pages.new }
 {
-    let mut buffer = [0; 1_360];
+    let mut buffer = [0; GREATEST_ENTRY];
     let width = layout.entry_width();
     let (first, second) = (tops.first, tops.second);
     let (number, count) = (inner.number, inner.count);
@@ -154,9 +155,9 @@ fn renew<P: Pages, S: Summary>(
     requires begun { (P.store pages.old).is_begun ≡ true }
     requires summary { layout.summary ≡ S.WIDTH }
     requires entry { length entry.old ≡ entry_bytes layout }
-    requires fit { inner.count * entry_bytes layout ≤ 4080 }
+    requires fit { inner.count * entry_bytes layout ≤ PAGE_ROOM }
     requires inside { stretch.at + stretch.removed ≤ inner.count }
-    requires room { (inner.count - stretch.removed + 1) * entry_bytes layout ≤ 4080 }
+    requires room { (inner.count - stretch.removed + 1) * entry_bytes layout ≤ PAGE_ROOM }
     ensures keeps { P.keeps pages.old pages.new }
     ensures works { WorksOn P.Pages (CantRenew (P.store pages.old).map inner.number top layout) result pages.old pages.new }
     ensures room { result ≢ Err Refusal.FileFull }

@@ -1,6 +1,7 @@
 //! The page with one part left and its neighbour: one takes in what is below the other, or both have two parts at least.
 
 ghost use Rattle.std.specs.Prelude.{◌≡◌, ◌≢◌, ◌≤◌, ◌<◌, ◌+◌, ◌*◌, true, IfOk, Err};
+ghost use Rattle.rs_page.specs.declared.header.TheConstants.{PAGE_ROOM};
 ghost use Rattle.rs_tree.specs.Layouts.{entry_bytes};
 ghost use Rattle.rs_tree.specs.Node.{IsNode};
 ghost use Rattle.rs_tree.specs.Forms.{form_in};
@@ -89,9 +90,9 @@ fn even<P: Pages, S: Summary>(
 ) -> Result<Removed, Refusal>
     requires begun { (P.store pages.old).is_begun ≡ true }
     requires summary { layout.summary ≡ S.WIDTH }
-    requires fit { inner.count * entry_bytes layout ≤ 4080 }
+    requires fit { inner.count * entry_bytes layout ≤ PAGE_ROOM }
     requires inside { pair.at + 2 ≤ inner.count }
-    requires near_fit { pair.size * entry_bytes layout ≤ 4080 }
+    requires near_fit { pair.size * entry_bytes layout ≤ PAGE_ROOM }
     requires two { 2 ≤ pair.size }
     ensures keeps { P.keeps pages.old pages.new }
     ensures works { WorksOn P.Pages (NonePairs (form_in S.Summary layout)
@@ -120,7 +121,7 @@ fn join<P: Pages, S: Summary>(
 ) -> Result<Removed, Refusal>
     requires begun { (P.store pages.old).is_begun ≡ true }
     requires summary { layout.summary ≡ S.WIDTH }
-    requires fit { inner.count * entry_bytes layout ≤ 4080 }
+    requires fit { inner.count * entry_bytes layout ≤ PAGE_ROOM }
     requires inside { pair.at + 2 ≤ inner.count }
     ensures keeps { P.keeps pages.old pages.new }
     ensures works { WorksOn P.Pages (NonePairs (form_in S.Summary layout)
@@ -159,9 +160,9 @@ fn share<P: Pages, S: Summary>(
 ) -> Result<Removed, Refusal>
     requires begun { (P.store pages.old).is_begun ≡ true }
     requires summary { layout.summary ≡ S.WIDTH }
-    requires fit { inner.count * entry_bytes layout ≤ 4080 }
+    requires fit { inner.count * entry_bytes layout ≤ PAGE_ROOM }
     requires inside { pair.at + 2 ≤ inner.count }
-    requires near_fit { pair.size * entry_bytes layout ≤ 4080 }
+    requires near_fit { pair.size * entry_bytes layout ≤ PAGE_ROOM }
     requires more { 2 < pair.size }
     ensures keeps { P.keeps pages.old pages.new }
     ensures works { WorksOn P.Pages (NonePairs (form_in S.Summary layout)

@@ -4,6 +4,7 @@
 
 ghost use Rattle.std.specs.Prelude.{◌≡◌, ◌⊎◌, ◌<◌, ◌≤◌, ◌+◌, ◌*◌, ◌^◌, IfOk, IfErr, Err, length};
 ghost use Rattle.std.specs.Option.{option_copied};
+ghost use Rattle.rs_page.specs.declared.header.TheConstants.{PAGE_ROOM};
 ghost use Rattle.rs_page_marks.specs.Marks.{taken};
 ghost use Rattle.rs_tree.specs.Form.{joined};
 ghost use Rattle.rs_tree.specs.Layouts.{entry_bytes};
@@ -98,7 +99,7 @@ fn check_entries<P: Pages, S: Summary>(
     reached: &mut Reached,
 ) -> Result<(u32, u64), Refusal>
     requires summary { layout.summary ≡ S.WIDTH }
-    requires fit { count * entry_bytes layout ≤ 4080 }
+    requires fit { count * entry_bytes layout ≤ PAGE_ROOM }
     requires levels { 0 < levels }
     ensures rests { OnlyReads P.Pages result pages.old pages.new }
     ensures size { length reached.new ≡ length reached.old }

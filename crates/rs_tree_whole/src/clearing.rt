@@ -3,6 +3,7 @@
 //! It goes down so many levels at the most and reads so many pages, so that it ends on pages that are no tree.
 
 ghost use Rattle.std.specs.Prelude.{◌≡◌, ◌≢◌, ◌<◌, ◌≤◌, ◌*◌, true, Err};
+ghost use Rattle.rs_page.specs.declared.header.TheConstants.{PAGE_ROOM};
 ghost use Rattle.rs_page_owners.specs.Calls.{Makes, WorksOn};
 ghost use Rattle.rs_tree.specs.Calls.{LeavesTree};
 ghost use Rattle.rs_tree.specs.Forms.{form_in};
@@ -79,7 +80,7 @@ fn clear_entries<P: Pages, S: Summary>(
     left: &mut u32,
 ) -> Result<(), Refusal>
     requires begun { (P.store pages.old).is_begun ≡ true }
-    requires fit { count * entry_bytes layout ≤ 4080 }
+    requires fit { count * entry_bytes layout ≤ PAGE_ROOM }
     requires levels { 0 < levels }
     ensures keeps { P.keeps pages.old pages.new }
     ensures works { WorksOn P.Pages (HasNoOwnParts (form_in S.Summary layout)

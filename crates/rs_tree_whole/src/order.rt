@@ -2,6 +2,7 @@
 
 ghost use Rattle.std.specs.Prelude.{◌≡◌, ◌≤◌, ◌<◌, ◌*◌, ◌↔◌, IsTrue, length};
 ghost use Rattle.std.specs.Option.{option_copied};
+ghost use Rattle.rs_page.specs.declared.header.TheConstants.{PAGE_ROOM};
 ghost use Rattle.rs_records.specs.Order.{Ascends};
 ghost use Rattle.rs_records.specs.Records.{records, keys};
 ghost use Rattle.rs_tree.specs.Content.{content};
@@ -56,7 +57,7 @@ pub fn is_in_order(
     least: Option<&[u8]>,
     bound: Option<&[u8]>,
 ) -> bool
-    requires fit { count * layout.width ≤ 4080 }
+    requires fit { count * layout.width ≤ PAGE_ROOM }
     requires some { 0 < count }
     ensures { IsTrue result ↔ IsInOrder (option_copied least.entry) (option_copied bound.entry)
         (records count layout.width (content page.now.bytes)) }
@@ -69,7 +70,7 @@ pub fn is_in_order(
 
 /// Whether the first entry of an inner page begins with the least cell that is asked for.
 pub fn begins_with(page: &Page, count: usize, layout: Layout, first: Option<&[u8]>) -> bool
-    requires fit { count * entry_bytes layout ≤ 4080 }
+    requires fit { count * entry_bytes layout ≤ PAGE_ROOM }
     requires some { 0 < count }
     ensures { IsTrue result ↔ BeginsWith (option_copied first.entry) (keys (least_from layout.summary)
         (records count (entry_bytes layout) (content page.now.bytes))) }

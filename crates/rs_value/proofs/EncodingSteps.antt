@@ -1,5 +1,5 @@
 -- What each step of writing and of reading a row does.
-use Rattle.std.proofs.Common.{◌≡◌, ℕ, zero, suc, ◌+◌, ◌-◌, ◌<◌, ◌≤◌, List, [], ◌∷◌, ◌++◌, length, get_or, take, drop, map, replicate, slice_set, Option, Some, None, IfSome, IfNone, Result, Ok, Err, IfOk, false, ◌==◌, IsTrue, refl, sym, ap, subst, ◌∙◌, arith, rules, tests, not, append_assoc, append-nil, length-append, IsUtf8}
+use Rattle.std.proofs.Common.{◌≡◌, ℕ, zero, suc, ◌+◌, ◌-◌, ◌<◌, ◌≤◌, List, [], ◌∷◌, ◌++◌, length, get_or, take, drop, map, replicate, slice_set, Option, Some, None, IfSome, IfNone, Result, Ok, Err, IfOk, true, false, ◌&&◌, ◌==◌, IsTrue, refl, sym, ap, subst, ◌∙◌, arith, rules, tests, not, append_assoc, append-nil, length-append, IsUtf8}
 use Rattle.std.specs.List.{position_or_len, list_any}
 use Rattle.std.proofs.lemmas.List.{map-append, take_all, drop_all, drop_more, take_at, drop_at, length-replicate}
 use Rattle.std.specs.Result.{result_ok}
@@ -46,6 +46,10 @@ text_end (b ∷ said) n clean =
 -- UTF-8 without a control byte is text, and nothing else
 pub text_true : (bytes : List ℕ) → IsUtf8 bytes → list_any is_control bytes ≡ false → IsTrue (is_text bytes)
 text_true bytes utf8 plain = rw (is_utf8-from_IsUtf8 bytes utf8, plain) refl
+
+pub no_utf8_text : (bytes : List ℕ) → (IsUtf8 bytes → ⊥) → is_text bytes ≡ false
+no_utf8_text bytes none =
+    elim (is_utf8 bytes) as (λ b. is_utf8 bytes ≡ b → (b && not (list_any is_control bytes)) ≡ false) [ true ↦ λ e. absurd (none (IsUtf8-from_is_utf8 bytes e)) | false ↦ λ e. refl ] refl
 
 pub text_utf8 : (bytes : List ℕ) → IsTrue (is_text bytes) → IsUtf8 bytes
 text_utf8 bytes is = IsUtf8-from_is_utf8 bytes (and_parts (is_utf8 bytes) (not (list_any is_control bytes)) (search (rules, tests))).0

@@ -3,16 +3,17 @@
 //! It promises that the bytes of a row say this row and no other, and that they compare as rows do.
 
 ghost use Rattle.std.specs.Prelude.{◌≡◌, ◌==◌, ℕ, ℤ, pos, ◌+ℤ◌, ◌+◌, ◌-◌, ◌*◌, ◌^◌, ◌≤◌, ◌↔◌, List, ◌∷◌, ◌++◌, length, replicate, nat_abs, IsTrue, IfSome, IfNone};
-ghost use Rattle.std.specs.List.{position_or_len, list_any};
+ghost use Rattle.std.specs.List.{position_or_len};
 ghost use Rattle.std.specs.Int.{w64, to_be_bytes};
 ghost use Rattle.rs_value.specs.declared.column.TheConstants.{TEXT_BYTES};
 ghost use Rattle.rs_value.specs.Row as rows;
 ghost use Rattle.rs_value.specs.Row.{Datum, Row};
-ghost use Rattle.rs_value.specs.Values.{is_control, IsValue, IsOfType, IsRowOf};
+ghost use Rattle.rs_value.specs.Values.{IsValue, IsOfType, IsRowOf};
 ghost use Rattle.rs_value.specs.View.{datum_of, row_of};
 ghost use Rattle.rs_value.specs.Encoding.{width, row_width, SaysNumber, SaysText, SaysDatum, SaysRow};
 
 use crate::column::{ColumnType, Schema, TEXT_BYTES};
+use crate::text::has_control;
 use crate::value::{Tuple, Value};
 use arrayvec::ArrayString;
 use std::str;
@@ -220,18 +221,4 @@ fn text_of(bytes: &[u8]) -> Option<ArrayString<TEXT_BYTES>>
         Ok(text) => ArrayString::from(text).ok(),
         Err(_) => None,
     }
-}
-
-// Whether a byte among these may not be in a text.
-fn has_control(bytes: &[u8]) -> bool
-    ensures { result ≡ list_any is_control bytes.now }
-{
-    bytes.iter().any(|byte| is_control(*byte))
-}
-
-// Whether a byte may not be in a text.
-fn is_control(byte: u8) -> bool
-    ensures { result ≡ is_control byte }
-{
-    byte < 32 || byte == 127
 }

@@ -11,6 +11,7 @@ pub mod fitting;
 pub mod limits;
 pub mod row_order;
 pub mod row_text;
+pub mod text;
 pub mod value;
 
 pub use column::{COLUMNS, ColumnType, Kind, Schema, TEXT_BYTES};
@@ -23,4 +24,5 @@ pub use encoding_laws::{
 pub use fitting::fits;
 pub use row_order::{compare_rows, row_order_is_total, same_row, tied_rows_are_equal};
 pub use row_text::{push_doubled, push_value, push_values};
+pub use text::{as_text, has_control};
 pub use value::{Literal, Tuple, Value};

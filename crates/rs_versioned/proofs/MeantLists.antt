@@ -4,7 +4,7 @@ use Rattle.std.proofs.lemmas.List.{append-nil}
 use Rattle.std.proofs.lemmas.List.Elements.{filter-append}
 use Rattle.std.specs.List.{AllByRecursion, AllZip}
 use Rattle.std.specs.Prelude.{◌≢◌}
-use Rattle.rs_machine.specs.Lawful.{AreDistinct}
+use Rattle.rs_facts.specs.Fact.{AreDistinct}
 use Rattle.rs_tree.proofs.Lists.{take_next}
 use Rattle.rs_tree_whole.proofs.Joins.{all_push}
 

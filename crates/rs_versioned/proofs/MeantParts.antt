@@ -3,8 +3,8 @@ use Rattle.std.proofs.Common.{◌≡◌, ◌≤◌, ◌==◌, ℕ, Bool, true, f
 use Rattle.std.proofs.lemmas.Bool.Decides.{nat_tests}
 use Rattle.std.proofs.lemmas.List.Elements.{All-contains, All-from_recursion, filter_agree}
 use Rattle.std.specs.List.{AllByRecursion, Contains}
-use Rattle.rs_machine.specs.Lawful.{AreDistinct}
-use Rattle.rs_machine.specs.declared.limits.TheConstants.{REFERENTS}
+use Rattle.rs_facts.specs.Fact.{AreDistinct}
+use Rattle.rs_methods.specs.declared.limits.TheConstants.{REFERENTS}
 use Rattle.rs_versioned.specs.Meant.{AreReferentsMeant, IsReferentMeant}
 use Rattle.rs_versioned.specs.MeantParts.{ArePartMeant, IsMeantOn, names_of, seen}
 use Rattle.rs_versioned.specs.Records.{is_seen}

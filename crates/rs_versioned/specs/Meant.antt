@@ -2,10 +2,10 @@
 use Rattle.std.specs.Prelude.{◌≢◌, ◌≡◌, ◌≤◌, ◌<◌, ℕ, suc, Contains, List, [], ◌∷◌, filter, length, map}
 use Rattle.std.specs.List.{AllByRecursion}
 use Rattle.rs_facts.specs.Runs.{Stretch}
-use Rattle.rs_machine.specs.Lawful.{AreDistinct}
-use Rattle.rs_machine.specs.declared.limits.TheConstants.{REFERENTS}
+use Rattle.rs_facts.specs.Fact.{AreDistinct}
+use Rattle.rs_methods.specs.declared.limits.TheConstants.{REFERENTS}
 use Rattle.rs_methods.specs.Position.{start_name}
-use Rattle.rs_syntax.specs.Sound.{IsName}
+use Rattle.rs_lexer.specs.Names.{IsName}
 use Rattle.rs_value.specs.declared.column.Kind.{Kind}
 use Rattle.rs_value.specs.declared.column.Kind.TheVariants.{Line, Point}
 use Rattle.rs_versioned.specs.Events.{Event, sees_event, span_of}

@@ -1,10 +1,10 @@
 -- Which referents are meant that lie between the number of a route and that of the next.
 use Rattle.std.specs.Prelude.{◌≡◌, ◌≢◌, ◌≤◌, List, Option, Some, ℕ, filter, length, map}
 use Rattle.std.specs.List.{AllByRecursion}
-use Rattle.rs_machine.specs.Lawful.{AreDistinct}
-use Rattle.rs_machine.specs.declared.limits.TheConstants.{REFERENTS}
+use Rattle.rs_facts.specs.Fact.{AreDistinct}
+use Rattle.rs_methods.specs.declared.limits.TheConstants.{REFERENTS}
 use Rattle.rs_methods.specs.Position.{start_name}
-use Rattle.rs_syntax.specs.Sound.{IsName}
+use Rattle.rs_lexer.specs.Names.{IsName}
 use Rattle.rs_versioned.specs.Meant.{IsPlaceOf}
 use Rattle.rs_versioned.specs.Records.{is_seen}
 use Rattle.rs_versioned.specs.Referents.{ReferentRecord, kept_referents}

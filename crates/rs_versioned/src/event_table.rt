@@ -1,6 +1,7 @@
 //! This module keeps the event records of a table by version.
 
 ghost use Rattle.std.specs.Prelude.{◌≡◌, ◌≤◌, ◌*◌, ◌+◌, ℕ, [], IfOk, true};
+ghost use Rattle.rs_page.specs.declared.header.TheConstants.{PAGE_ROOM};
 ghost use Rattle.rs_page_owners.specs.Counts.{no_pages};
 ghost use Rattle.rs_pages.specs.Calls.{OnlyReads};
 ghost use Rattle.rs_pages.specs.PageMap.{PageMap};
@@ -66,7 +67,7 @@ pub type EventTable = RecordTable<Events>;
 impl RecordTable<Events> {
     /// No events, with rows of these columns. Three entries of an inner page fit it at least.
     pub fn new(alloc: Global, schema: Schema) -> EventTable
-        requires fits { 3 * (8 + event_width schema.items) ≤ 4080 }
+        requires fits { 3 * (8 + event_width schema.items) ≤ PAGE_ROOM }
         ensures types { result.types ≡ schema.items }
         ensures working { result.working ≡ nothing_stands }
         ensures committed { result.committed ≡ nothing_stands }

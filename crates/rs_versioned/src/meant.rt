@@ -4,7 +4,7 @@
 
 ghost use Rattle.std.specs.Prelude.{◌≡◌, ◌≢◌, ◌↔◌, [], List, IsTrue, filter, length, map, true};
 ghost use Rattle.std.specs.List.{AllByRecursion, AllZip};
-ghost use Rattle.rs_machine.specs.Lawful.{AreDistinct};
+ghost use Rattle.rs_facts.specs.Fact.{AreDistinct};
 ghost use Rattle.rs_records.specs.Listed.{listed, record_width};
 ghost use Rattle.rs_cell_versions.specs.Version.{sees};
 ghost use Rattle.rs_versioned.specs.Meant.{IsPlaceOf};
@@ -15,10 +15,9 @@ ghost use Rattle.rs_versioned.specs.Referents.{AreInNameOrder, ReferentRecord, S
 use crate::referent::{measure_of, name_of, route_of, says_referent};
 use crate::route_span::RouteSpan;
 use rs_cell_versions::sees;
-use rs_machine::limits::REFERENTS;
-use rs_methods::START;
+use rs_lexer::are_name_bytes;
+use rs_methods::{REFERENTS, START};
 use rs_records::{Cells, is_below};
-use rs_syntax_laws::are_name_bytes;
 
 /// Whether each cell says a referent, and those that the version sees are meant on the route, where there is one.
 pub(crate) fn are_part_meant(cells: &Cells, on: Option<RouteSpan>, version: u64) -> bool

@@ -4,6 +4,7 @@
 //! pages are to be committed or abandoned with them.
 
 ghost use Rattle.std.specs.Prelude.{◌≡◌, ◌≢◌, ◌<◌, ◌≤◌, ◌*◌, ◌+◌, ℕ, IsTrue, IfOk, OnOk, length, true, Err};
+ghost use Rattle.rs_page.specs.declared.header.TheConstants.{PAGE_ROOM};
 ghost use Rattle.rs_cell_versions.specs.Version.{HaveDiedBy, born_of, is_living};
 ghost use Rattle.rs_cell_versions.specs.Versioned.{nothing_stands};
 ghost use Rattle.rs_cell_versions.specs.declared.cell.TheConstants.{LIVING};
@@ -54,7 +55,7 @@ impl<K: RecordKind> RecordTable<K> {
     /// How many bytes a cell has. Three entries of an inner page fit it at least.
     pub fn width(&self) -> usize
         ensures width { result ≡ K.width self.now.types }
-        ensures fits { 3 * (4 + K.Summary.WIDTH + result) ≤ 4080 }
+        ensures fits { 3 * (4 + K.Summary.WIDTH + result) ≤ PAGE_ROOM }
     {
         self.versions.width()
     }

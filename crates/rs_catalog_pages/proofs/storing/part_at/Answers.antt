@@ -8,9 +8,9 @@ pub returns-then-start-bytes : goal.returns-then-start-bytes
 unfolding part_at
 returns-then-start-bytes c = sym (ap (take 4080) (drop_all (c.args.index * 4080) c.args.bytes.now c.if-start-bytes.true))
 
-pub returns-then-rest-le-PART_SIZE : goal.returns-then-rest-le-PART_SIZE
+pub returns-then-rest-le-PAGE_ROOM : goal.returns-then-rest-le-PAGE_ROOM
 unfolding part_at
-returns-then-rest-le-PART_SIZE c = sym (take_all 4080 c.split_at.result.1.now c.if-rest-le-PART_SIZE.true) ∙ ap (take 4080) c.split_at.ensures.back
+returns-then-rest-le-PAGE_ROOM c = sym (take_all 4080 c.split_at.result.1.now c.if-rest-le-PAGE_ROOM.true) ∙ ap (take 4080) c.split_at.ensures.back
 
 pub returns : goal.returns
 unfolding part_at

@@ -5,7 +5,7 @@ use Rattle.std.specs.Prelude.{◌≢◌, []}
 use Rattle.rs_records.specs.Listed.{listed}
 use Rattle.rs_tree.proofs.Lists.{zip_lengths}
 use Rattle.rs_cell_versions.specs.Version.{sees}
-use Rattle.rs_syntax_laws.proofs.NameTexts.{not_empty}
+use Rattle.rs_lexer.proofs.NameTexts.{not_empty}
 use Rattle.rs_versioned.specs.MeantParts.{IsMeantOn, seen}
 use Rattle.rs_versioned.specs.Records.{is_seen}
 use Rattle.rs_versioned.specs.Referents.{ReferentRecord, SaysReferent, kept_referents}

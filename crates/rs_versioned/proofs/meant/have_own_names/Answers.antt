@@ -1,7 +1,7 @@
 -- One cell after the other.
 use Rattle.std.proofs.Common.{◌≡◌, ◌+◌, ℕ, true, false, List, [], ◌∷◌, ◌++◌, take, take_all, sym, ap, ◌∙◌, subst, arith}
 use Rattle.std.proofs.lemmas.List.{append-nil}
-use Rattle.rs_machine.specs.Lawful.{AreDistinct}
+use Rattle.rs_facts.specs.Fact.{AreDistinct}
 use Rattle.rs_records.specs.Listed.{listed}
 use Rattle.rs_records.specs.Order.{is_below}
 use Rattle.rs_tree.proofs.Lists.{zip_lengths}

@@ -3,7 +3,7 @@ use Rattle.std.proofs.Common.{◌≡◌, ◌≤◌, ℕ, Bool, true, List, [], �
 use Rattle.std.specs.Char.{is_ascii_alphabetic}
 use Rattle.std.specs.List.{list_all}
 use Rattle.std.proofs.lemmas.Bool.{false≢true, and_parts, cases_lt, le-leb}
-use Rattle.rs_grammar.specs.Words.{is_word_byte}
+use Rattle.rs_grammar.specs.Words.{IsWord, is_word_byte}
 use denote.Enum.Bare.{sameb, same_true, true_same}
 use Rattle.rs_grammar.specs.contracts.kind.TokenKind.{the_type}
 use Rattle.rs_grammar.specs.declared.kind.TheConstants.{NAME_BYTES}
@@ -11,8 +11,7 @@ use Rattle.rs_grammar.specs.declared.kind.TokenKind.{TokenKind}
 use Rattle.rs_grammar.specs.declared.kind.TokenKind.TheVariants as kinds
 use Rattle.rs_lexer.specs.Lexis.{IsLongestToken, kind_in, reserved, token_kind, word_kind}
 use Rattle.rs_lexer.proofs.TokenLaws.{is_word, tells}
-use Rattle.rs_methods.specs.PositionText.{IsWord}
-use Rattle.rs_syntax.specs.Sound.{IsName}
+use Rattle.rs_lexer.specs.Names.{IsName}
 
 -- ---- a name and its kind
 

@@ -1,9 +1,10 @@
 //! This module says which texts are names, without a look at what stands under them.
 
 ghost use Rattle.std.specs.Prelude.{◌↔◌, IsTrue};
-ghost use Rattle.rs_syntax.specs.Sound.{IsName};
+ghost use Rattle.rs_lexer.specs.Names.{IsName};
 
-use rs_lexer::{TokenKind, front_token};
+use crate::scan::front_token;
+use rs_grammar::kind::TokenKind;
 
 /// Whether the text is a name: a word that is neither too long nor reserved.
 pub fn is_name(text: &str) -> bool

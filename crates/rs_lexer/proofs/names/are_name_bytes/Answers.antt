@@ -2,8 +2,8 @@
 use Rattle.std.proofs.Common.{sym, ◌∙◌}
 use Rattle.std.proofs.lemmas.Bool.{eqb-true, eq-eqb, false≢true}
 use Rattle.rs_grammar.specs.declared.kind.TokenKind.TheVariants as kinds
-use Rattle.rs_syntax_laws.proofs.NameTexts.{front_of_name, is_same, kind_is, name_at_front, no_name}
-use Rattle.rs_syntax_laws.proofs.names.are_name_bytes.Goals as goal
+use Rattle.rs_lexer.proofs.NameTexts.{front_of_name, is_same, kind_is, name_at_front, no_name}
+use Rattle.rs_lexer.proofs.names.are_name_bytes.Goals as goal
 
 pub returns-then-eq : goal.returns-then-eq
 returns-then-eq c = (

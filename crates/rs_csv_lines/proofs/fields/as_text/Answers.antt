@@ -1,9 +1,0 @@
-use Rattle.std.proofs.Common.{sym}
-use Rattle.rs_csv_lines.proofs.Clean.{is_clean_text, no_utf8_text}
-use Rattle.rs_csv_lines.proofs.fields.as_text.Goals as goal
-
-pub returns-else-has_control : goal.returns-else-has_control
-returns-else-has_control c = (c.in-Ok.ensures.cases.0, is_clean_text _ c.in-Ok.ensures.cases.1 (sym c.if-has_control.ensures))
-
-pub returns-in-Err : goal.returns-in-Err
-returns-in-Err c = no_utf8_text _ c.in-Err.ensures.cases.0
