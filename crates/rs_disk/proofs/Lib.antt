@@ -1,1 +1,2 @@
 mod Copying
+pub mod Reaching

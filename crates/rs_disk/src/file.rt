@@ -6,6 +6,7 @@
 ghost use Rattle.std.specs.Prelude.{◌≡◌, false, IsErrOf, IfOk};
 ghost use Rattle.std.proofs.lemmas.Bool.{false≢true};
 ghost use Rattle.rs_disk.specs.Calls.{no_calls};
+ghost use Rattle.rs_disk.specs.Folder.{folder_bytes};
 
 use crate::calls::CallLog;
 use crate::disk::{Disk, DiskFault};
@@ -14,6 +15,7 @@ use std::fs::{File, OpenFile, OpenOptions, TryLockError};
 use std::io;
 use std::marker::Model;
 use std::os::unix::fs::FileExt;
+use std::path::Path;
 use std::rt::Files;
 use thiserror::Error;
 
@@ -32,6 +34,9 @@ pub enum OpenError {
     /// The system refused it, or it is no regular file.
     #[error("cannot open file")]
     CannotOpen,
+    /// The file was made, and the folder that holds it was not synced: after a power cut it may not be there.
+    #[error("cannot sync folder")]
+    FolderNotSynced,
 }
 
 /// An open file, which `create` and `open` lock: no other disk opens it until this one is dropped, which closes
@@ -62,6 +67,19 @@ impl FileDisk {
             Ok(file) => locked(file),
             Err(error) if error.kind() == io::ErrorKind::AlreadyExists => Err(OpenError::Exists),
             Err(_) => Err(OpenError::CannotOpen),
+        }
+    }
+
+    /// Makes an empty file as `create` does, and syncs the folder that holds it, so that the file is there after a power
+    /// cut. Where the folder can't be opened or synced, the file stays as it was made, empty and not open.
+    pub fn create_synced<R: Files<File = File>>(rt: &R, path: &str) -> Result<FileDisk, OpenError>
+        ensures fresh { IfOk result (λ disk. disk ≡ no_calls) }
+        ensures not_missing { IsErrOf result OpenError.Missing → ⊥ }
+    {
+        let disk = FileDisk::create(rt, path)?;
+        match sync_folder(rt, folder_of(path)) {
+            Ok(()) => Ok(disk),
+            Err(_) => Err(OpenError::FolderNotSynced),
         }
     }
 
@@ -147,6 +165,21 @@ impl<F: FileExt + OpenFile> Disk for FileDisk<F> {
     fn failures(&self) -> u64 {
         self.calls.failures()
     }
+}
+
+/// The folder that holds the file at a path: the path's parent, and `.` where it has none.
+fn folder_of(path: &str) -> &str
+    ensures { result.now ≡ folder_bytes path.now }
+{
+    match Path::new(path).parent() {
+        Some(parent) if !parent.as_str().is_empty() => parent.as_str(),
+        _ => ".",
+    }
+}
+
+/// Waits until the names in a folder are on the medium.
+fn sync_folder<R: Files<File = File>>(rt: &R, folder: &str) -> io::Result<()> {
+    File::open(rt, folder)?.sync_all()
 }
 
 /// Locks a file, and makes a disk of it.

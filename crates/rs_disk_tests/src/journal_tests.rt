@@ -1,7 +1,8 @@
 //! Checkpoints on a recording disk, stopped after their calls, and recovered.
 
-use crate::crash_images::expect_either;
+use crate::crash_images::{Found, expect_either, pages_found};
 use crate::expect::expect;
+use crate::forgetful::ForgetfulDisk;
 use crate::lettered_files::{
     LATER, MANY, NEW, NONE, ONE, Plan, THREE, checkpoint, file_after, file_before, kept_disk,
 };
@@ -107,6 +108,33 @@ fn a_large_checkpoint_is_resumed(rt: HostRuntime) -> Result<(), Fail> {
     for failing_call in FAILING_CALLS {
         let (disk, calls) = resumed(alloc, MANY, failing_call, FailedCut::Done)?;
         expect_either(alloc, &disk, calls, &before, &after)?;
+    }
+    Ok(())
+}
+
+/// Takes a checkpoint of which the sync with this number fails on a disk that forgets what was to be written, and takes it up
+/// again. Whenever power fails, the medium has the pages before or after; at the end it has those after.
+fn expect_written_again(alloc: Global, plan: Plan, failing_sync: u64) -> Result<(), Fail> {
+    let before = file_before(alloc, plan)?;
+    let after = file_after(alloc, plan, NEW)?;
+    let mut disk = ForgetfulDisk::new(alloc, before.clone()?, failing_sync)?;
+    let mut stage = Stage::Fresh;
+    let ends = checkpoint(&mut disk, &mut stage, plan, NEW);
+    expect(!ends, "a sync fails")?;
+    let found = pages_found(disk.medium().clone()?, &before, &after);
+    expect(found != Found::Neither, "before or after")?;
+    let ends = checkpoint(&mut disk, &mut stage, plan, NEW);
+    expect(ends, "the next one ends")?;
+    let found = pages_found(disk.medium().clone()?, &before, &after);
+    expect(found == Found::After, "it is on the medium")
+}
+
+#[test]
+fn a_stage_that_is_resumed_writes_again_what_was_forgotten(rt: HostRuntime) -> Result<(), Fail> {
+    let alloc = rt.alloc();
+    for failing_sync in 1..=4 {
+        expect_written_again(alloc, ONE, failing_sync)?;
+        expect_written_again(alloc, THREE, failing_sync)?;
     }
     Ok(())
 }

@@ -3,7 +3,7 @@
 //! A checkpoint copies page 0, leaves page 1, and copies the pages from 2 on, as many as it is to copy. Page 0 says how
 //! many pages there are.
 
-use rs_disk::FailedCut;
+use rs_disk::{Disk, FailedCut};
 use rs_journal::{Copies, Stage, complete, cut};
 use rs_page::bytes::put_four;
 use rs_page::{PAGE_SIZE, Page};
@@ -176,12 +176,7 @@ pub fn kept_disk(
 }
 
 /// Takes a checkpoint as far as it goes, and cuts the file after its last stage.
-pub fn checkpoint(
-    disk: &mut RecordingDisk,
-    stage: &mut Stage,
-    plan: Plan,
-    letters: Letters,
-) -> bool {
+pub fn checkpoint<D: Disk>(disk: &mut D, stage: &mut Stage, plan: Plan, letters: Letters) -> bool {
     let copies = LetteredPages::new(plan, letters);
     let first = plan.pages.max(1);
     complete(disk, stage, first, &copies).is_ok() && cut(disk, plan.pages).is_ok()

@@ -19,11 +19,15 @@ mod failing_disk_tests;
 #[cfg(test)]
 mod file_disk_tests;
 #[cfg(test)]
+mod forgetful;
+#[cfg(test)]
 mod fresh_path;
 #[cfg(test)]
 mod journal_tests;
 #[cfg(test)]
 mod lettered_files;
+#[cfg(test)]
+mod looked_tests;
 #[cfg(test)]
 mod path_tests;
 #[cfg(test)]

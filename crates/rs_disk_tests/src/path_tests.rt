@@ -4,7 +4,7 @@ use crate::expect::expect;
 use crate::fresh_path::fresh_path;
 use rs_disk::{Disk, FileDisk, OpenError};
 use std::test::Fail;
-use std::{env, fs};
+use std::{env, fs, process};
 
 /// Expects that no file is opened at a path, for this reason.
 fn expect_unopened(rt: &HostRuntime, path: &str, why: OpenError) -> Result<(), Fail> {
@@ -37,6 +37,29 @@ fn opening_says_what_is_there(rt: HostRuntime) -> Result<(), Fail> {
     expect(is_text(&rt, path, "kept")?, "what is there is left")?;
     fs::remove_file(&rt, path)?;
     Ok(())
+}
+
+/// Expects that a file is made at a path with its folder synced, written and opened again, and made no second time.
+fn expect_made(rt: &HostRuntime, path: &str) -> Result<(), Fail> {
+    let mut disk = FileDisk::create_synced(rt, path)?;
+    disk.write(0, b"made")?;
+    drop(disk);
+    expect(is_text(rt, path, "made")?, "the disk is the file's")?;
+    let again = FileDisk::create_synced(rt, path).err();
+    expect(again == Some(OpenError::Exists), "it is there")?;
+    fs::remove_file(rt, path)?;
+    Ok(())
+}
+
+#[test]
+fn a_file_is_made_with_its_folder_synced(rt: HostRuntime) -> Result<(), Fail> {
+    let path = fresh_path(&rt, "synced")?;
+    expect_made(&rt, path.as_str())?;
+    let name = format!(in rt.alloc(); "rs_disk_{}_here", process::id(rt.process()))?;
+    expect_made(&rt, name.as_str())?;
+    let missing = format!(in rt.alloc(); "{}/below", path.as_str())?;
+    let made = FileDisk::create_synced(&rt, missing.as_str()).err();
+    expect(made == Some(OpenError::CannotOpen), "no such folder")
 }
 
 #[test]

@@ -15,7 +15,7 @@ use std::alloc::Global;
 use std::test::Fail;
 
 /// The disk that a crash leaves right after the gate was opened and synced.
-fn opened(alloc: Global, plan: Plan) -> Result<Vec<u8>, Fail> {
+pub fn opened(alloc: Global, plan: Plan) -> Result<Vec<u8>, Fail> {
     let mut disk = kept_disk(alloc, plan, 0, FailedCut::Done)?;
     let mut stage = Stage::Fresh;
     let ends = checkpoint(&mut disk, &mut stage, plan, NEW);

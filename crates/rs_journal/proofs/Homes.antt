@@ -4,9 +4,9 @@ use Rattle.std.proofs.lemmas.Grind.{common_steps}
 use Rattle.std.proofs.Common.{◌≡◌, inl, inr, ℕ, ◌+◌, ◌-◌, ◌*◌, ◌<◌, ◌≤◌, List, length, take, drop, slice_index, arith, sym, ap, ◌∙◌, subst}
 use Rattle.rs_disk.specs.Content.{Content, Holds}
 use Rattle.rs_page.specs.declared.page.TheConstants.{PAGE_SIZE}
-use Rattle.rs_journal.specs.Pages.{IsOutside, IsOfPages}
-use Rattle.rs_journal.specs.Reaches.{KeepsWhere}
+use Rattle.rs_journal.specs.FilePages.{IsOfPages}
 use Rattle.rs_journal.specs.Stages.{IsNotInPage, IsLeftAlone, HasHomeBytes, HasHomePage, HasHome}
+use Rattle.rs_disk.specs.Reaches.{IsOutside, KeepsWhere}
 
 -- a page that was written whole
 pub page-written : (number spot : ℕ) (page : List ℕ) (content : Content) → spot ≡ number → length page ≡ PAGE_SIZE

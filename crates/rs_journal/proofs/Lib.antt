@@ -1,7 +1,7 @@
 pub mod Advancing
 pub mod Homes
+pub mod Looking
 pub mod Making
-pub mod Reaching
 pub mod Recovering
 pub mod Staging
 pub mod Words

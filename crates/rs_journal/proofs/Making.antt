@@ -3,14 +3,15 @@ use Rattle.std.proofs.lemmas.Bool.{cases_lt, cases_eq}
 use Rattle.std.proofs.Common.{◌≡◌, ◌⊎◌, inl, inr, ℕ, ◌+◌, ◌*◌, ◌/◌, ◌<◌, ◌≤◌, arith, refl, sym, ap, ◌∙◌, subst}
 use Rattle.rs_disk.specs.Content.{Content}
 use Rattle.rs_page.specs.declared.page.TheConstants.{PAGE_SIZE}
-use Rattle.rs_journal.specs.Pages.{Pages, IsOutside, IsOfPages, SamePages, word_at}
+use Rattle.rs_journal.specs.FilePages.{FilePages, IsOfPages, SamePages, word_at}
 use Rattle.rs_journal.specs.Journal.{Journal, Ascends, IsWellFormed, Recovers, RecoversBy, Tells, Fills, MadePages, IsNotCopied, number_pages, copies_start}
 use Rattle.rs_journal.specs.Recovery.{SaysCount}
 use Rattle.rs_journal.proofs.Staging.{Found, apart-or}
 use Rattle.rs_journal.proofs.Words.{word-same}
+use Rattle.rs_disk.specs.Reaches.{IsOutside}
 
 -- the byte that a journal makes at an offset, which lies in a page that it copies or in none
-byte_of : (journal : Journal) → Pages → (i : ℕ) → Found journal.count journal.number i ⊎ IsNotCopied journal i → ℕ
+byte_of : (journal : Journal) → FilePages → (i : ℕ) → Found journal.count journal.number i ⊎ IsNotCopied journal i → ℕ
 byte_of journal kept i (inl f) = journal.copy f.place f.offset
 byte_of journal kept i (inr apart) = kept.byte i
 
@@ -24,7 +25,7 @@ one-place count number j k ascends lt lt' same = elim (cases_lt j k) [
   ]
 ]
 
-byte-copied : (journal : Journal) (kept : Pages) (i k j : ℕ) (where_is : Found journal.count journal.number i ⊎ IsNotCopied journal i)
+byte-copied : (journal : Journal) (kept : FilePages) (i k j : ℕ) (where_is : Found journal.count journal.number i ⊎ IsNotCopied journal i)
     → Ascends journal.count journal.number → k < journal.count → j < PAGE_SIZE → i ≡ PAGE_SIZE * journal.number k + j
     → byte_of journal kept i where_is ≡ journal.copy k j
 unfolding byte_of
@@ -40,7 +41,7 @@ byte-copied journal kept i k j (inr apart) ascends lt within is = elim (apart k 
   | inr after ↦ absurd (omega (arith, is))
 ]
 
-byte-apart : (journal : Journal) (kept : Pages) (i : ℕ) (where_is : Found journal.count journal.number i ⊎ IsNotCopied journal i)
+byte-apart : (journal : Journal) (kept : FilePages) (i : ℕ) (where_is : Found journal.count journal.number i ⊎ IsNotCopied journal i)
     → IsNotCopied journal i → byte_of journal kept i where_is ≡ kept.byte i
 unfolding byte_of
 byte-apart journal kept i (inl f) apart =
@@ -65,7 +66,7 @@ old-byte journal from to i fills lt apart = elim (cases_lt i (PAGE_SIZE * from))
       ])
 ]
 
-pub makes_pages : (journal : Journal) (kept : Pages) (count : ℕ) → IsWellFormed journal → 0 < kept.count → 0 < count
+pub makes_pages : (journal : Journal) (kept : FilePages) (count : ℕ) → IsWellFormed journal → 0 < kept.count → 0 < count
     → kept.count ≤ journal.first → count ≤ journal.first → Fills journal kept.count count → MadePages journal kept count
 makes_pages journal kept count well some_kept some after_kept after fills = record {
   checkpoint = record {
@@ -121,7 +122,7 @@ apart-alike image one other i tells tells' apart = λ k lt.
     subst (λ n. IsOutside (PAGE_SIZE * n) (PAGE_SIZE * n + PAGE_SIZE) i) (numbers-alike image one other k tells tells' lt') (apart k lt')
 
 -- the bytes that two maps of one image both have
-open-bytes : (image : Content) (one other : Pages) (i : ℕ) → RecoversBy image one → RecoversBy image other
+open-bytes : (image : Content) (one other : FilePages) (i : ℕ) → RecoversBy image one → RecoversBy image other
     → i < PAGE_SIZE * one.count → i < PAGE_SIZE * other.count → IsOfPages i → one.byte i ≡ other.byte i
 open-bytes image one other i by by' lt lt' own = elim (apart-or by.journal.count by.journal.number i) [
   | inl f ↦
@@ -139,14 +140,14 @@ open-bytes image one other i by by' lt lt' own = elim (apart-or by.journal.count
       ∙ by'.overlays.others i lt' own (apart-alike image by.journal by'.journal i by.tells by'.tells apart)
 ]
 
-both-bytes : (image : Content) (one other : Pages) (i : ℕ) → Recovers image one → Recovers image other
+both-bytes : (image : Content) (one other : FilePages) (i : ℕ) → Recovers image one → Recovers image other
     → i < PAGE_SIZE * one.count → i < PAGE_SIZE * other.count → IsOfPages i → one.byte i ≡ other.byte i
 both-bytes image one other i gives gives' lt lt' own = elim (cases_eq (image.byte 64) 1) [
   | inl opened ↦ open-bytes image one other i (gives.opened opened) (gives'.opened opened) lt lt' own
   | inr closed ↦ sym ((gives.shut closed).bytes i lt own) ∙ (gives'.shut closed).bytes i lt' own
 ]
 
-pub one_map : (image : Content) (one other : Pages) → SaysCount one → SaysCount other
+pub one_map : (image : Content) (one other : FilePages) → SaysCount one → SaysCount other
     → Recovers image one → Recovers image other → SamePages one other
 one_map image one other says says' gives gives' =
     let some : 0 < one.count = says.some in

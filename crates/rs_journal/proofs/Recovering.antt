@@ -9,11 +9,11 @@ use Rattle.rs_disk.specs.Content.{Content, CutsTo, IsCutTo}
 use Rattle.rs_page.specs.declared.page.TheConstants.{PAGE_SIZE}
 use Rattle.rs_journal.specs.Journal.{Journal, Ascends, AreBelow, HasJournal, Carries, Recovers, RecoversBy, IsTold, Tells, number_pages, copies_start}
 use Rattle.rs_journal.specs.Stages.{IsHome, IsQuiet, Goes, GateAlone}
-use Rattle.rs_journal.specs.Reaches.{Reaches}
 use Rattle.rs_journal.proofs.Staging.{quiet-gives, not-gate}
 use Rattle.rs_journal.proofs.Words.{word-same}
-use Rattle.rs_journal.specs.Pages.{Pages, IsOfPages, HasPages, word_at}
+use Rattle.rs_journal.specs.FilePages.{FilePages, IsOfPages, HasPages, word_at}
 use Rattle.rs_journal.specs.Recovery.{NumbersSoFar, SaysCount, HasNoMore, IsDamaged, OnDamaged, Brought, GaveAll, Recovered, number_in}
+use Rattle.rs_disk.specs.Reaches.{Reaches}
 
 pub numbers-none : (first : ℕ) (number : ℕ → ℕ) → NumbersSoFar first 0 0 number
 numbers-none first number = record {
@@ -84,20 +84,20 @@ copy-there journal content first count place copy first_is count_is has spot lt 
     ap content.byte here ∙ has.copies.each place j (omega (arith, count_is)) within
 
 -- the count that page 0 says
-pub count-there : (pages : Pages) (content : Content) → SaysCount pages → HasPages pages content → word_at content.byte 32 ≡ pages.count
+pub count-there : (pages : FilePages) (content : Content) → SaysCount pages → HasPages pages content → word_at content.byte 32 ≡ pages.count
 count-there pages content says has =
     let some : 0 < pages.count = says.some in
     word-same content.byte pages.byte 32 (λ k lt. has.bytes (32 + k) (omega arith) (inl (omega arith))) ∙ says.says
 
 -- where the gate is open
-pub carries-told : (image : Content) (pages : Pages) → SaysCount pages → (by : RecoversBy image pages) → Carries by.journal pages
+pub carries-told : (image : Content) (pages : FilePages) → SaysCount pages → (by : RecoversBy image pages) → Carries by.journal pages
 carries-told image pages says by = record {
   well_formed = by.tells.well_formed;
   some = says.some;
   copied = by.overlays.copied;
 }
 
-pub home-told : (image : Content) (pages : Pages) → image.byte 64 ≡ 1 → (by : RecoversBy image pages) → IsHome by.journal pages image
+pub home-told : (image : Content) (pages : FilePages) → image.byte 64 ≡ 1 → (by : RecoversBy image pages) → IsHome by.journal pages image
 home-told image pages is by = record {
   opened = is;
   journal_there = by.tells.there;
@@ -166,7 +166,7 @@ is-cut (Err _) bound P a b then cut = tt
 
 module _ {D : Type 0} (d : disk.Ghosts D) where
   -- where the first sync fails
-  pub recovered-unsynced : {T E : Type 0} (pages : Pages) (result : Result T E) (old new : D) → IsErr result → Reaches d Same old new
+  pub recovered-unsynced : {T E : Type 0} (pages : FilePages) (result : Result T E) (old new : D) → IsErr result → Reaches d Same old new
       → IsTrue (d.is_honest old) → Recovers (d.seen old) pages → Recovered d pages result old new
   recovered-unsynced pages (Ok t) old new failed reaches honest gives = cc
   recovered-unsynced pages (Err e) old new failed reaches honest gives = record {
@@ -183,12 +183,12 @@ module _ {D : Type 0} (d : disk.Ghosts D) where
     from_sync = inl (record { failed = refl; before = reaches });
   }
 
-  reads-by : {T E : Type 0} (pages : Pages) (result : Result T E) (mid new : D)
+  reads-by : {T E : Type 0} (pages : FilePages) (result : Result T E) (mid new : D)
       → Goes d (λ image. Recovers image pages) (IsQuiet pages) result mid new → Recovers (d.seen new) pages
   reads-by pages (Ok t) mid new goes = quiet-gives pages (d.seen new) goes.done.reads
   reads-by pages (Err e) mid new goes = goes.fault.reads
 
-  images-by : {T E : Type 0} (pages : Pages) (result : Result T E) (old mid new : D)
+  images-by : {T E : Type 0} (pages : FilePages) (result : Result T E) (old mid new : D)
       → Goes d (λ image. Recovers image pages) (IsQuiet pages) result mid new → IsTrue (d.keeps_crashes new)
       → OnErr result (((image : Content) → d.may_leave new image → Recovers image pages)
       ⊎ ((image : Content) → d.may_leave new image → d.may_leave old image))
@@ -196,7 +196,7 @@ module _ {D : Type 0} (d : disk.Ghosts D) where
   images-by pages (Err e) old mid new goes keeps = inl (goes.fault.images keeps)
 
   -- and where it doesn't
-  pub recovered-synced : {T E : Type 0} (pages : Pages) (result : Result T E) (old mid new : D) → Reaches d Same old mid → d.keeps_crashes new ≡ d.keeps_crashes mid
+  pub recovered-synced : {T E : Type 0} (pages : FilePages) (result : Result T E) (old mid new : D) → Reaches d Same old mid → d.keeps_crashes new ≡ d.keeps_crashes mid
       → (IsTrue (d.keeps_crashes old) → Only (d.seen mid) (d.may_leave mid))
       → Goes d (λ image. Recovers image pages) (IsQuiet pages) result mid new → Recovered d pages result old new
   recovered-synced pages result old mid new reaches keeping durable goes = record {

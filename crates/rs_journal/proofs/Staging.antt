@@ -4,15 +4,15 @@ use Rattle.std.proofs.Common.{◌≡◌, ◌⊎◌, inl, inr, ℕ, zero, suc, �
 use Rattle.rs_disk.specs.Content.{Content, CutsTo}
 use Rattle.rs_disk.specs.Crash.{CutOrNot}
 use Rattle.rs_page.specs.declared.page.TheConstants.{PAGE_SIZE}
-use Rattle.rs_journal.specs.Pages.{Pages, IsOutside, IsOfPages, HasPages}
-use Rattle.rs_journal.specs.Journal.{Journal, HasJournal, IsApart, IsNotCopied, IsWellFormed, Carries, Makes, end_page, Recovers, RecoversBy, copies_start}
-use Rattle.rs_journal.specs.Reaches.{KeepsWhere}
+use Rattle.rs_journal.specs.FilePages.{FilePages, IsOfPages, HasPages}
+use Rattle.rs_journal.specs.Journal.{Journal, HasJournal, IsApart, IsNotCopied, IsWellFormed, Carries, MakesPages, end_page, Recovers, RecoversBy, copies_start}
 use Rattle.rs_journal.specs.declared.stage.Stage.{Stage}
 use Rattle.rs_journal.specs.declared.stage.Stage.TheVariants.{Fresh, Gate, Home, Closing}
 use Rattle.rs_journal.specs.Stages.{StageImage, GivesFrom, IsQuiet, IsGate, IsHome, IsClosing, IsBeforeJournal, IsLeftAlone, HasHome, IsEither}
 use Rattle.rs_journal.proofs.Words.{journal-kept}
+use Rattle.rs_disk.specs.Reaches.{IsOutside, KeepsWhere}
 
-pub pages-kept : (stays : ℕ → Type 0) (pages : Pages) (a b : Content) → KeepsWhere stays a b
+pub pages-kept : (stays : ℕ → Type 0) (pages : FilePages) (a b : Content) → KeepsWhere stays a b
     → ((i : ℕ) → i < PAGE_SIZE * pages.count → IsOfPages i → stays i) → HasPages pages a → HasPages pages b
 pages-kept stays pages a b keeps there has =
     let long : PAGE_SIZE * pages.count ≤ a.size = has.size in
@@ -30,7 +30,7 @@ pub not-gate : (i : ℕ) → IsOfPages i → IsOutside 64 65 i
 not-gate i own = elim own [ inl before ↦ inl (omega arith) | inr after ↦ inr (omega arith) ]
 
 -- while the journal is written
-pub quiet-on : (journal : Journal) (kept checkpoint : Pages) (a b : Content) → Makes journal kept checkpoint
+pub quiet-on : (journal : Journal) (kept checkpoint : FilePages) (a b : Content) → MakesPages journal kept checkpoint
     → IsQuiet kept a → KeepsWhere (IsBeforeJournal journal.first) a b → IsQuiet kept b
 quiet-on journal kept checkpoint a b makes quiet keeps =
     let some : 0 < kept.count = makes.some_kept in
@@ -60,14 +60,14 @@ gate-journal journal a b well keeps has =
     = λ i lo hi. let past : PAGE_SIZE ≤ i = journal-later journal well i lo hi in omega arith in
     journal-kept _ journal a b keeps (λ i lo hi. inr (omega arith)) (λ i lo hi. inr (later i lo hi)) has
 
-pub gate-on : (journal : Journal) (kept checkpoint : Pages) (a b : Content) → Makes journal kept checkpoint
+pub gate-on : (journal : Journal) (kept checkpoint : FilePages) (a b : Content) → MakesPages journal kept checkpoint
     → IsGate kept journal a → KeepsWhere (IsOutside 64 65) a b → IsGate kept journal b
 gate-on journal kept checkpoint a b makes gate keeps = record {
   pages_there = pages-kept _ kept a b keeps (λ i lt own. not-gate i own) gate.pages_there;
   journal_there = gate-journal journal a b makes.carries.well_formed keeps gate.journal_there;
 }
 
-pub closing-on : (journal : Journal) (checkpoint : Pages) (a b : Content) → Carries journal checkpoint
+pub closing-on : (journal : Journal) (checkpoint : FilePages) (a b : Content) → Carries journal checkpoint
     → IsClosing journal checkpoint a → KeepsWhere (IsOutside 64 65) a b → IsClosing journal checkpoint b
 closing-on journal checkpoint a b carries closing keeps = record {
   pages_there = pages-kept _ checkpoint a b keeps (λ i lt own. not-gate i own) closing.pages_there;
@@ -75,7 +75,7 @@ closing-on journal checkpoint a b carries closing keeps = record {
 }
 
 -- the checkpoint's pages lie within the file where its journal does
-pub checkpoint-inside : (journal : Journal) (kept checkpoint : Pages) (a : Content) → Makes journal kept checkpoint
+pub checkpoint-inside : (journal : Journal) (kept checkpoint : FilePages) (a : Content) → MakesPages journal kept checkpoint
     → HasPages kept a → HasJournal journal a → PAGE_SIZE * checkpoint.count ≤ a.size
 checkpoint-inside journal kept checkpoint a makes pages has = elim (cases_lt 0 journal.count) [
   | inl some ↦
@@ -89,7 +89,7 @@ checkpoint-inside journal kept checkpoint a makes pages has = elim (cases_lt 0 j
 ]
 
 -- once the gate is open
-pub is-opened : (journal : Journal) (kept checkpoint : Pages) (a : Content) → Makes journal kept checkpoint
+pub is-opened : (journal : Journal) (kept checkpoint : FilePages) (a : Content) → MakesPages journal kept checkpoint
     → IsGate kept journal a → a.byte 64 ≡ 1 → IsHome journal checkpoint a
 is-opened journal kept checkpoint a makes gate is = record {
   opened = is;
@@ -106,7 +106,7 @@ left-journal journal a b well keeps has =
     (λ i lo hi. inl (λ k lt. let below : journal.number k < journal.first = well.below k lt in inr (omega arith))) has
 
 -- while the copies are brought home
-pub home-on : (journal : Journal) (checkpoint : Pages) (a b : Content) → Carries journal checkpoint
+pub home-on : (journal : Journal) (checkpoint : FilePages) (a b : Content) → Carries journal checkpoint
     → IsHome journal checkpoint a → KeepsWhere (IsLeftAlone journal.count journal.number) a b → IsHome journal checkpoint b
 home-on journal checkpoint a b carries home keeps =
     let long : PAGE_SIZE * checkpoint.count ≤ a.size = home.size in
@@ -148,7 +148,7 @@ apart-or (suc n) number i = elim (apart-or n number i) [
     ]
 
 -- once they are home
-pub is-home : (journal : Journal) (checkpoint : Pages) (a : Content) → Carries journal checkpoint
+pub is-home : (journal : Journal) (checkpoint : FilePages) (a : Content) → Carries journal checkpoint
     → IsHome journal checkpoint a → HasHome journal.count journal.number journal.copy a → IsClosing journal checkpoint a
 is-home journal checkpoint a carries home written = record {
   pages_there = record {
@@ -166,7 +166,7 @@ is-home journal checkpoint a carries home written = record {
 }
 
 -- once the gate is closed
-pub is-closed : (journal : Journal) (checkpoint : Pages) (a : Content) → IsClosing journal checkpoint a → a.byte 64 ≡ 0 → IsQuiet checkpoint a
+pub is-closed : (journal : Journal) (checkpoint : FilePages) (a : Content) → IsClosing journal checkpoint a → a.byte 64 ≡ 0 → IsQuiet checkpoint a
 is-closed journal checkpoint a closing is = record {
   closed = λ one. absurd (omega (arith, is, one));
   pages_there = closing.pages_there;
@@ -178,7 +178,7 @@ cut-or-not (Ok t) bound a b cut = inl cut
 cut-or-not (Err e) bound a b cut = cut
 
 -- and the file is cut
-pub cut-on : (bound : ℕ) (pages : Pages) (a b : Content) → 0 < pages.count → pages.count ≤ bound → IsQuiet pages a
+pub cut-on : (bound : ℕ) (pages : FilePages) (a b : Content) → 0 < pages.count → pages.count ≤ bound → IsQuiet pages a
     → CutOrNot (PAGE_SIZE * bound) a b → IsQuiet pages b
 cut-on bound pages a b some long quiet cut = elim cut [
   | inl done ↦
@@ -196,11 +196,11 @@ cut-on bound pages a b some long quiet cut = elim cut [
 
 -- What the images of the stages give.
 
-pub quiet-gives : (pages : Pages) (a : Content) → IsQuiet pages a → Recovers a pages
+pub quiet-gives : (pages : FilePages) (a : Content) → IsQuiet pages a → Recovers a pages
 quiet-gives pages a quiet = record { opened = λ is. absurd (quiet.closed is); shut = λ _. quiet.pages_there }
 
 -- an open gate gives the checkpoint's pages, where those that it doesn't copy are there
-open-gives : (journal : Journal) (checkpoint : Pages) (a : Content) → Carries journal checkpoint → HasJournal journal a
+open-gives : (journal : Journal) (checkpoint : FilePages) (a : Content) → Carries journal checkpoint → HasJournal journal a
     → ((i : ℕ) → i < PAGE_SIZE * checkpoint.count → IsOfPages i → IsNotCopied journal i → a.byte i ≡ checkpoint.byte i)
     → PAGE_SIZE * checkpoint.count ≤ a.size → RecoversBy a checkpoint
 open-gives journal checkpoint a carries there others size = record {
@@ -209,14 +209,14 @@ open-gives journal checkpoint a carries there others size = record {
   overlays = record { copied = carries.copied; others = others; size = size };
 }
 
-pub home-gives : (journal : Journal) (checkpoint : Pages) (a : Content) → Carries journal checkpoint
+pub home-gives : (journal : Journal) (checkpoint : FilePages) (a : Content) → Carries journal checkpoint
     → IsHome journal checkpoint a → Recovers a checkpoint
 home-gives journal checkpoint a carries home = record {
   opened = λ _. open-gives journal checkpoint a carries home.journal_there home.others home.size;
   shut = λ closed. absurd (closed home.opened);
 }
 
-pub closing-gives : (journal : Journal) (checkpoint : Pages) (a : Content) → Carries journal checkpoint
+pub closing-gives : (journal : Journal) (checkpoint : FilePages) (a : Content) → Carries journal checkpoint
     → IsClosing journal checkpoint a → Recovers a checkpoint
 closing-gives journal checkpoint a carries closing = record {
   opened = λ _. open-gives journal checkpoint a carries closing.journal_there
@@ -224,7 +224,7 @@ closing-gives journal checkpoint a carries closing = record {
   shut = λ _. closing.pages_there;
 }
 
-pub gate-gives : (journal : Journal) (kept checkpoint : Pages) (a : Content) → Makes journal kept checkpoint
+pub gate-gives : (journal : Journal) (kept checkpoint : FilePages) (a : Content) → MakesPages journal kept checkpoint
     → IsGate kept journal a → IsEither kept checkpoint a
 gate-gives journal kept checkpoint a makes gate = elim (cases_eq (a.byte 64) 1) [
   | inl is ↦ inr (home-gives journal checkpoint a makes.carries (is-opened journal kept checkpoint a makes gate is))
@@ -232,7 +232,7 @@ gate-gives journal kept checkpoint a makes gate = elim (cases_eq (a.byte 64) 1) 
 ]
 
 -- the same of each stage
-pub stage-gives : (stage : Stage) (kept : Pages) (journal : Journal) (checkpoint : Pages) (a : Content) → Makes journal kept checkpoint
+pub stage-gives : (stage : Stage) (kept : FilePages) (journal : Journal) (checkpoint : FilePages) (a : Content) → MakesPages journal kept checkpoint
     → StageImage stage kept journal checkpoint a → GivesFrom stage kept checkpoint a
 stage-gives Fresh kept journal checkpoint a makes is = inl (quiet-gives kept a is)
 stage-gives Gate kept journal checkpoint a makes is = gate-gives journal kept checkpoint a makes is

@@ -4,10 +4,10 @@ use Rattle.std.proofs.Common.{Result, Ok, Err, OnOk, ◌-◌, ◌≡◌, inl, in
 use Rattle.rs_disk.specs.Content.{Content, Gives, Holds}
 use Rattle.rs_page.specs.Number.{number_at}
 use Rattle.rs_page.specs.declared.page.TheConstants.{PAGE_SIZE}
-use Rattle.rs_journal.specs.Pages.{word_at, IsOutside}
+use Rattle.rs_journal.specs.FilePages.{word_at}
 use Rattle.rs_journal.specs.Journal.{Journal, HasFields, HasNumbers, HasNumberPage, HasCopies, HasJournal, number_pages, copies_start, end_page}
-use Rattle.rs_journal.specs.Reaches.{KeepsWhere}
 use Rattle.rs_journal.specs.Stages.{IsBeforeJournal}
+use Rattle.rs_disk.specs.Reaches.{IsOutside, KeepsWhere}
 
 pub word-same : (one other : ℕ → ℕ) (at : ℕ) → ((k : ℕ) → k < 4 → one (at + k) ≡ other (at + k)) → word_at one at ≡ word_at other at
 unfolding word_at

@@ -4,7 +4,8 @@ use Rattle.rs_disk.specs.Content.{Content}
 use Rattle.rs_page.specs.declared.page.TheConstants.{PAGE_SIZE}
 use Rattle.rs_journal.specs.declared.copies.Copies as copies
 use Rattle.rs_journal.specs.declared.limits.TheConstants.{GATE, FIELDS, FIELDS_END, NUMBERS_OF_A_PAGE}
-use Rattle.rs_journal.specs.Pages.{Pages, IsOutside, IsOfPages, HasPages, word_at}
+use Rattle.rs_journal.specs.FilePages.{FilePages, IsOfPages, HasPages, word_at}
+use Rattle.rs_disk.specs.Reaches.{IsOutside}
 
 -- its first page, how many pages it copies, and by place the number of each home page and the bytes of its copy
 pub record Journal : Type 0 where
@@ -78,7 +79,7 @@ abbrev pub IsNotCopied : Journal → ℕ → Type 0
 IsNotCopied journal i = IsApart journal.count journal.number i
 
 -- these pages are the copies in the places of the pages that they copy, and else those of this content
-pub record Overlays (journal : Journal) (pages : Pages) (content : Content) : Type 0 where
+pub record Overlays (journal : Journal) (pages : FilePages) (content : Content) : Type 0 where
   pub copied : (k j : ℕ) → k < journal.count → j < PAGE_SIZE
       → PAGE_SIZE * journal.number k + j < PAGE_SIZE * pages.count
       → IsOfPages (PAGE_SIZE * journal.number k + j)
@@ -98,19 +99,19 @@ pub record IsTold (image : Content) : Type 0 where
   pub tells : Tells image journal
 
 -- what an image whose gate is open gives
-pub record RecoversBy (image : Content) (pages : Pages) : Type 0 where
+pub record RecoversBy (image : Content) (pages : FilePages) : Type 0 where
   pub journal : Journal
   pub tells : Tells image journal
   pub overlays : Overlays journal pages image
 
 -- The pages of an image. With a closed gate they are its home pages. With an open one they are these too, but for the
 -- pages that the journal copies, which are its copies; where that journal isn't well formed there are none.
-pub record Recovers (image : Content) (pages : Pages) : Type 0 where
+pub record Recovers (image : Content) (pages : FilePages) : Type 0 where
   pub opened : image.byte GATE ≡ 1 → RecoversBy image pages
   pub shut : image.byte GATE ≢ 1 → HasPages pages image
 
 -- the journal is well formed, and its copies are these pages in their places
-pub record Carries (journal : Journal) (checkpoint : Pages) : Type 0 where
+pub record Carries (journal : Journal) (checkpoint : FilePages) : Type 0 where
   pub well_formed : IsWellFormed journal
   pub some : 0 < checkpoint.count
   pub copied : (k j : ℕ) → k < journal.count → j < PAGE_SIZE
@@ -119,7 +120,7 @@ pub record Carries (journal : Journal) (checkpoint : Pages) : Type 0 where
       → checkpoint.byte (PAGE_SIZE * journal.number k + j) ≡ journal.copy k j
 
 -- The journal of a checkpoint makes of the pages kept last those of the checkpoint. It comes after both.
-pub record Makes (journal : Journal) (kept checkpoint : Pages) : Type 0 where
+pub record MakesPages (journal : Journal) (kept checkpoint : FilePages) : Type 0 where
   pub carries : Carries journal checkpoint
   pub some_kept : 0 < kept.count
   pub after_kept : kept.count ≤ journal.first
@@ -139,10 +140,10 @@ abbrev pub Fills : Journal → ℕ → ℕ → Type 0
 Fills journal from to = (number : ℕ) → from ≤ number → number < to → IsCopied journal number
 
 -- so many pages that the journal makes of the pages kept last
-pub record MadePages (journal : Journal) (kept : Pages) (count : ℕ) : Type 0 where
-  pub checkpoint : Pages
+pub record MadePages (journal : Journal) (kept : FilePages) (count : ℕ) : Type 0 where
+  pub checkpoint : FilePages
   pub counts : checkpoint.count ≡ count
-  pub makes : Makes journal kept checkpoint
+  pub makes : MakesPages journal kept checkpoint
 
 module _ {C : Type 0} (c : copies.Ghosts C) where
   -- the journal of these copies from this page on

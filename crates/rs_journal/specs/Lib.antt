@@ -1,5 +1,7 @@
+pub mod Calls
+pub mod FilePages
 pub mod Journal
-pub mod Pages
-pub mod Reaches
+pub mod Look
+pub mod LookLaws
 pub mod Recovery
 pub mod Stages

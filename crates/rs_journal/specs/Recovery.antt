@@ -8,10 +8,10 @@ use Rattle.rs_disk.specs.Crash.{Same, Only}
 use Rattle.rs_disk.specs.declared.disk.Disk as disk
 use Rattle.rs_page.specs.declared.page.TheConstants.{PAGE_SIZE}
 use Rattle.rs_journal.specs.declared.limits.TheConstants.{GATE, FIELDS, PAGE_COUNT}
-use Rattle.rs_journal.specs.Pages.{Pages, HasPages, word_at}
+use Rattle.rs_journal.specs.FilePages.{FilePages, HasPages, word_at}
 use Rattle.rs_journal.specs.Journal.{Journal, Ascends, AreBelow, end_page, number_pages, Tells, Recovers}
-use Rattle.rs_journal.specs.Stages.{IsQuiet, IsLeftAlone, HasHome, Stands, Meanwhile, Goes}
-use Rattle.rs_journal.specs.Reaches.{KeepsWhere, Reaches}
+use Rattle.rs_journal.specs.Stages.{IsQuiet, IsLeftAlone, HasHome, EveryImage, Meanwhile, Goes}
+use Rattle.rs_disk.specs.Reaches.{KeepsWhere, Reaches}
 
 -- the number at a place of a journal from this page on
 abbrev pub number_in : Content → ℕ → ℕ → ℕ
@@ -43,7 +43,7 @@ pub record IsThere (first count : ℕ) (journal : Journal) (content : Content) :
   pub copies : journal.count ≡ count
 
 -- page 0 says how many pages these are
-pub record SaysCount (pages : Pages) : Type 0 where
+pub record SaysCount (pages : FilePages) : Type 0 where
   pub says : word_at pages.byte PAGE_COUNT ≡ pages.count
   pub some : 0 < pages.count
 
@@ -55,7 +55,7 @@ pub record Brought (journal : Journal) (old new : Content) : Type 0 where
 
 -- what is there after recovery was given before it
 abbrev pub GaveAll : Content → Content → Type 0
-GaveAll old new = (pages : Pages) → SaysCount pages → HasPages pages new → Recovers old pages
+GaveAll old new = (pages : FilePages) → SaysCount pages → HasPages pages new → Recovers old pages
 
 -- the first so many numbers ascend and lie below this page, and the next is to be no less than `least`
 pub record NumbersSoFar (first place least : ℕ) (number : ℕ → ℕ) : Type 0 where
@@ -80,7 +80,7 @@ HasNoMore content = content.size ≤ PAGE_SIZE * word_at content.byte PAGE_COUNT
 pub record IsDamaged (content : Content) : Type 0 where
   pub opened : content.byte GATE ≡ 1
   pub no_journal : (journal : Journal) → Tells content journal → PAGE_SIZE ≤ content.size → ⊥
-  pub no_pages : (pages : Pages) → SaysCount pages → Recovers content pages → ⊥
+  pub no_pages : (pages : FilePages) → SaysCount pages → Recovers content pages → ⊥
 
 -- a refusal by damaged bytes is right
 abbrev pub OnDamaged : {T : Type 0} → Result T Refusal → Type 0 → Type 0
@@ -88,6 +88,12 @@ OnDamaged (Err DamagedFile) claim = claim
 OnDamaged _ claim = Unit {0}
 
 module _ {D : Type 0} (d : disk.Ghosts D) where
+  -- whether the disk is honest and whether it keeps the model of crashes stays; a refusal is 91 and one more failure, or 94
+  pub record CallsOrDamaged {T : Type 0} (result : Result T Refusal) (old new : D) : Type 0 where
+    pub honesty : d.is_honest new ≡ d.is_honest old
+    pub keeping : d.keeps_crashes new ≡ d.keeps_crashes old
+    pub count : CountsFaults result (d.failures old) (d.failures new)
+
   -- the first sync of recovery fails, and there is no other call
   pub record NotSynced {T E : Type 0} (result : Result T E) (old new : D) : Type 0 where
     pub failed : IsErr result
@@ -95,7 +101,7 @@ module _ {D : Type 0} (d : disk.Ghosts D) where
 
   -- The first sync of recovery succeeds, and leaves a disk of which a crash leaves what a read gives. From there on each
   -- image gives the pages.
-  pub record FromSync {T E : Type 0} (pages : Pages) (result : Result T E) (old new : D) : Type 0 where
+  pub record FromSync {T E : Type 0} (pages : FilePages) (result : Result T E) (old new : D) : Type 0 where
     pub synced : D
     pub before : Reaches d Same old synced
     pub durable : IsTrue (d.keeps_crashes old) → Only (d.seen synced) (d.may_leave synced)
@@ -103,8 +109,8 @@ module _ {D : Type 0} (d : disk.Ghosts D) where
 
   -- what recovery leaves of a disk that gives these pages: after Ok they are the ones kept; after a fault a read gives
   -- them still, and so does each image that a crash may leave, or it is among those of the start
-  pub record Recovered {T E : Type 0} (pages : Pages) (result : Result T E) (old new : D) : Type 0 where
-    pub done : OnOk result (Stands d (IsQuiet pages) new)
+  pub record Recovered {T E : Type 0} (pages : FilePages) (result : Result T E) (old new : D) : Type 0 where
+    pub done : OnOk result (EveryImage d (IsQuiet pages) new)
     pub reads : Recovers (d.seen new) pages
     pub images : IsTrue (d.keeps_crashes old) → OnErr result
         (((image : Content) → d.may_leave new image → Recovers image pages)

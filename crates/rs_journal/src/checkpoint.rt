@@ -1,14 +1,15 @@
 //! A checkpoint, from the stage that it has reached to its last.
 //!
-//! A fault leaves the stage that was reached, and the next call resumes there. After the last the checkpoint's pages are
-//! the ones kept; the file is cut apart from that, so that a fault there changes nothing of it.
+//! A fault leaves the stage that was reached, and the next call resumes there: it writes again all that the stage had
+//! written before it syncs, since a system may drop what a failed sync could not write. After the last stage the
+//! checkpoint's pages are the ones kept; the file is cut apart from that, so that a fault there changes nothing of it.
 
-ghost use Rattle.std.specs.Prelude.{◌≡◌, ◌≢◌, ℕ, ◌<◌, true, IsTrue, OnOk, OnErr, IsOkUnless};
+ghost use Rattle.std.specs.Prelude.{◌≡◌, ◌≢◌, ℕ, ◌<◌, IsTrue, OnOk, OnErr};
 ghost use Rattle.rs_disk.specs.Content.{Content};
-ghost use Rattle.rs_disk.specs.Counts.{Counts};
-ghost use Rattle.rs_journal.specs.Journal.{Journal, Ascends, Makes, Recovers, journal_of};
-ghost use Rattle.rs_journal.specs.Pages.{Pages};
-ghost use Rattle.rs_journal.specs.Stages.{IsQuiet, IsGate, IsHome, IsClosing, IsEither, GivesFrom, StageImage, Stands, Meanwhile, Ends};
+ghost use Rattle.rs_journal.specs.Calls.{SyncsDisk};
+ghost use Rattle.rs_journal.specs.Journal.{Journal, Ascends, MakesPages, Recovers, journal_of};
+ghost use Rattle.rs_journal.specs.FilePages.{FilePages};
+ghost use Rattle.rs_journal.specs.Stages.{IsQuiet, IsGate, IsHome, IsClosing, IsEither, GivesFrom, StageImage, EveryImage, Meanwhile, EndsOrStops};
 ghost use Rattle.rs_journal.specs.declared.stage.Stage.TheVariants.{Fresh, Gate, Home, Closing};
 
 use crate::copies::Copies;
@@ -32,23 +33,19 @@ pub fn complete<D: Disk, C: Copies>(
 ) -> Result<(), Refusal>
     requires first { 0 < first }
     requires ascending { Ascends (C.count copies.now) (C.number copies.now) }
-    ensures ends { (kept checkpoint : Pages) → Makes (journal_of C.Copies first copies.now) kept checkpoint
-        → Stands D.Disk (StageImage stage.old kept (journal_of C.Copies first copies.now) checkpoint) disk.old
-        → Ends D.Disk kept (journal_of C.Copies first copies.now) checkpoint
+    ensures ends { (kept checkpoint : FilePages) → MakesPages (journal_of C.Copies first copies.now) kept checkpoint
+        → EveryImage D.Disk (StageImage stage.old kept (journal_of C.Copies first copies.now) checkpoint) disk.old
+        → EndsOrStops D.Disk kept (journal_of C.Copies first copies.now) checkpoint
         (GivesFrom stage.old kept checkpoint) result stage.new disk.old disk.new }
-    ensures since { (kept checkpoint : Pages) → Makes (journal_of C.Copies first copies.now) kept checkpoint
-        → Stands D.Disk (StageImage stage.old kept (journal_of C.Copies first copies.now) checkpoint) disk.old
+    ensures since { (kept checkpoint : FilePages) → MakesPages (journal_of C.Copies first copies.now) kept checkpoint
+        → EveryImage D.Disk (StageImage stage.old kept (journal_of C.Copies first copies.now) checkpoint) disk.old
         → IsTrue (D.keeps_crashes disk.old) → (image : Content) → D.left_since disk.old disk.new image
         → GivesFrom stage.old kept checkpoint image }
-    ensures untouched { (kept checkpoint : Pages) → Makes (journal_of C.Copies first copies.now) kept checkpoint
-        → Stands D.Disk (StageImage stage.old kept (journal_of C.Copies first copies.now) checkpoint) disk.old
+    ensures untouched { (kept checkpoint : FilePages) → MakesPages (journal_of C.Copies first copies.now) kept checkpoint
+        → EveryImage D.Disk (StageImage stage.old kept (journal_of C.Copies first copies.now) checkpoint) disk.old
         → OnErr result (stage.new ≡ Fresh → Meanwhile D.Disk (λ image. Recovers image kept) disk.old disk.new) }
     ensures goes_on { stage.old ≢ Fresh → OnErr result (stage.new ≢ Fresh) }
-    ensures honesty { D.is_honest disk.new ≡ D.is_honest disk.old }
-    ensures keeping { D.keeps_crashes disk.new ≡ D.keeps_crashes disk.old }
-    ensures synced { OnOk result (D.is_synced disk.new ≡ true) }
-    ensures refused { IsOkUnless result Refusal.Disk }
-    ensures count { Counts result (D.failures disk.old) (D.failures disk.new) }
+    ensures calls { SyncsDisk D.Disk result disk.old disk.new }
 {
     match *stage {
         Stage::Fresh => from_fresh(disk, stage, first, copies),
@@ -68,18 +65,14 @@ fn from_fresh<D: Disk, C: Copies>(
     requires stage { stage.old ≡ Fresh }
     requires first { 0 < first }
     requires ascending { Ascends (C.count copies.now) (C.number copies.now) }
-    ensures ends { (kept checkpoint : Pages) → Makes (journal_of C.Copies first copies.now) kept checkpoint
-        → Stands D.Disk (IsQuiet kept) disk.old
-        → Ends D.Disk kept (journal_of C.Copies first copies.now) checkpoint
+    ensures ends { (kept checkpoint : FilePages) → MakesPages (journal_of C.Copies first copies.now) kept checkpoint
+        → EveryImage D.Disk (IsQuiet kept) disk.old
+        → EndsOrStops D.Disk kept (journal_of C.Copies first copies.now) checkpoint
         (IsEither kept checkpoint) result stage.new disk.old disk.new }
-    ensures untouched { (kept checkpoint : Pages) → Makes (journal_of C.Copies first copies.now) kept checkpoint
-        → Stands D.Disk (IsQuiet kept) disk.old
+    ensures untouched { (kept checkpoint : FilePages) → MakesPages (journal_of C.Copies first copies.now) kept checkpoint
+        → EveryImage D.Disk (IsQuiet kept) disk.old
         → OnErr result (stage.new ≡ Fresh → Meanwhile D.Disk (λ image. Recovers image kept) disk.old disk.new) }
-    ensures honesty { D.is_honest disk.new ≡ D.is_honest disk.old }
-    ensures keeping { D.keeps_crashes disk.new ≡ D.keeps_crashes disk.old }
-    ensures synced { OnOk result (D.is_synced disk.new ≡ true) }
-    ensures refused { IsOkUnless result Refusal.Disk }
-    ensures count { Counts result (D.failures disk.old) (D.failures disk.new) }
+    ensures calls { SyncsDisk D.Disk result disk.old disk.new }
 {
     begin(disk, first, copies)?;
     *stage = Stage::Gate;
@@ -90,16 +83,12 @@ fn from_fresh<D: Disk, C: Copies>(
 fn from_gate<D: Disk, C: Copies>(disk: &mut D, stage: &mut Stage, copies: &C) -> Result<(), Refusal>
     requires stage { stage.old ≡ Gate }
     requires ascending { Ascends (C.count copies.now) (C.number copies.now) }
-    ensures ends { (first : ℕ) (kept checkpoint : Pages) → Makes (journal_of C.Copies first copies.now) kept checkpoint
-        → Stands D.Disk (IsGate kept (journal_of C.Copies first copies.now)) disk.old
-        → Ends D.Disk kept (journal_of C.Copies first copies.now) checkpoint
+    ensures ends { (first : ℕ) (kept checkpoint : FilePages) → MakesPages (journal_of C.Copies first copies.now) kept checkpoint
+        → EveryImage D.Disk (IsGate kept (journal_of C.Copies first copies.now)) disk.old
+        → EndsOrStops D.Disk kept (journal_of C.Copies first copies.now) checkpoint
         (IsEither kept checkpoint) result stage.new disk.old disk.new }
     ensures goes_on { OnErr result (stage.new ≢ Fresh) }
-    ensures honesty { D.is_honest disk.new ≡ D.is_honest disk.old }
-    ensures keeping { D.keeps_crashes disk.new ≡ D.keeps_crashes disk.old }
-    ensures synced { OnOk result (D.is_synced disk.new ≡ true) }
-    ensures refused { IsOkUnless result Refusal.Disk }
-    ensures count { Counts result (D.failures disk.old) (D.failures disk.new) }
+    ensures calls { SyncsDisk D.Disk result disk.old disk.new }
 {
     open_gate(disk)?;
     *stage = Stage::Home;
@@ -110,16 +99,12 @@ fn from_gate<D: Disk, C: Copies>(disk: &mut D, stage: &mut Stage, copies: &C) ->
 fn from_home<D: Disk, C: Copies>(disk: &mut D, stage: &mut Stage, copies: &C) -> Result<(), Refusal>
     requires stage { stage.old ≡ Home }
     requires ascending { Ascends (C.count copies.now) (C.number copies.now) }
-    ensures ends { (first : ℕ) (kept checkpoint : Pages) → Makes (journal_of C.Copies first copies.now) kept checkpoint
-        → Stands D.Disk (IsHome (journal_of C.Copies first copies.now) checkpoint) disk.old
-        → Ends D.Disk kept (journal_of C.Copies first copies.now) checkpoint
+    ensures ends { (first : ℕ) (kept checkpoint : FilePages) → MakesPages (journal_of C.Copies first copies.now) kept checkpoint
+        → EveryImage D.Disk (IsHome (journal_of C.Copies first copies.now) checkpoint) disk.old
+        → EndsOrStops D.Disk kept (journal_of C.Copies first copies.now) checkpoint
         (λ image. Recovers image checkpoint) result stage.new disk.old disk.new }
     ensures goes_on { OnErr result (stage.new ≢ Fresh) }
-    ensures honesty { D.is_honest disk.new ≡ D.is_honest disk.old }
-    ensures keeping { D.keeps_crashes disk.new ≡ D.keeps_crashes disk.old }
-    ensures synced { OnOk result (D.is_synced disk.new ≡ true) }
-    ensures refused { IsOkUnless result Refusal.Disk }
-    ensures count { Counts result (D.failures disk.old) (D.failures disk.new) }
+    ensures calls { SyncsDisk D.Disk result disk.old disk.new }
 {
     bring_home(disk, copies)?;
     *stage = Stage::Closing;
@@ -129,15 +114,11 @@ fn from_home<D: Disk, C: Copies>(disk: &mut D, stage: &mut Stage, copies: &C) ->
 /// Closes the gate.
 fn from_closing<D: Disk>(disk: &mut D, stage: &mut Stage) -> Result<(), Refusal>
     requires { stage.old ≡ Closing }
-    ensures ends { (journal : Journal) (kept checkpoint : Pages) → Makes journal kept checkpoint
-        → Stands D.Disk (IsClosing journal checkpoint) disk.old
-        → Ends D.Disk kept journal checkpoint (λ image. Recovers image checkpoint) result stage.new disk.old disk.new }
+    ensures ends { (journal : Journal) (kept checkpoint : FilePages) → MakesPages journal kept checkpoint
+        → EveryImage D.Disk (IsClosing journal checkpoint) disk.old
+        → EndsOrStops D.Disk kept journal checkpoint (λ image. Recovers image checkpoint) result stage.new disk.old disk.new }
     ensures goes_on { OnErr result (stage.new ≢ Fresh) }
-    ensures honesty { D.is_honest disk.new ≡ D.is_honest disk.old }
-    ensures keeping { D.keeps_crashes disk.new ≡ D.keeps_crashes disk.old }
-    ensures synced { OnOk result (D.is_synced disk.new ≡ true) }
-    ensures refused { IsOkUnless result Refusal.Disk }
-    ensures count { Counts result (D.failures disk.old) (D.failures disk.new) }
+    ensures calls { SyncsDisk D.Disk result disk.old disk.new }
 {
     close_gate(disk)?;
     *stage = Stage::Fresh;

@@ -2,14 +2,14 @@
 //!
 //! Of page 0 the gate byte and the journal's fields are left alone, so that the gate stays open meanwhile.
 
-ghost use Rattle.std.specs.Prelude.{◌≡◌, ℕ, ◌+◌, ◌*◌, ◌<◌, ◌≤◌, max, IsTrue, OnOk, IsOkUnless};
-ghost use Rattle.rs_disk.specs.Counts.{Counts};
+ghost use Rattle.std.specs.Prelude.{◌≡◌, ℕ, ◌+◌, ◌*◌, ◌<◌, ◌≤◌, max, IsTrue, OnOk};
 ghost use Rattle.rs_disk.specs.Crash.{Only};
 ghost use Rattle.rs_page.specs.declared.page.TheConstants.{PAGE_SIZE};
-ghost use Rattle.rs_journal.specs.Journal.{Ascends, Makes, journal_of};
-ghost use Rattle.rs_journal.specs.Reaches.{KeepsWhere, Reaches};
-ghost use Rattle.rs_journal.specs.Stages.{IsNotInPage, IsLeftAlone, HasHomePage, HasHome, IsHome, IsClosing, Stands, Goes};
-ghost use Rattle.rs_journal.specs.Pages.{Pages};
+ghost use Rattle.rs_journal.specs.Calls.{CallsDisk};
+ghost use Rattle.rs_journal.specs.Journal.{Ascends, MakesPages, journal_of};
+ghost use Rattle.rs_journal.specs.Stages.{IsNotInPage, IsLeftAlone, HasHomePage, HasHome, IsHome, IsClosing, EveryImage, Goes};
+ghost use Rattle.rs_journal.specs.FilePages.{FilePages};
+ghost use Rattle.rs_disk.specs.Reaches.{KeepsWhere, Reaches};
 
 use crate::copies::Copies;
 use crate::limits::{FIELDS_END, GATE};
@@ -21,14 +21,11 @@ use rs_refusal::Refusal;
 /// Brings the copies of a checkpoint home. The gate is open, so a crash leaves the checkpoint's pages.
 pub(crate) fn bring_home<D: Disk, C: Copies>(disk: &mut D, copies: &C) -> Result<(), Refusal>
     requires { Ascends (C.count copies.now) (C.number copies.now) }
-    ensures goes { (first : ℕ) (kept checkpoint : Pages) → Makes (journal_of C.Copies first copies.now) kept checkpoint
-        → Stands D.Disk (IsHome (journal_of C.Copies first copies.now) checkpoint) disk.old
+    ensures goes { (first : ℕ) (kept checkpoint : FilePages) → MakesPages (journal_of C.Copies first copies.now) kept checkpoint
+        → EveryImage D.Disk (IsHome (journal_of C.Copies first copies.now) checkpoint) disk.old
         → Goes D.Disk (IsHome (journal_of C.Copies first copies.now) checkpoint)
         (IsClosing (journal_of C.Copies first copies.now) checkpoint) result disk.old disk.new }
-    ensures honesty { D.is_honest disk.new ≡ D.is_honest disk.old }
-    ensures keeping { D.keeps_crashes disk.new ≡ D.keeps_crashes disk.old }
-    ensures refused { IsOkUnless result Refusal.Disk }
-    ensures count { Counts result (D.failures disk.old) (D.failures disk.new) }
+    ensures calls { CallsDisk D.Disk result disk.old disk.new }
 {
     write_home(disk, copies)
 }
@@ -42,8 +39,7 @@ fn write_home<D: Disk, C: Copies>(disk: &mut D, copies: &C) -> Result<(), Refusa
         (KeepsWhere (IsLeftAlone (C.count copies.now) (C.number copies.now))) disk.old disk.new }
     ensures durable { IsTrue (D.keeps_crashes disk.old)
         → OnOk result (Only (D.seen disk.new) (D.may_leave disk.new)) }
-    ensures refused { IsOkUnless result Refusal.Disk }
-    ensures count { Counts result (D.failures disk.old) (D.failures disk.new) }
+    ensures calls { CallsDisk D.Disk result disk.old disk.new }
 {
     write_home_pages(disk, copies)?;
     sync(disk)
@@ -56,8 +52,7 @@ fn write_home_pages<D: Disk, C: Copies>(disk: &mut D, copies: &C) -> Result<(), 
         (HasHome (C.count copies.now) (C.number copies.now) (C.byte copies.now) (D.seen disk.new)) }
     ensures reaches { Reaches D.Disk
         (KeepsWhere (IsLeftAlone (C.count copies.now) (C.number copies.now))) disk.old disk.new }
-    ensures refused { IsOkUnless result Refusal.Disk }
-    ensures count { Counts result (D.failures disk.old) (D.failures disk.new) }
+    ensures calls { CallsDisk D.Disk result disk.old disk.new }
 {
     for place in 0..copies.count() {
         write_home_page(disk, copies.number(place), copies.page(place))?;
@@ -75,8 +70,7 @@ pub(crate) fn write_home_page<D: Disk>(
         → OnOk result (HasHomePage number page.now.bytes (D.seen disk.new)) }
     ensures reaches { Reaches D.Disk (KeepsWhere (IsNotInPage number)) disk.old disk.new }
     ensures no_longer { IsTrue (D.is_honest disk.old) → (D.seen disk.new).size ≤ max (D.seen disk.old).size (PAGE_SIZE * number + PAGE_SIZE) }
-    ensures refused { IsOkUnless result Refusal.Disk }
-    ensures count { Counts result (D.failures disk.old) (D.failures disk.new) }
+    ensures calls { CallsDisk D.Disk result disk.old disk.new }
 {
     if number == 0 {
         write_first_page(disk, page)
@@ -91,8 +85,7 @@ fn write_first_page<D: Disk>(disk: &mut D, page: &Page) -> Result<(), Refusal>
         → OnOk result (HasHomePage 0 page.now.bytes (D.seen disk.new)) }
     ensures reaches { Reaches D.Disk (KeepsWhere (IsNotInPage 0)) disk.old disk.new }
     ensures no_longer { IsTrue (D.is_honest disk.old) → (D.seen disk.new).size ≤ max (D.seen disk.old).size PAGE_SIZE }
-    ensures refused { IsOkUnless result Refusal.Disk }
-    ensures count { Counts result (D.failures disk.old) (D.failures disk.new) }
+    ensures calls { CallsDisk D.Disk result disk.old disk.new }
 {
     write_at(disk, 0, &page.bytes[..GATE as usize])?;
     write_at(disk, FIELDS_END, &page.bytes[FIELDS_END as usize..])

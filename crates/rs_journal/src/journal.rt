@@ -2,16 +2,16 @@
 //!
 //! It comes after the pages of the file, so a crash while it is written leaves those.
 
-ghost use Rattle.std.specs.Prelude.{◌≡◌, ℕ, ◌+◌, ◌*◌, ◌^◌, ◌<◌, ◌≤◌, IsTrue, OnOk, IsOkUnless};
-ghost use Rattle.rs_disk.specs.Counts.{Counts};
+ghost use Rattle.std.specs.Prelude.{◌≡◌, ℕ, ◌+◌, ◌*◌, ◌^◌, ◌<◌, ◌≤◌, IsTrue, OnOk};
 ghost use Rattle.rs_disk.specs.Crash.{Only};
 ghost use Rattle.rs_page.specs.Number.{number_at};
 ghost use Rattle.rs_page.specs.declared.page.TheConstants.{PAGE_SIZE};
+ghost use Rattle.rs_journal.specs.Calls.{CallsDisk};
 ghost use Rattle.rs_journal.specs.declared.limits.TheConstants.{FIELDS, FIELDS_END, NUMBERS_OF_A_PAGE};
-ghost use Rattle.rs_journal.specs.Journal.{number_pages, HasNumbers, HasNumberPage, HasCopies, HasFields, HasJournal, Makes, journal_of};
-ghost use Rattle.rs_journal.specs.Pages.{Pages, IsOutside};
-ghost use Rattle.rs_journal.specs.Reaches.{KeepsWhere, Reaches};
-ghost use Rattle.rs_journal.specs.Stages.{IsBeforeJournal, IsQuiet, IsGate, Stands, Goes};
+ghost use Rattle.rs_journal.specs.Journal.{number_pages, HasNumbers, HasNumberPage, HasCopies, HasFields, HasJournal, MakesPages, journal_of};
+ghost use Rattle.rs_journal.specs.FilePages.{FilePages};
+ghost use Rattle.rs_journal.specs.Stages.{IsBeforeJournal, IsQuiet, IsGate, EveryImage, Goes};
+ghost use Rattle.rs_disk.specs.Reaches.{IsOutside, KeepsWhere, Reaches};
 
 use crate::copies::Copies;
 use crate::limits::{FIELDS, NUMBERS_OF_A_PAGE};
@@ -29,8 +29,7 @@ fn write_journal<D: Disk, C: Copies>(disk: &mut D, first: u32, copies: &C) -> Re
     ensures reaches { Reaches D.Disk (KeepsWhere (IsBeforeJournal first)) disk.old disk.new }
     ensures durable { IsTrue (D.keeps_crashes disk.old)
         → OnOk result (Only (D.seen disk.new) (D.may_leave disk.new)) }
-    ensures refused { IsOkUnless result Refusal.Disk }
-    ensures count { Counts result (D.failures disk.old) (D.failures disk.new) }
+    ensures calls { CallsDisk D.Disk result disk.old disk.new }
 {
     let count = copies.count();
     let start = u64::from(first) + u64::from(pages_of_numbers(count));
@@ -43,13 +42,10 @@ fn write_journal<D: Disk, C: Copies>(disk: &mut D, first: u32, copies: &C) -> Re
 /// Writes the journal of a checkpoint. Until the gate is opened, a crash leaves the pages kept last.
 pub(crate) fn begin<D: Disk, C: Copies>(disk: &mut D, first: u32, copies: &C) -> Result<(), Refusal>
     requires { 0 < first }
-    ensures goes { (kept checkpoint : Pages) → Makes (journal_of C.Copies first copies.now) kept checkpoint
-        → Stands D.Disk (IsQuiet kept) disk.old
+    ensures goes { (kept checkpoint : FilePages) → MakesPages (journal_of C.Copies first copies.now) kept checkpoint
+        → EveryImage D.Disk (IsQuiet kept) disk.old
         → Goes D.Disk (IsQuiet kept) (IsGate kept (journal_of C.Copies first copies.now)) result disk.old disk.new }
-    ensures honesty { D.is_honest disk.new ≡ D.is_honest disk.old }
-    ensures keeping { D.keeps_crashes disk.new ≡ D.keeps_crashes disk.old }
-    ensures refused { IsOkUnless result Refusal.Disk }
-    ensures count { Counts result (D.failures disk.old) (D.failures disk.new) }
+    ensures calls { CallsDisk D.Disk result disk.old disk.new }
 {
     write_journal(disk, first, copies)
 }
@@ -67,8 +63,7 @@ fn write_numbers<D: Disk, C: Copies>(disk: &mut D, first: u32, copies: &C) -> Re
         (number_pages (C.count copies.now)) (C.count copies.now) (C.number copies.now) (D.seen disk.new)) }
     ensures reaches { Reaches D.Disk (KeepsWhere (IsOutside (PAGE_SIZE * first)
         (PAGE_SIZE * (first + number_pages (C.count copies.now))))) disk.old disk.new }
-    ensures refused { IsOkUnless result Refusal.Disk }
-    ensures count { Counts result (D.failures disk.old) (D.failures disk.new) }
+    ensures calls { CallsDisk D.Disk result disk.old disk.new }
 {
     for page in 0..pages_of_numbers(copies.count()) {
         write_number_page(disk, first, copies, page)?;
@@ -89,8 +84,7 @@ fn write_number_page<D: Disk, C: Copies>(
         (C.count copies.now) (C.number copies.now) (D.seen disk.new)) }
     ensures reaches { Reaches D.Disk (KeepsWhere (IsOutside (PAGE_SIZE * (first + page))
         (PAGE_SIZE * (first + page) + PAGE_SIZE))) disk.old disk.new }
-    ensures refused { IsOkUnless result Refusal.Disk }
-    ensures count { Counts result (D.failures disk.old) (D.failures disk.new) }
+    ensures calls { CallsDisk D.Disk result disk.old disk.new }
 {
     let mut numbers = Page::new();
     put_numbers(&mut numbers, copies, page * NUMBERS_OF_A_PAGE);
@@ -120,8 +114,7 @@ fn write_copies<D: Disk, C: Copies>(disk: &mut D, start: u64, copies: &C) -> Res
         → OnOk result (HasCopies start (C.count copies.now) (C.byte copies.now) (D.seen disk.new)) }
     ensures reaches { Reaches D.Disk (KeepsWhere (IsOutside (PAGE_SIZE * start)
         (PAGE_SIZE * (start + C.count copies.now)))) disk.old disk.new }
-    ensures refused { IsOkUnless result Refusal.Disk }
-    ensures count { Counts result (D.failures disk.old) (D.failures disk.new) }
+    ensures calls { CallsDisk D.Disk result disk.old disk.new }
 {
     for place in 0..copies.count() {
         write_page(disk, start + u64::from(place), copies.page(place))?;
@@ -133,8 +126,7 @@ fn write_copies<D: Disk, C: Copies>(disk: &mut D, start: u64, copies: &C) -> Res
 fn write_fields<D: Disk>(disk: &mut D, first: u32, count: u32) -> Result<(), Refusal>
     ensures written { IsTrue (D.is_honest disk.old) → OnOk result (HasFields first count (D.seen disk.new)) }
     ensures reaches { Reaches D.Disk (KeepsWhere (IsOutside FIELDS FIELDS_END)) disk.old disk.new }
-    ensures refused { IsOkUnless result Refusal.Disk }
-    ensures count { Counts result (D.failures disk.old) (D.failures disk.new) }
+    ensures calls { CallsDisk D.Disk result disk.old disk.new }
 {
     let mut fields = [0; 8];
     put_four(&mut fields, 0, first);

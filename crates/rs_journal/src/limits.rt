@@ -1,7 +1,22 @@
-//! Where the gate and the journal's fields are in page 0, and how many numbers a page of the journal has.
+//! Where the gate, the journal's fields and what a look reads are in page 0, and how many numbers a page of the journal has.
 
 ghost use Rattle.std.specs.Prelude.{◌≡◌};
-ghost use Rattle.rs_journal.specs.declared.limits.TheConstants.{PAGE_COUNT, GATE, GATE_END, OPEN, CLOSED, FIELDS, FIELDS_END, NUMBERS_OF_A_PAGE};
+ghost use Rattle.rs_journal.specs.declared.limits.TheConstants.{FORMAT, FORMAT_BYTE, FLAG, FIRST_FORMAT, LAST_FORMAT, PAGE_COUNT, GATE, GATE_END, OPEN, CLOSED, FIELDS, FIELDS_END, NUMBERS_OF_A_PAGE};
+
+/// The offset of the format in page 0.
+pub const FORMAT: u64 = 24;
+
+/// The offset of the last byte of the format, which is the format where it is below 256.
+pub const FORMAT_BYTE: u64 = 27;
+
+/// The offset of the open flag in page 0. It is 0 in a file of version 1 that was closed.
+pub const FLAG: u64 = 28;
+
+/// The format of version 1.
+pub const FIRST_FORMAT: u8 = 1;
+
+/// The format of version 2.
+pub const LAST_FORMAT: u8 = 2;
 
 /// The offset of the count of pages in page 0.
 pub const PAGE_COUNT: u64 = 32;
@@ -29,6 +44,11 @@ pub const NUMBERS_OF_A_PAGE: u32 = 1024;
 
 /// The limits are these numbers.
 pub fn limits_are_those()
+    ensures format { FORMAT ≡ 24 }
+    ensures format_byte { FORMAT_BYTE ≡ 27 }
+    ensures flag { FLAG ≡ 28 }
+    ensures first_format { FIRST_FORMAT ≡ 1 }
+    ensures last_format { LAST_FORMAT ≡ 2 }
     ensures page_count { PAGE_COUNT ≡ 32 }
     ensures gate { GATE ≡ 64 }
     ensures opened { OPEN ≡ 1 }

@@ -3,16 +3,16 @@
 //! It begins with a sync, after which a crash leaves what a read gives. It may be ended by a crash or a fault itself, and
 //! the next one gives the same pages.
 
-ghost use Rattle.std.specs.Prelude.{◌≡◌, ◌≢◌, ◌+◌, ◌*◌, ◌^◌, ◌<◌, ◌≤◌, max, IsTrue, OnOk, IfOk, IsOkUnless, ◌↔◌};
-ghost use Rattle.rs_disk.specs.Counts.{Counts};
+ghost use Rattle.std.specs.Prelude.{◌≡◌, ◌≢◌, ◌+◌, ◌*◌, ◌^◌, ◌<◌, ◌≤◌, max, IsTrue, OnOk, IfOk, ◌↔◌};
 ghost use Rattle.rs_disk.specs.Crash.{Same};
 ghost use Rattle.rs_page.specs.declared.page.TheConstants.{PAGE_SIZE};
+ghost use Rattle.rs_journal.specs.Calls.{CallsDisk};
 ghost use Rattle.rs_journal.specs.Journal.{Journal, Ascends, AreBelow, Carries, Tells, IsTold, Recovers};
-ghost use Rattle.rs_journal.specs.Pages.{Pages, word_at};
-ghost use Rattle.rs_journal.specs.Reaches.{KeepsWhere, Reaches};
-ghost use Rattle.rs_journal.specs.Recovery.{IsInside, IsThere, Brought, GaveAll, HasNoMore, IsDamaged, number_in, journal_in, SaysCount, CountsFaults, OnDamaged, Recovered};
-ghost use Rattle.rs_journal.specs.Stages.{IsQuiet, IsHome, IsClosing, IsNotInPage, IsLeftAlone, HasHomeBytes, HasHome, Stands, Goes};
+ghost use Rattle.rs_journal.specs.FilePages.{FilePages, word_at};
+ghost use Rattle.rs_journal.specs.Recovery.{IsInside, IsThere, Brought, GaveAll, HasNoMore, IsDamaged, number_in, journal_in, SaysCount, CallsOrDamaged, OnDamaged, Recovered};
+ghost use Rattle.rs_journal.specs.Stages.{IsQuiet, IsHome, IsClosing, IsNotInPage, IsLeftAlone, HasHomeBytes, HasHome, EveryImage, Goes};
 ghost use Rattle.rs_journal.specs.declared.limits.TheConstants.{GATE, OPEN};
+ghost use Rattle.rs_disk.specs.Reaches.{KeepsWhere, Reaches};
 
 use crate::gate::{close_gate, cut};
 use crate::home::write_home_page;
@@ -29,7 +29,7 @@ use rs_refusal::Refusal;
 /// Where the gate is open, the journal's copies are brought home and the gate is closed; a journal that isn't well formed
 /// is refused (94). Where it is closed, nothing is written.
 pub fn recover<D: Disk>(disk: &mut D) -> Result<(), Refusal>
-    ensures recovers { (pages : Pages) → SaysCount pages → IsTrue (D.is_honest disk.old)
+    ensures recovers { (pages : FilePages) → SaysCount pages → IsTrue (D.is_honest disk.old)
         → Recovers (D.seen disk.old) pages → Recovered D.Disk pages result disk.old disk.new }
     ensures gave { IsTrue (D.is_honest disk.old) → OnOk result (GaveAll (D.seen disk.old) (D.seen disk.new)) }
     ensures told { IsTrue (D.is_honest disk.old)
@@ -41,9 +41,7 @@ pub fn recover<D: Disk>(disk: &mut D) -> Result<(), Refusal>
     ensures closed { IsTrue (D.is_honest disk.old) → (D.seen disk.old).byte GATE ≢ OPEN
         → Reaches D.Disk Same disk.old disk.new }
     ensures untouched { OnDamaged result (Reaches D.Disk Same disk.old disk.new) }
-    ensures honesty { D.is_honest disk.new ≡ D.is_honest disk.old }
-    ensures keeping { D.keeps_crashes disk.new ≡ D.keeps_crashes disk.old }
-    ensures count { CountsFaults result (D.failures disk.old) (D.failures disk.new) }
+    ensures calls { CallsOrDamaged D.Disk result disk.old disk.new }
 {
     sync(disk)?;
     recover_synced(disk)
@@ -51,8 +49,8 @@ pub fn recover<D: Disk>(disk: &mut D) -> Result<(), Refusal>
 
 /// The rest of recovery, once a crash leaves just what a read gives.
 fn recover_synced<D: Disk>(disk: &mut D) -> Result<(), Refusal>
-    ensures goes { (pages : Pages) → SaysCount pages → Recovers (D.seen disk.old) pages
-        → Stands D.Disk (λ image. image ≡ D.seen disk.old) disk.old
+    ensures goes { (pages : FilePages) → SaysCount pages → Recovers (D.seen disk.old) pages
+        → EveryImage D.Disk (λ image. image ≡ D.seen disk.old) disk.old
         → Goes D.Disk (λ image. Recovers image pages) (IsQuiet pages) result disk.old disk.new }
     ensures gave { IsTrue (D.is_honest disk.old) → OnOk result (GaveAll (D.seen disk.old) (D.seen disk.new)) }
     ensures told { IsTrue (D.is_honest disk.old)
@@ -64,9 +62,7 @@ fn recover_synced<D: Disk>(disk: &mut D) -> Result<(), Refusal>
     ensures closed { IsTrue (D.is_honest disk.old) → (D.seen disk.old).byte GATE ≢ OPEN
         → Reaches D.Disk Same disk.old disk.new }
     ensures untouched { OnDamaged result (Reaches D.Disk Same disk.old disk.new) }
-    ensures honesty { D.is_honest disk.new ≡ D.is_honest disk.old }
-    ensures keeping { D.keeps_crashes disk.new ≡ D.keeps_crashes disk.old }
-    ensures count { CountsFaults result (D.failures disk.old) (D.failures disk.new) }
+    ensures calls { CallsOrDamaged D.Disk result disk.old disk.new }
 {
     if read_gate(disk)? != OPEN {
         return Ok(());
@@ -77,19 +73,16 @@ fn recover_synced<D: Disk>(disk: &mut D) -> Result<(), Refusal>
 
 /// Repeats a checkpoint from the home pages on, by the journal on the disk.
 fn repeat<D: Disk>(disk: &mut D, first: u32, count: u32) -> Result<(), Refusal>
-    ensures goes { (journal : Journal) (pages : Pages) → Carries journal pages → SaysCount pages
+    ensures goes { (journal : Journal) (pages : FilePages) → Carries journal pages → SaysCount pages
         → journal.first ≡ first → journal.count ≡ count
-        → Stands D.Disk (IsHome journal pages) disk.old
+        → EveryImage D.Disk (IsHome journal pages) disk.old
         → Goes D.Disk (λ image. Recovers image pages) (IsQuiet pages) result disk.old disk.new }
     ensures gave { (journal : Journal) → IsTrue (D.is_honest disk.old)
         → IsThere first count journal (D.seen disk.old) → (D.seen disk.old).byte GATE ≡ OPEN
         → OnOk result (GaveAll (D.seen disk.old) (D.seen disk.new)) }
     ensures shut { IsTrue (D.is_honest disk.old) → OnOk result ((D.seen disk.new).byte GATE ≢ OPEN) }
     ensures cut { IsTrue (D.is_honest disk.old) → OnOk result (HasNoMore (D.seen disk.new)) }
-    ensures honesty { D.is_honest disk.new ≡ D.is_honest disk.old }
-    ensures keeping { D.keeps_crashes disk.new ≡ D.keeps_crashes disk.old }
-    ensures refused { IsOkUnless result Refusal.Disk }
-    ensures count { Counts result (D.failures disk.old) (D.failures disk.new) }
+    ensures calls { CallsDisk D.Disk result disk.old disk.new }
 {
     bring_back(disk, first, count)?;
     close_gate(disk)?;
@@ -99,30 +92,27 @@ fn repeat<D: Disk>(disk: &mut D, first: u32, count: u32) -> Result<(), Refusal>
 
 /// Brings the copies of the journal on the disk home, and waits until they are on the medium.
 fn bring_back<D: Disk>(disk: &mut D, first: u32, count: u32) -> Result<(), Refusal>
-    ensures goes { (journal : Journal) (pages : Pages) → Carries journal pages
+    ensures goes { (journal : Journal) (pages : FilePages) → Carries journal pages
         → journal.first ≡ first → journal.count ≡ count
-        → Stands D.Disk (IsHome journal pages) disk.old
+        → EveryImage D.Disk (IsHome journal pages) disk.old
         → Goes D.Disk (IsHome journal pages) (IsClosing journal pages) result disk.old disk.new }
     ensures brought { (journal : Journal) → IsTrue (D.is_honest disk.old)
         → IsThere first count journal (D.seen disk.old)
         → OnOk result (Brought journal (D.seen disk.old) (D.seen disk.new)) }
-    ensures honesty { D.is_honest disk.new ≡ D.is_honest disk.old }
-    ensures keeping { D.keeps_crashes disk.new ≡ D.keeps_crashes disk.old }
-    ensures refused { IsOkUnless result Refusal.Disk }
-    ensures count { Counts result (D.failures disk.old) (D.failures disk.new) }
+    ensures calls { CallsDisk D.Disk result disk.old disk.new }
 {
     copy_home_pages(disk, first, count)?;
     sync(disk)
 }
 
 /// Reads where the journal begins and how many pages it copies, and looks whether it is well formed (94).
-fn read_journal<D: Disk>(disk: &mut D) -> Result<(u32, u32), Refusal>
+pub(crate) fn read_journal<D: Disk>(disk: &mut D) -> Result<(u32, u32), Refusal>
     ensures found { IsTrue (D.is_honest disk.old) → IfOk result
         (λ place. IsThere place.0 place.1 (journal_in (D.seen disk.old)) (D.seen disk.old)) }
     ensures damaged { IsTrue (D.is_honest disk.old) → OnDamaged result
         ((journal : Journal) → Tells (D.seen disk.old) journal → PAGE_SIZE ≤ (D.seen disk.old).size → ⊥) }
     ensures reaches { Reaches D.Disk Same disk.old disk.new }
-    ensures count { CountsFaults result (D.failures disk.old) (D.failures disk.new) }
+    ensures calls { CallsOrDamaged D.Disk result disk.old disk.new }
 {
     let first = read_word(disk, FIELDS)?;
     let count = read_word(disk, FIELDS + 4)?;
@@ -151,7 +141,7 @@ fn check_numbers<D: Disk>(disk: &mut D, first: u32, count: u32) -> Result<(), Re
     ensures damaged { IsTrue (D.is_honest disk.old) → OnDamaged result (Ascends count (number_in (D.seen disk.old) first)
         → AreBelow first count (number_in (D.seen disk.old) first) → ⊥) }
     ensures reaches { Reaches D.Disk Same disk.old disk.new }
-    ensures count { CountsFaults result (D.failures disk.old) (D.failures disk.new) }
+    ensures calls { CallsOrDamaged D.Disk result disk.old disk.new }
 {
     let start = PAGE_SIZE as u64 * u64::from(first);
     let mut least = 0;
@@ -175,10 +165,7 @@ fn copy_home_pages<D: Disk>(disk: &mut D, first: u32, count: u32) -> Result<(), 
         → OnOk result (HasHome journal.count journal.number journal.copy (D.seen disk.new)) }
     ensures no_longer { (journal : Journal) → IsTrue (D.is_honest disk.old)
         → IsThere first count journal (D.seen disk.old) → (D.seen disk.new).size ≤ (D.seen disk.old).size }
-    ensures honesty { D.is_honest disk.new ≡ D.is_honest disk.old }
-    ensures keeping { D.keeps_crashes disk.new ≡ D.keeps_crashes disk.old }
-    ensures refused { IsOkUnless result Refusal.Disk }
-    ensures count { Counts result (D.failures disk.old) (D.failures disk.new) }
+    ensures calls { CallsDisk D.Disk result disk.old disk.new }
 {
     let numbers = PAGE_SIZE as u64 * u64::from(first);
     let copies = u64::from(first) + u64::from(pages_of_numbers(count));
@@ -199,10 +186,7 @@ fn copy_home_page<D: Disk>(disk: &mut D, number_at: u64, copy: u64) -> Result<()
         (KeepsWhere (IsNotInPage (word_at (D.seen disk.old).byte number_at))) disk.old disk.new }
     ensures no_longer { IsTrue (D.is_honest disk.old) → (D.seen disk.new).size
         ≤ max (D.seen disk.old).size (PAGE_SIZE * word_at (D.seen disk.old).byte number_at + PAGE_SIZE) }
-    ensures honesty { D.is_honest disk.new ≡ D.is_honest disk.old }
-    ensures keeping { D.keeps_crashes disk.new ≡ D.keeps_crashes disk.old }
-    ensures refused { IsOkUnless result Refusal.Disk }
-    ensures count { Counts result (D.failures disk.old) (D.failures disk.new) }
+    ensures calls { CallsDisk D.Disk result disk.old disk.new }
 {
     let mut page = Page::new();
     let number = read_word(disk, number_at)?;

@@ -1,4 +1,4 @@
-use Rattle.std.proofs.Common.{◌≡◌, ℕ, ◌<◌, slice_index, List, length, arith, ap, ◌∙◌}
+use Rattle.std.proofs.Common.{slice_index, length, arith, ap, ◌∙◌}
 use Rattle.rs_disk.proofs.Copying.{copied-out}
 use Rattle.rs_disk.proofs.memory.read_out.Goals as goal
 use Rattle.rs_disk.proofs.memory.read_out.Goals.{then-held-buffer, else-held-buffer}

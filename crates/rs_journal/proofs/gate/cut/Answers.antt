@@ -7,14 +7,14 @@ use Rattle.rs_journal.proofs.Staging.{cut-on, cut-or-not}
 use Rattle.rs_journal.proofs.gate.cut.Goals as goal
 
 pub returns-clause-remains : goal.returns-clause-remains
-returns-clause-remains g c = λ kept some long stands.
+returns-clause-remains g c = λ kept some long every.
     remains-by g.D.Disk (CutOrNot _) _ _ _ (λ a b quiet step. cut-on c.args.pages kept a b some long quiet step)
     (record {
       honesty = c.cut.ensures.honesty;
       keeping = c.cut.ensures.keeping;
       reads = λ honest. cut-or-not _ _ _ _ (c.cut.ensures.cut honest);
       images = λ keeps. c.cut.ensures.crash keeps;
-    }) stands
+    }) every
 
 same-cut : {T T' E E' : Type 0} (result : Result T E) (answer : Result T' E') (bound : ℕ) (a b : Content)
     → is_ok answer ≡ is_ok result → CutsTo result bound a b → CutsTo answer bound a b

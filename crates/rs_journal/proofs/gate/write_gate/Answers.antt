@@ -2,8 +2,9 @@
 use Rattle.std.proofs.Common.{◌∙◌, IsTrue, ap, subst, sym, arith}
 use Rattle.rs_disk.specs.Content.{Content}
 use Rattle.rs_journal.specs.declared.limits.TheConstants.{GATE}
-use Rattle.rs_journal.proofs.Reaching.{reaches_synced, on_ok}
 use Rattle.rs_journal.proofs.Words.{gate-written}
+use Rattle.rs_disk.proofs.Reaching.{reaches_synced}
+use Rattle.rs_journal.proofs.Advancing.{on_ok}
 use Rattle.rs_journal.proofs.gate.write_gate.Goals as goal
 
 pub returns-clause-reaches : goal.returns-clause-reaches

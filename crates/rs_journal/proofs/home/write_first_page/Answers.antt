@@ -1,8 +1,8 @@
 -- Both parts of page 0 are written.
 use Rattle.std.proofs.Common.{IsTrue, subst, sym, rules}
-use Rattle.rs_journal.proofs.Reaching.{reaches_on, reaches_bytes}
 use Rattle.rs_journal.proofs.Words.{on_ok_map}
 use Rattle.rs_journal.proofs.Homes.{parts-long, first-written, first-leaves-front, first-leaves-back}
+use Rattle.rs_disk.proofs.Reaching.{reaches_on, reaches_bytes}
 use Rattle.rs_journal.proofs.home.write_first_page.Goals as goal
 
 pub returns-in_err-write_at-clause-reaches : goal.returns-in_err-write_at-clause-reaches

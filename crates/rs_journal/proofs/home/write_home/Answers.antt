@@ -2,7 +2,8 @@
 use Rattle.std.proofs.Common.{IsTrue, subst, sym}
 use Rattle.rs_disk.specs.Content.{Content}
 use Rattle.rs_journal.specs.Stages.{HasHome}
-use Rattle.rs_journal.proofs.Reaching.{reaches_synced, on_ok}
+use Rattle.rs_disk.proofs.Reaching.{reaches_synced}
+use Rattle.rs_journal.proofs.Advancing.{on_ok}
 use Rattle.rs_journal.proofs.home.write_home.Goals as goal
 
 pub returns-clause-reaches : goal.returns-clause-reaches

@@ -1,7 +1,7 @@
 -- One home page more.
 use Rattle.std.proofs.Common.{◌∙◌, IsTrue, subst, sym, rules}
-use Rattle.rs_journal.proofs.Reaching.{keeps_all, reaches_none, reaches_on}
 use Rattle.rs_journal.proofs.Homes.{no-home, home-more, one-leaves}
+use Rattle.rs_disk.proofs.Reaching.{keeps_all, reaches_none, reaches_on}
 use Rattle.rs_journal.proofs.home.write_home_pages.Goals as goal
 
 pub loop-place-init : goal.loop-place-init
@@ -18,7 +18,7 @@ returns-in_err-write_home_page-clause-reaches g c =
 
 pub loop-place-preserved : goal.loop-place-preserved
 loop-place-preserved g c = record {
-  failures = c.in_ok-write_home_page.ensures.count ∙ c.loop-place.invariant.failures;
+  failures = c.in_ok-write_home_page.ensures.calls.count ∙ c.loop-place.invariant.failures;
   reaches = reaches_on g.D.Disk _ _ _ _ _ _ (λ i is. is) (λ i is. one-leaves _ c.loop-place.place _ _ i (search rules) c.number.ensures is)
       c.loop-place.invariant.reaches c.write_home_page.ensures.reaches;
   written = λ honest.

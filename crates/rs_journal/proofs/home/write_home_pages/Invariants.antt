@@ -1,7 +1,7 @@
 -- The copies so far are at home, and no call has failed yet.
 use Rattle.std.proofs.Common.{◌≡◌, IsTrue}
 use Rattle.rs_journal.specs.Stages.{IsLeftAlone, HasHome}
-use Rattle.rs_journal.specs.Reaches.{KeepsWhere, Reaches}
+use Rattle.rs_disk.specs.Reaches.{KeepsWhere, Reaches}
 use Rattle.rs_journal.proofs.home.write_home_pages.Given as goal
 
 abbrev pub invariant-loop-place : goal.invariant-loop-place

@@ -1,7 +1,7 @@
 -- One copy more.
 use Rattle.std.proofs.Common.{◌∙◌, IsTrue, subst, sym, arith, rules}
-use Rattle.rs_journal.proofs.Reaching.{keeps_all, reaches_none, reaches_on}
 use Rattle.rs_journal.proofs.Words.{outside-part, no-copies, copies-more}
+use Rattle.rs_disk.proofs.Reaching.{keeps_all, reaches_none, reaches_on}
 use Rattle.rs_journal.proofs.journal.write_copies.Goals as goal
 
 pub loop-place-init : goal.loop-place-init
@@ -18,7 +18,7 @@ returns-in_err-write_page-clause-reaches g c =
 
 pub loop-place-preserved : goal.loop-place-preserved
 loop-place-preserved g c = record {
-  failures = c.in_ok-write_page.ensures.count ∙ c.loop-place.invariant.failures;
+  failures = c.in_ok-write_page.ensures.calls.count ∙ c.loop-place.invariant.failures;
   reaches = reaches_on g.D.Disk _ _ _ _ _ _ (λ i is. is) (λ i is. outside-part _ _ _ _ i (omega arith) (omega arith) is)
       c.loop-place.invariant.reaches c.write_page.ensures.reaches;
   written = λ honest.

@@ -2,8 +2,9 @@
 use Rattle.std.proofs.Common.{inl, inr, IsTrue, subst, sym, arith, rules}
 use Rattle.rs_disk.specs.Content.{Content}
 use Rattle.rs_journal.specs.Journal.{HasJournal, journal_of}
-use Rattle.rs_journal.proofs.Reaching.{reaches_on, reaches_synced, reaches_bytes, on_ok}
 use Rattle.rs_journal.proofs.Words.{before-range, journal-written, numbers-kept, copies-kept}
+use Rattle.rs_disk.proofs.Reaching.{reaches_on, reaches_synced, reaches_bytes}
+use Rattle.rs_journal.proofs.Advancing.{on_ok}
 use Rattle.rs_journal.proofs.journal.write_journal.Goals as goal
 
 pub returns-in_err-write_numbers-clause-reaches : goal.returns-in_err-write_numbers-clause-reaches

@@ -2,8 +2,7 @@
 use Rattle.std.proofs.Common.{◌≡◌, ◌+◌, ◌*◌, IsTrue}
 use Rattle.rs_page.specs.declared.page.TheConstants.{PAGE_SIZE}
 use Rattle.rs_journal.specs.Journal.{HasNumbers, number_pages}
-use Rattle.rs_journal.specs.Pages.{IsOutside}
-use Rattle.rs_journal.specs.Reaches.{KeepsWhere, Reaches}
+use Rattle.rs_disk.specs.Reaches.{IsOutside, KeepsWhere, Reaches}
 use Rattle.rs_journal.proofs.journal.write_numbers.Given as goal
 
 abbrev pub invariant-loop-page : goal.invariant-loop-page

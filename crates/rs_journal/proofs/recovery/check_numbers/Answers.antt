@@ -1,7 +1,7 @@
 -- One number more.
 use Rattle.std.proofs.Common.{◌∙◌, IsTrue, refl, subst, sym, rules}
-use Rattle.rs_journal.proofs.Reaching.{reaches_none, same-then}
 use Rattle.rs_journal.proofs.Recovering.{numbers-none, numbers-next, number-read}
+use Rattle.rs_disk.proofs.Reaching.{reaches_none, same-then}
 use Rattle.rs_journal.proofs.recovery.check_numbers.Goals as goal
 
 pub loop-place-init : goal.loop-place-init
@@ -13,7 +13,7 @@ loop-place-init g c = record {
 
 pub loop-place-preserved : goal.loop-place-preserved
 loop-place-preserved g c = record {
-  failures = c.in_ok-read_word.ensures.count ∙ c.loop-place.invariant.failures;
+  failures = c.in_ok-read_word.ensures.calls.count ∙ c.loop-place.invariant.failures;
   reaches = same-then g.D.Disk _ _ _ c.loop-place.invariant.reaches c.read_word.ensures.reaches;
   so_far = λ honest.
       let still : IsTrue (g.D.Disk.is_honest c.loop-place.disk) = subst IsTrue (sym c.loop-place.invariant.reaches.honesty) honest in

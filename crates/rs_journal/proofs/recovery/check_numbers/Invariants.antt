@@ -1,8 +1,8 @@
 -- The numbers so far ascend, and no call has failed yet.
 use Rattle.std.proofs.Common.{◌≡◌, IsTrue}
 use Rattle.rs_disk.specs.Crash.{Same}
-use Rattle.rs_journal.specs.Reaches.{Reaches}
 use Rattle.rs_journal.specs.Recovery.{NumbersSoFar, number_in}
+use Rattle.rs_disk.specs.Reaches.{Reaches}
 use Rattle.rs_journal.proofs.recovery.check_numbers.Given as goal
 
 abbrev pub invariant-loop-place : goal.invariant-loop-place

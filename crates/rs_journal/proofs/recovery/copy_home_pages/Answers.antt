@@ -1,9 +1,9 @@
 -- One page more.
 use Rattle.std.proofs.Common.{◌<◌, ◌∙◌, IsTrue, subst, sym, arith, rules}
-use Rattle.rs_journal.proofs.Reaching.{keeps_all, reaches_none, reaches_on}
 use Rattle.rs_journal.proofs.Homes.{no-home, home-more, one-leaves}
 use Rattle.rs_journal.proofs.Staging.{left-journal}
 use Rattle.rs_journal.proofs.Recovering.{number-there, copy-there, home-inside, size-more}
+use Rattle.rs_disk.proofs.Reaching.{keeps_all, reaches_none, reaches_on}
 use Rattle.rs_journal.proofs.recovery.copy_home_pages.Goals as goal
 
 pub loop-place-init : goal.loop-place-init
@@ -38,9 +38,9 @@ returns-in_err-copy_home_page-clause-no_longer g c = λ journal honest there.
 
 pub loop-place-preserved : goal.loop-place-preserved
 loop-place-preserved g c = record {
-  failures = c.in_ok-copy_home_page.ensures.count ∙ c.loop-place.invariant.failures;
-  honesty = c.copy_home_page.ensures.honesty ∙ c.loop-place.invariant.honesty;
-  keeping = c.copy_home_page.ensures.keeping ∙ c.loop-place.invariant.keeping;
+  failures = c.in_ok-copy_home_page.ensures.calls.count ∙ c.loop-place.invariant.failures;
+  honesty = c.copy_home_page.ensures.calls.honesty ∙ c.loop-place.invariant.honesty;
+  keeping = c.copy_home_page.ensures.calls.keeping ∙ c.loop-place.invariant.keeping;
   reaches = λ journal honest there.
       let so_far = c.loop-place.invariant.reaches journal honest there in
       let still : IsTrue (g.D.Disk.is_honest c.loop-place.disk) = subst IsTrue (sym c.loop-place.invariant.honesty) honest in

@@ -2,8 +2,8 @@
 use Rattle.std.proofs.Common.{◌≡◌, ◌≤◌, IsTrue}
 use Rattle.rs_journal.specs.Journal.{Journal}
 use Rattle.rs_journal.specs.Stages.{IsLeftAlone, HasHome}
-use Rattle.rs_journal.specs.Reaches.{KeepsWhere, Reaches}
 use Rattle.rs_journal.specs.Recovery.{IsThere}
+use Rattle.rs_disk.specs.Reaches.{KeepsWhere, Reaches}
 use Rattle.rs_journal.proofs.recovery.copy_home_pages.Given as goal
 
 abbrev pub invariant-loop-place : goal.invariant-loop-place

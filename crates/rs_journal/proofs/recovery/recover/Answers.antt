@@ -2,8 +2,8 @@
 use Rattle.std.proofs.Common.{IsTrue, ◌∙◌, ◌≢◌, ap, refl, subst, sym, rules}
 use Rattle.rs_disk.specs.Content.{Content}
 use Rattle.rs_journal.specs.Journal.{Recovers}
-use Rattle.rs_journal.proofs.Reaching.{same-then}
 use Rattle.rs_journal.proofs.Recovering.{on_damaged, recovered-unsynced, recovered-synced, told-same, damaged-same, gave-same}
+use Rattle.rs_disk.proofs.Reaching.{same-then}
 use Rattle.rs_journal.proofs.recovery.recover.Goals as goal
 
 pub returns-in_err-sync-clause-recovers : goal.returns-in_err-sync-clause-recovers
@@ -15,7 +15,7 @@ returns-clause-recovers g c = λ pages says honest gives.
     let same = c.sync.ensures.reaches.reads honest in
     let still : IsTrue (g.D.Disk.is_honest c.sync.new.disk) = subst IsTrue (sym c.sync.ensures.reaches.honesty) honest in
     let gives' = subst (λ (content : Content). Recovers content pages) (sym same) gives in
-    recovered-synced g.D.Disk pages c.recover_synced.result c.args.disk.now c.sync.new.disk c.recover_synced.new.disk c.sync.ensures.reaches c.recover_synced.ensures.keeping
+    recovered-synced g.D.Disk pages c.recover_synced.result c.args.disk.now c.sync.new.disk c.recover_synced.new.disk c.sync.ensures.reaches c.recover_synced.ensures.calls.keeping
     (λ keeps. c.in_ok-sync.ensures.durable keeps)
     (c.recover_synced.ensures.goes pages says gives' (record {
       honest = still;

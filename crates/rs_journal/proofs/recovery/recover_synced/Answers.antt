@@ -2,28 +2,28 @@
 use Rattle.std.proofs.Common.{◌≢◌, ◌≡◌, ◌∙◌, ℕ, IsTrue, ap, subst, sym, rules}
 use Rattle.rs_disk.specs.Content.{Content}
 use Rattle.rs_journal.specs.Journal.{Recovers}
-use Rattle.rs_journal.specs.Pages.{word_at}
+use Rattle.rs_journal.specs.FilePages.{word_at}
 use Rattle.rs_journal.specs.Stages.{IsHome}
-use Rattle.rs_journal.proofs.Advancing.{stands-less, meanwhile-less, meanwhile-then, remains-same}
-use Rattle.rs_journal.proofs.Reaching.{same-then}
+use Rattle.rs_journal.proofs.Advancing.{every-less, meanwhile-less, meanwhile-then, remains-same}
 use Rattle.rs_journal.proofs.Recovering.{carries-told, home-told, gave-same, gave-closed, damaged-by, damaged-passed}
 use Rattle.rs_journal.specs.Recovery.{IsThere, journal_in}
+use Rattle.rs_disk.proofs.Reaching.{same-then}
 use Rattle.rs_journal.proofs.recovery.recover_synced.Goals as goal
 
 pub returns-clause-goes : goal.returns-clause-goes
-returns-clause-goes g c = λ pages says gives stands.
+returns-clause-goes g c = λ pages says gives every.
     let seen = g.D.Disk.seen c.args.disk.now in
-    let still : IsTrue (g.D.Disk.is_honest c.read_gate.new.disk) = subst IsTrue (sym c.read_gate.ensures.reaches.honesty) stands.honest in
-    let same = c.read_gate.ensures.reaches.reads stands.honest in
+    let still : IsTrue (g.D.Disk.is_honest c.read_gate.new.disk) = subst IsTrue (sym c.read_gate.ensures.reaches.honesty) every.honest in
+    let same = c.read_gate.ensures.reaches.reads every.honest in
     let found = c.in_ok-first.ensures.found still in
-    let opened : seen.byte 64 ≡ 1 = sym (c.in_ok-read_gate.ensures.gate stands.honest) ∙ search rules in
+    let opened : seen.byte 64 ≡ 1 = sym (c.in_ok-read_gate.ensures.gate every.honest) ∙ search rules in
     let by = gives.opened opened in
     let carries = carries-told seen pages says by in
     let home = home-told seen pages opened by in
     let first_is : by.journal.first ≡ c.in_ok-first.first = sym by.tells.there.fields.first_page ∙ sym (ap (λ (content : Content). word_at content.byte 68) same) ∙ found.first_page in
     let count_is : by.journal.count ≡ c.in_ok-first.count = sym by.tells.there.fields.copies ∙ sym (ap (λ (content : Content). word_at content.byte 72) same) ∙ found.copies in
-    let remains = remains-same g.D.Disk _ _ _ (same-then g.D.Disk _ _ _ c.read_gate.ensures.reaches c.read_journal.ensures.reaches) stands in
-    let at_home = stands-less g.D.Disk _ (IsHome by.journal pages) _ (λ image is. subst (IsHome by.journal pages) (sym is) home) remains.stands in
+    let remains = remains-same g.D.Disk _ _ _ (same-then g.D.Disk _ _ _ c.read_gate.ensures.reaches c.read_journal.ensures.reaches) every in
+    let at_home = every-less g.D.Disk _ (IsHome by.journal pages) _ (λ image is. subst (IsHome by.journal pages) (sym is) home) remains.every in
     let goes = c.repeat.ensures.goes by.journal pages carries says first_is count_is at_home in
     record {
       done = goes.done;

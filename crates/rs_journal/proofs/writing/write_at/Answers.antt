@@ -1,5 +1,5 @@
 -- One write.
-use Rattle.rs_journal.proofs.Reaching.{torn_keeps, others_keep, passes_less}
+use Rattle.rs_disk.proofs.Reaching.{torn_keeps, others_keep, passes_less}
 use Rattle.rs_journal.proofs.writing.write_at.Goals as goal
 
 pub returns-clause-reaches : goal.returns-clause-reaches

@@ -1,8 +1,12 @@
--- What several calls of a disk do together.
+-- What several calls of a disk do together, to what a read gives and to what a crash may leave.
 use Rattle.std.specs.Prelude.{◌≡◌, ◌⊎◌, ℕ, ◌<◌, ◌≤◌, IsTrue}
 use Rattle.rs_disk.specs.Content.{Content}
 use Rattle.rs_disk.specs.Crash.{Passes}
 use Rattle.rs_disk.specs.declared.disk.Disk as disk
+
+-- the offset lies before this one or from that one on
+abbrev pub IsOutside : ℕ → ℕ → ℕ → Type 0
+IsOutside from to i = (i < from) ⊎ (to ≤ i)
 
 -- the bytes at these offsets stay as far as there were any, and nothing is cut off
 pub record KeepsWhere (stays : ℕ → Type 0) (old new : Content) : Type 0 where

@@ -1,10 +1,9 @@
--- Steps one after another.
-use Rattle.std.proofs.Common.{inl, inr, ℕ, ◌+◌, ◌≤◌, IsTrue, arith, refl, sym, ◌∙◌, subst, Result, Ok, Err, OnOk}
+-- Calls of a disk one after another, by what each does to what a read gives and to what a crash may leave.
+use Rattle.std.proofs.Common.{inl, inr, ℕ, ◌+◌, ◌≤◌, IsTrue, arith, refl, sym, ◌∙◌, subst}
 use Rattle.rs_disk.specs.Content.{Content, KeepsOthers}
 use Rattle.rs_disk.specs.Crash.{Same, Torn, Passes}
 use Rattle.rs_disk.specs.declared.disk.Disk as disk
-use Rattle.rs_journal.specs.Pages.{IsOutside}
-use Rattle.rs_journal.specs.Reaches.{KeepsWhere, Reaches}
+use Rattle.rs_disk.specs.Reaches.{IsOutside, KeepsWhere, Reaches, Through}
 
 pub keeps_all : (stays : ℕ → Type 0) (content : Content) → KeepsWhere stays content content
 keeps_all stays content = record { bytes = λ i _ _. refl; no_shorter = omega arith }
@@ -121,10 +120,6 @@ module _ {D : Type 0} (d : disk.Ghosts D) where
   reaches_bytes one stays old new fewer reaches =
       reaches_less (KeepsWhere one) (KeepsWhere stays) old new (λ a b keeps. keeps_less one stays a b fewer keeps) reaches
 
-pub on_ok : {T E : Type 0} (result : Result T E) (P : Type 0) → P → OnOk result P
-on_ok (Ok t) P p = p
-on_ok (Err e) P p = tt
-
 module _ {D : Type 0} (d : disk.Ghosts D) where
   -- reads one after another
   pub same-then : (old mid new : D) → Reaches d Same old mid → Reaches d Same mid new → Reaches d Same old new
@@ -142,3 +137,19 @@ module _ {D : Type 0} (d : disk.Ghosts D) where
   same-keeps stays old new reaches =
       reaches_less d Same (KeepsWhere stays) old new
       (λ a b same. subst (λ content. KeepsWhere stays a content) (sym same) (keeps_all stays a)) reaches
+
+-- What a crash might have left since an earlier moment.
+
+module _ {D : Type 0} (d : disk.Ghosts D) where
+  pub through-then : (P : Content → Type 0) (old mid new : D) → Through d P old mid → Through d P mid new → Through d P old new
+  through-then P old mid new first second = record {
+    each = λ start image left. elim (second.each start image left) [ inl before ↦ first.each start image before | inr is ↦ inr is ];
+  }
+
+  pub through-less : (P Q : Content → Type 0) (old new : D) → ((image : Content) → P image → Q image) → Through d P old new → Through d Q old new
+  through-less P Q old new less through = record {
+    each = λ start image left. elim (through.each start image left) [ inl before ↦ inl before | inr is ↦ inr (less image is) ];
+  }
+
+  pub through-none : (P : Content → Type 0) (old : D) → Through d P old old
+  through-none P old = record { each = λ start image left. inl left }
