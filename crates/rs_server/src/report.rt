@@ -42,6 +42,7 @@ pub enum Failure {
 pub(crate) fn failure_to_open(error: OpenError) -> Failure {
     match error {
         OpenError::Exists => Failure::FileExists,
+        OpenError::FolderNotSynced => Failure::Refused(Refusal::Disk),
         _ => Failure::CannotOpen,
     }
 }

@@ -132,9 +132,9 @@ fn do_it<
     }
 }
 
-/// Makes a file in which nothing is defined.
+/// Makes a file in which nothing is defined, and syncs its folder first, so that the file is there after a power cut (91).
 fn create_file<P: AllocGlobal + Files<File = File>>(rt: &P, file: &str) -> Option<Failure> {
-    match FileDisk::create(rt, file) {
+    match FileDisk::create_synced(rt, file) {
         Ok(disk) => failure_in(create_on(rt.alloc(), disk)),
         Err(error) => Some(failure_to_open(error)),
     }
