@@ -1,182 +1,41 @@
 #!/usr/bin/env python3
-"""Tries the client in Python, the diagrams that are drawn with it, and the scripts of README and COOKBOOK that use them.
+"""Tries the package in Python, its prompt, the diagrams that are drawn with it, and the scripts of the documents that use them.
 
-    clients.py [--program PATH] [--jobs N] [TEST ..]
+    clients.py [--program PATH] [--jobs N] [--speed] [TEST ..]
 
-The client sends lines to runs of the program, over pipes and over TCP; and to servers of this file's own, which close,
-cut a reply, or send what is no reply. What is wanted was written by hand, or is of the cookbook. PATH is
-`crates/roadseg/out/roadseg` by default; a TEST is the name of a function of the lists of tests. It prints what is not as
-wanted, and at last `N passed, M failed`.
+The client sends lines to runs of the program, over pipes and over TCP; and to servers of the tests' own, which close, cut
+a reply, stall, or send what is no reply. What is wanted was written by hand, is of the cookbook, or is reckoned by single
+thousandths. PATH is `crates/roadseg/out/roadseg` by default; a TEST is the name of a function of the lists of tests. It
+prints what is not as wanted, and at last `N passed, M failed`. With `--speed` it runs the tests that measure time instead:
+they tell something on an idle machine alone, so the gate leaves them out.
 """
 
 import os
 import signal
-import socket
 import subprocess
 import sys
-import threading
 import time
-from contextlib import contextmanager, suppress
+from contextlib import contextmanager
 from decimal import Decimal as D
 
+from client_copies import COPY_TESTS
+from client_dbapi import DBAPI_TESTS
+from client_frames import FRAME_TESTS
+from client_loads import LOAD_TESTS
+from client_package import PACKAGE_TESTS
 from client_parts import CLIENTS, DEFINED, expect_error, expect_refused, measures, roadseg, running
+from client_peers import PEER_TESTS
 from client_rows import ROW_TESTS, is_a_cursor_open
+from client_schema import SCHEMA_TESTS
+from client_speed import SPEED_TESTS, WORK_TESTS
+from client_values import VALUE_TESTS
 from diagrams import DIAGRAM_TESTS
 from document_scripts import DOCUMENT_TESTS
 from files_and_peers import LONGEST, NOT_OPENED, Program, put, serving
-from harness import Wrong, expect, run_tests
+from harness import expect, run_tests
 from programs import PROGRAM
-
-# Servers that fail.
-
-
-class Played:
-    """A server of one connection that answers each line with the next of some replies, whatever it says, and closes."""
-
-    def __init__(self, replies, is_reset=False):
-        self.replies, self.is_reset, self.lines = replies, is_reset, []
-        self.listener = socket.create_server(("127.0.0.1", 0))
-        self.port = self.listener.getsockname()[1]
-        self.thread = threading.Thread(target=self.play, daemon=True)
-        self.thread.start()
-
-    def play(self):
-        self.listener.settimeout(LONGEST)
-        with suppress(OSError), self.listener, self.listener.accept()[0] as peer, peer.makefile("rb") as lines:
-            for reply in self.replies:
-                self.lines.append(lines.readline())
-                peer.sendall(reply)
-            if self.is_reset:
-                peer.setsockopt(socket.SOL_SOCKET, socket.SO_LINGER, b"\x01\x00\x00\x00\x00\x00\x00\x00")
-            else:
-                peer.shutdown(socket.SHUT_WR)
-                self.lines += lines.readlines()
-
-    def received(self):
-        """All lines that were sent, once the client has closed."""
-        self.thread.join(LONGEST)
-        return self.lines
-
-
-@contextmanager
-def played(*replies, is_reset=False, timeout=LONGEST):
-    server = Played(replies, is_reset)
-    with roadseg.connect(port=server.port, timeout=timeout) as road:
-        yield server, road
-
-
-def expect_failed(road, call, *arguments):
-    """The words of a call that fails, and after which no line is sent any more."""
-    failed = expect_error(roadseg.Failed, call, *arguments)
-    expect("what is said of a connection", (failed.status, failed.said), (None, ""))
-    expect_error(roadseg.Failed, road.execute, "SAVE")
-    return str(failed)
-
-
-def a_server_that_closes_fails_the_line(_program):
-    none, cut = "no reply: the other side has closed", "the reply was cut off"
-    row = b"0 ROW A 0.000 1.000 'AC'\n"
-    for reply, words in ((b"", none), (b"0", cut), (b"0 OK 0", cut), (row, none), (row + b"0 OK 1", cut)):
-        with played(reply) as (server, road):
-            expect("its words", expect_failed(road, road.select, "pave"), words)
-        expect("lines", server.received(), [b"0 SELECT pave\n"])
-    with played(b"0 OK 0\n", b"", is_reset=True) as (server, road):
-        expect("before the reset", road.execute("SAVE"), 0)
-        expect_failed(road, road.execute, "SAVE")
-
-
-def what_is_no_reply_fails_the_line(_program):
-    replies = [b"hello\n", b"\n", b"0\n", b"0 OK\n", b"0 OK x\n", b"0 OK -1\n", b"0 ok 0\n", b"0 ERR 21\n"]
-    replies += [b"0 ERR x words\n", b"\xff\n", b"0 ROW \xff\n0 OK 1\n", "0 OK \u0663\n".encode(), b"0 OK 0\r\n", b" 0 OK 0\n", b"000 OK 0\n"]
-    replies += [b"1 OK 0\n", b"1 ERR 21 no such name\n", b"0 ROW A 0.000 1\n1 OK 1\n", b"x" * 70_000]
-    for reply in replies:
-        with played(reply) as (_server, road):
-            expect_failed(road, road.execute, "SELECT pave")
-    for reply in (b"0 OK 1\n", b"0 ROW A 0.000 1\n0 OK 0\n", b"0 ROW A 0.000 1\n0 OK 2\n"):
-        for name in ("select", "total"):
-            with played(reply) as (_server, road):
-                expect_failed(road, getattr(road, name), "pave")
-
-
-def what_is_no_row_is_not_given(_program):
-    rows = ["A", "A x 1", "A 1 1", "A 1.00 1", "A 1.000  1", "A 1.000 1 ", "A 1.000 'x", "A 1.000 x'", "A 1.000 'x'y"]
-    rows += ["A 1.000 1.5", "A 1.000 1.000 1.000", "A 1.000 null", "A 1.000 \u0663", "A 1.000 --1", "A @K 1", " A 1.000 1"]
-    for row in rows:
-        with played(b"0 ROW %s\n0 OK 1\n" % row.encode(), b"0 OK 0\n") as (_server, road):
-            expect_error(roadseg.Failed, next, road.select("pave"))
-    for row in ("", "'AC'", "1.000 1.000", "'AC' x", "'AC' 1.00", "1.000 'AC'", "'AC' NULL"):
-        with played(b"0 ROW %s\n0 OK 1\n" % row.encode()) as (_server, road):
-            expect_error(roadseg.Failed, lambda road=road: next(road.total("pave", by="surf")))
-
-
-def a_refused_fetch_takes_no_row(_program):
-    first, rest = b"0 ROW A 1.000 1\n0 ROW A 2.000 2\n0 OK 2\n", b"0 ROW A 3.000 3\n0 OK 1\n"
-    replies = [b"0 OK 0\n", first, b"0 ERR 90 out of memory\n", b"0 ERR 91 disk\n", rest, b"0 OK 0\n"]
-    with played(*replies) as (server, road):
-        rows = road.select("signs", batch=2)
-        expect("the first rows", [next(rows), next(rows)], [("A", D("1.000"), 1), ("A", D("2.000"), 2)])
-        for number, words in ((90, "out of memory"), (91, "disk")):
-            refused = expect_refused(number, words, next, rows)
-            expect("whether it is a want", refused.is_want, True)
-        expect("the other rows", list(rows), [("A", D("3.000"), 3)])
-    fetches = [b"0 FETCH client_1 2\n"] * 4
-    expect("lines", server.received(), [b"0 OPEN client_1 FOR signs\n", *fetches, b"0 CLOSE client_1\n"])
-
-
-def a_refusal_after_rows_gives_none_of_them(_program):
-    with played(b"0 ROW A 1.000 1\n0 ERR 90 out of memory\n", b"0 OK 0\n") as (_server, road):
-        expect_refused(90, "out of memory", road.select, "signs")
-        expect("the next line", road.execute("SAVE"), 0)
-
-
-def a_server_that_goes_while_rows_are_fetched_fails(_program):
-    with played(b"0 OK 0\n", b"0 ROW A 1.000 1\n0 OK 1\n", b"0 ROW A 2.0") as (server, road):
-        with road.select("signs", batch=1) as rows:
-            expect("the first row", next(rows), ("A", D("1.000"), 1))
-            expect_failed(road, next, rows)
-            expect_error(roadseg.Failed, next, rows)
-    fetches = [b"0 FETCH client_1 1\n"] * 2
-    expect("lines", server.received(), [b"0 OPEN client_1 FOR signs\n", *fetches])
-
-
-def a_reply_that_does_not_come_fails(_program):
-    wait = threading.Event()
-
-    def stall(listener):
-        with listener, listener.accept()[0]:
-            wait.wait(LONGEST)
-
-    listener = socket.create_server(("127.0.0.1", 0))
-    threading.Thread(target=stall, args=[listener], daemon=True).start()
-    with roadseg.connect(port=listener.getsockname()[1], timeout=0.2) as road:
-        expect("its words", expect_failed(road, road.execute, "SAVE"), "no reply: timed out")
-    wait.set()
-
-
-def an_address_where_nobody_listens_fails(_program):
-    with socket.socket() as closed:
-        closed.bind(("127.0.0.1", 0))
-        failed = expect_error(roadseg.Failed, roadseg.connect, port=closed.getsockname()[1])
-    expect("its words", str(failed).startswith("cannot connect to 127.0.0.1:"), True)
-
-
-def nothing_is_sent_after_a_reply_was_broken_off(_program):
-    """As by Ctrl-C: the rest of the reply would be taken for the next line's."""
-    with played(b"0 ROW A 1.000 1\n0 OK 1\n", b"0 OK 0\n") as (server, road):
-        read, calls = road._wire.line, []
-
-        def interrupted():
-            calls.append(read())
-            raise KeyboardInterrupt
-
-        road._wire.line = interrupted
-        with suppress(KeyboardInterrupt):
-            road.execute("SELECT signs")
-            raise Wrong("no interrupt")
-        expect("what was read", calls, [b"0 ROW A 1.000 1\n"])
-        expect_error(roadseg.Failed, road.execute, "SAVE")
-    expect("lines", [line for line in server.received() if line], [b"0 SELECT signs\n"])
-
+from prompts import PROMPT_TESTS
+from reckonings import COST_TESTS, RECKONING_TESTS
 
 # Runs of the program.
 
@@ -233,11 +92,11 @@ def what_the_program_says_of_its_file_is_told(program):
 
 
 def script(program, text):
-    """A program that is this shell script."""
+    """A program that is this shell script. Another process writes it: a file that this one has open for that is open in what
+    other tests start meanwhile, and can't be run as long as it is."""
     path = program.file("script")
-    with open(path, "w", encoding="utf-8") as file:
-        file.write("#!/bin/sh\n" + text)
-    os.chmod(path, 0o755)
+    words = ["sh", "-c", 'cat > "$0" && chmod 755 "$0"', path]
+    subprocess.run(words, input=b"#!/bin/sh\n" + text.encode(), check=True, timeout=LONGEST)
     return path
 
 
@@ -273,6 +132,32 @@ def a_program_that_is_gone_at_the_close_is_told(program):
     expect("what is told", (failed.status, failed.said), (1, "roadseg: read fault"))
     rows.close()
     road.close()
+
+
+@contextmanager
+def stalled(program, text):
+    """A client, with a short limit, of a script that never ends by itself."""
+    road = roadseg.run(None, script(program, text), timeout=0.2)
+    process = road._wire._process
+    try:
+        yield road
+    finally:
+        process.kill()
+        process.communicate()
+
+
+def a_program_that_stalls_is_told(program):
+    with stalled(program, "read line\nexec sleep 600\n") as road:
+        failed = expect_error(roadseg.Failed, road.execute, "SAVE")
+        expect("its words", str(failed), "the program has not ended within 0.2 seconds (no reply: timed out)")
+        expect_error(roadseg.Failed, road.execute, "SAVE")
+    with stalled(program, "exec sleep 600\n") as deaf:
+        rows = [("A", k, k + 1, "x" * 40) for k in range(5_000)]
+        expect_error(roadseg.Failed, deaf.load, "pave", rows, "LINE")
+    with stalled(program, "exec sleep 600\n") as road:
+        closed = expect_error(roadseg.Failed, road.close)
+        expect("at a close", str(closed), "the program has not ended within 0.2 seconds")
+    expect_error(roadseg.Failed, roadseg.create, program.file(), script(program, "exec sleep 600\n"), 0.2)
 
 
 def a_closed_client_sends_nothing(program):
@@ -368,21 +253,24 @@ def an_error_of_the_caller_closes_the_cursors(program):
 
 TESTS = [
     *ROW_TESTS,
-    a_server_that_closes_fails_the_line,
-    what_is_no_reply_fails_the_line,
-    what_is_no_row_is_not_given,
-    a_refused_fetch_takes_no_row,
-    a_refusal_after_rows_gives_none_of_them,
-    a_server_that_goes_while_rows_are_fetched_fails,
-    a_reply_that_does_not_come_fails,
-    an_address_where_nobody_listens_fails,
-    nothing_is_sent_after_a_reply_was_broken_off,
+    *PEER_TESTS,
+    *VALUE_TESTS,
+    *SCHEMA_TESTS,
+    *LOAD_TESTS,
+    *DBAPI_TESTS,
+    *COPY_TESTS,
+    *FRAME_TESTS,
+    *PROMPT_TESTS,
+    *RECKONING_TESTS,
+    *WORK_TESTS,
+    *PACKAGE_TESTS,
     a_file_is_created_and_kept,
     files_with_odd_names_are_found,
     what_the_program_says_of_its_file_is_told,
     a_program_that_fails_at_its_end_is_told,
     a_program_that_ends_within_a_reply_is_told,
     a_program_that_is_gone_at_the_close_is_told,
+    a_program_that_stalls_is_told,
     a_closed_client_sends_nothing,
     a_client_that_is_interrupted_or_killed_leaves_its_file_closed,
     a_server_is_asked_over_the_network,
@@ -394,4 +282,4 @@ TESTS = [
 
 if __name__ == "__main__":
     said = "Tries the client in Python and its diagrams against the program."
-    sys.exit(run_tests(said, TESTS, Program, PROGRAM, [roadseg.Error]))
+    sys.exit(run_tests(said, TESTS, Program, PROGRAM, [roadseg.Error], [*SPEED_TESTS, *COST_TESTS]))

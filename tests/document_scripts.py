@@ -16,11 +16,27 @@ from programs import ROOT
 
 COOKBOOK = os.path.join(ROOT, "docs", "COOKBOOK.md")
 README = os.path.join(ROOT, "README.md")
+PACKAGE = os.path.join(CLIENTS, "README.md")
 ASKED = "How is the inventory asked from Python?"
 DRAWN = "How is a diagram of a road drawn?"
 FROM_CSV = "How do two CSV files become a payment table and a diagram?"
 BY_SHELL = "How does a CSV become a table, and that a payment table, in the shell?"
 AS_TEXT = "How is the inventory kept as plain text, and what changed between two days?"
+KEPT = "How does an office keep its inventory?"
+BACKED_UP = "How is the inventory backed up?"
+LONGER = "How is a route made longer?"
+REFUSED = "What is to be done about `95 file not closed` and `94 damaged file`?"
+NETWORKED = "How is a report asked for over the network?"
+# What `nc -N` does: sends its input and the end of it, and prints what comes.
+NC = """#!%s
+import socket, sys
+with socket.create_connection(sys.argv[2:4]) as peer:
+    peer.sendall(sys.stdin.buffer.read())
+    peer.shutdown(socket.SHUT_WR)
+    while data := peer.recv(65536):
+        sys.stdout.buffer.write(data)
+"""
+PATIENCE = 5 * LONGEST  # seconds that a script may take, which starts many programs
 SERVED = "7400"  # the port of `serve`, for which another one is put
 
 
@@ -65,7 +81,7 @@ def run_section(program, path, heading):
 
 
 def run_block(program, block):
-    if "connect(" not in block.text:
+    if "roadseg.connect(" not in block.text:
         return run_script(program, block)
     with serving(program, program.file("roads.seg"), 1) as server:
         done = run_script(program, block._replace(text=block.text.replace(SERVED, str(server.port))))
@@ -73,11 +89,20 @@ def run_block(program, block):
     return done
 
 
-def run_script(program, block):
-    words = [sys.executable, "-c"] if block.language == "python" else ["bash", "-euo", "pipefail", "-c"]
-    path = os.pathsep.join([os.path.dirname(program.path), os.path.dirname(sys.executable), os.environ["PATH"]])
+def run_script(program, block, options="-euo"):
+    words = [sys.executable, "-c"] if block.language == "python" else ["bash", options, "pipefail", "-c"]
+    path = os.pathsep.join([program.folder, os.path.dirname(program.path), os.path.dirname(sys.executable), os.environ["PATH"]])
     variables = {**os.environ, "PATH": path, "PYTHONPATH": CLIENTS}
-    return subprocess.run([*words, block.text], cwd=program.folder, env=variables, capture_output=True, timeout=LONGEST)
+    return subprocess.run([*words, block.text], cwd=program.folder, env=variables, capture_output=True, timeout=PATIENCE)
+
+
+def expect_printed(program, heading, wanted):
+    """Runs the scripts of a section that says in words what they print, and whose greps may find nothing."""
+    scripts = [block for block in blocks_of(COOKBOOK, heading) if block.language == "sh"]
+    expect("scripts of %s" % heading, len(scripts), len(wanted))
+    for block, out in zip(scripts, wanted):
+        done = run_script(program, block, "-uo")
+        expect("COOKBOOK.md:%d" % block.number, (done.stdout.decode(), done.stderr), (out, b""))
 
 
 def prepare(program):
@@ -94,6 +119,8 @@ def the_inventory_is_asked_from_python(program):
     prepare(program)
     expect("scripts of README", run_section(program, README, "From Python"), 1)
     expect("scripts of COOKBOOK", run_section(program, COOKBOOK, ASKED), 4)
+    for heading in ("Lines and rows", "DB-API 2", "What lines can't ask"):
+        expect("scripts of the package", run_section(program, PACKAGE, heading), 1)
 
 
 def diagrams_are_drawn_as_they_are_kept(program):
@@ -121,7 +148,52 @@ def the_inventory_is_kept_as_plain_text(program):
     expect("scripts", run_section(program, COOKBOOK, AS_TEXT), 5)
 
 
+def an_office_keeps_a_file_its_copies_and_a_longer_one(program):
+    os.symlink(os.path.join(ROOT, "examples"), program.file("examples"))
+    rows = "0 ROW SR12 0.000 7.750 'asphalt' 2011\n0 ROW SR12 7.750 9.100 'concrete' 1998\n0 ROW SR12 9.100 14.250 'asphalt' 2019\n"
+    expect_printed(program, KEPT, ["", rows + "0 OK 3\n"])
+    with open(program.file("today.txt"), "w", encoding="utf-8") as today:
+        today.write("0 INSERT INTO speed ON SR12N FROM 0 TO 1 VALUES (25)\n")
+    expect_printed(program, BACKED_UP, ["sound\n", "0 OK 1000\n"])
+    expect_printed(program, LONGER, ["longer\n"])
+    asked = b"0 TRANSLATE US40 100% AS ABSOLUTE\n0 TOTAL speed BY ()\n"
+    program.expect(["run", "--file", program.file("longer.seg")], asked, b"0 ROW 150.000\n0 OK 1\n0 ROW 56.625\n0 OK 1\n")
+    with open(program.file("roads.seg"), "r+b") as file:
+        file.truncate(5_000)
+    program.expect(["run", "--file", program.file("roads.seg")], b"", b"", b"roadseg: ERR 94 damaged file\n")
+    expect_printed(program, REFUSED, [""])
+    program.expect(["run", "--file", program.file("roads.seg")], asked[34:], b"0 ROW 56.625\n0 OK 1\n")
+
+
+def a_report_is_asked_for_over_the_network(program):
+    """By a stand-in for OpenBSD's `nc`, which is not everywhere."""
+    prepare(program)
+    with open(program.file("nc"), "w", encoding="utf-8") as script:
+        script.write(NC % sys.executable)
+    os.chmod(program.file("nc"), 0o755)
+    serve, asked = [block for block in blocks_of(COOKBOOK, NETWORKED) if block.language == "sh"]
+    [printed] = [block for block in blocks_of(COOKBOOK, NETWORKED) if not block.language]
+    expect("what serves", serve.text, "roadseg serve --file roads.seg --connections 2\n")
+    with serving(program, program.file("roads.seg"), 2) as server:
+        done = run_script(program, asked._replace(text=asked.text.replace(SERVED, str(server.port))))
+        totals = "3 ROW 'asphalt' 19.725\n3 ROW 'concrete' 35.300\n3 OK 2\n"
+        expect("what is printed", (done.stdout.decode(), done.stderr), (printed.text + totals, b""))
+        server.expect_end()
+
+
+def each_script_of_the_cookbook_is_run(_program):
+    """Each section with a script is one that a test here runs."""
+    with open(COOKBOOK, encoding="utf-8") as file:
+        headings = [line[3:].rstrip("\n") for line in file if line.startswith("## ")]
+    with_scripts = [one for one in headings if any(block.language in ("python", "sh") for block in blocks_of(COOKBOOK, one))]
+    run = {ASKED, DRAWN, FROM_CSV, BY_SHELL, AS_TEXT, KEPT, BACKED_UP, LONGER, REFUSED, NETWORKED}
+    expect("sections with scripts", set(with_scripts), run)
+
+
 DOCUMENT_TESTS = [
+    an_office_keeps_a_file_its_copies_and_a_longer_one,
+    a_report_is_asked_for_over_the_network,
+    each_script_of_the_cookbook_is_run,
     the_inventory_is_asked_from_python,
     diagrams_are_drawn_as_they_are_kept,
     two_csv_files_become_a_payment_table_and_a_diagram,

@@ -44,17 +44,20 @@ def fault_of(test, kind, path, errors):
     return None
 
 
-def run_tests(description, tests, kind, program, errors=()):
+def run_tests(description, tests, kind, program, errors=(), speed=()):
     """Runs the tests that the command line names, or all, prints what is not as wanted, and gives the exit status.
 
     A test is a function of one program, which is of this kind: made of a path, and of a folder of the test's own. It fails by
-    Wrong, an error of the system, or one of these errors.
+    Wrong, an error of the system, or one of these errors. Tests of speed run only where `--speed` asks for them.
     """
     parser = parser_of(description, program)
     parser.add_argument("--jobs", type=int, default=os.cpu_count() or 1, metavar="N")
     parser.add_argument("names", nargs="*", metavar="TEST")
+    parser.set_defaults(speed=False)
+    if speed:
+        parser.add_argument("--speed", action="store_true", help="run the tests of speed instead, for which the machine has to be idle")
     words = parser.parse_args()
-    tests = named(tests, words.names)
+    tests = named(speed if words.speed else tests, words.names)
     with concurrent.futures.ThreadPoolExecutor(words.jobs) as pool:
         faults = [fault for fault in pool.map(lambda test: fault_of(test, kind, words.program, errors), tests) if fault]
     for fault in faults:
