@@ -1,6 +1,6 @@
 -- How changes are begun: the disk is marked as open, and then the pager begins.
 use Rattle.std.specs.Prelude.{IsOkUnless, OnErr, OnOk}
-use Rattle.std.proofs.Common.{◌≡◌, ◌≤◌, ◌<◌, ◌∙◌, ℕ, Bool, IsOk, None, Result, Ok, Err, [], length, true, false, ap, refl}
+use Rattle.std.proofs.Common.{◌≡◌, ◌≤◌, ◌<◌, ◌∙◌, ℕ, Bool, None, Result, Ok, Err, [], length, true, false, ap, refl}
 use Rattle.rs_catalog.specs.Definitions.{Definitions, Numbered}
 use Rattle.rs_catalog.specs.Referents.{HeldReferents}
 use Rattle.rs_disk.specs.Counts.{Counts}
@@ -16,7 +16,6 @@ use Rattle.rs_refusal.specs.declared.refusal.Refusal.{Refusal}
 use Rattle.rs_refusal.specs.declared.refusal.Refusal.TheVariants as refusal
 use Rattle.rs_store.specs.Bracket.{BeginsChange, Marks}
 use Rattle.rs_store.specs.Calls.{KeepsStore}
-use Rattle.rs_store.specs.Settling.{BeginsWith}
 use Rattle.rs_store.proofs.HeldChanges.{begins_after, begins_with, changes-refl, changes-trans}
 use Rattle.rs_store.proofs.Keeping.{flag_of, keeps_by_maps, keeps_store-refl, keeps_store-trans, store_over}
 

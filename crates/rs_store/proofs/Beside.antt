@@ -1,6 +1,6 @@
 -- Disks that are the same but for the byte of their open flag.
-use Rattle.std.proofs.Common.{◌≡◌, ◌≤◌, ◌∙◌, ℕ, IsTrue, false, refl, sym, ap, subst, inl, inr, arith}
-use Rattle.std.specs.Prelude.{◌≢◌, Result}
+use Rattle.std.proofs.Common.{◌≡◌, ◌≤◌, ◌∙◌, ℕ, false, refl, sym, subst, inl, inr, arith}
+use Rattle.std.specs.Prelude.{Result}
 use Rattle.std.proofs.lemmas.Bool.{cases_lt, eqb-false}
 use Rattle.rs_disk.specs.Content.{Content}
 use Rattle.rs_file.specs.Contents.{Contents, HoldsAll}

@@ -1,29 +1,28 @@
 -- Definitions and referents, brought into memory, and what follows where they are not meant.
-use Rattle.std.proofs.Common.{◌≡◌, ◌<◌, ◌^◌, ◌∙◌, ℕ, suc, List, [], ◌∷◌, refl, sym, ap, subst, arith}
+use Rattle.std.proofs.Common.{◌≡◌, ◌<◌, ◌∙◌, ℕ, List, [], ◌∷◌, refl, sym, ap, subst, arith}
 use Rattle.std.proofs.Math.Path.{fun_ext}
 use Rattle.std.proofs.lemmas.List.Elements.{All-contains, All-from_recursion}
 use Rattle.std.specs.FinMap as names
-use Rattle.std.specs.List.{AllByRecursion, AllZip}
+use Rattle.std.specs.List.{AllByRecursion}
 use Rattle.std.specs.Prelude.{◌≤◌, map}
 use Rattle.rs_catalog.specs.Definitions as catalog
 use Rattle.rs_catalog.specs.Definitions.{Definitions, Numbered, Rest, state_from}
 use Rattle.rs_catalog.specs.Referents.{HeldReferents, referents_on}
 use Rattle.rs_catalog_meaning.specs.Meaning.{AreMeant, IsTable, ends_of}
-use Rattle.rs_catalog_pages.specs.Items.{CatalogueItems, RouteItem, TableItem, ViewItem}
+use Rattle.rs_catalog_pages.specs.Items.{CatalogueItems, RouteItem, TableItem}
 use Rattle.rs_catalog_pages.specs.Said.{said_catalogue}
 use Rattle.rs_facts.specs.Fact.{Names}
 use Rattle.rs_facts.specs.Query.{Piece}
 use Rattle.rs_facts.specs.Runs.{Stretch}
-use Rattle.rs_file.specs.Contents.{Contents, HoldsAll}
+use Rattle.rs_file.specs.Contents.{Contents}
 use Rattle.rs_file.specs.Meant.{route_spans, span_of_route}
 use Rattle.rs_file.specs.Opening.{IsFile}
 use Rattle.rs_file.specs.declared.opened.OpenedFile.{OpenedFile}
-use Rattle.rs_file_meaning.specs.Meant.{IsMeant}
-use Rattle.rs_file_meaning.specs.Seen.{born_by, referents_seen, spans_seen}
-use Rattle.rs_file_meaning.specs.States.{AreDefinitionsAt, IsState, named_table, tables_named}
+use Rattle.rs_file_meaning.specs.Seen.{referents_seen, spans_seen}
+use Rattle.rs_file_meaning.specs.States.{AreDefinitionsAt, named_table, tables_named}
 use Rattle.rs_file_parts.specs.Parts.{IsCommitted}
 use Rattle.rs_machine.specs.Lawful.{AreColumnsOfTable, AreViewsMeant, Each, IsRoute}
-use Rattle.rs_machine.specs.State.{State, no_cursors}
+use Rattle.rs_machine.specs.State.{no_cursors}
 use Rattle.rs_machine.specs.declared.limits.TheConstants.{ROUTES}
 use Rattle.rs_pages.specs.PageMap.{PageMap}
 use Rattle.rs_stored_catalog.specs.Listing.{listing_of}

@@ -1,11 +1,11 @@
 -- A store in which a change was begun and made or refused, once that is kept or taken back.
-use Rattle.std.proofs.Common.{◌≡◌, ◌≤◌, ◌<◌, ◌+◌, ◌∙◌, ℕ, Bool, Result, Ok, Err, ap, subst, sym, arith}
+use Rattle.std.proofs.Common.{◌≡◌, ◌≤◌, ◌<◌, ◌+◌, ℕ, Bool, Result, Ok, Err, ap, subst, sym}
 use Rattle.std.specs.List.{AllByRecursion}
 use Rattle.std.specs.Prelude.{OnErr, OnOk}
 use Rattle.rs_catalog.specs.Definitions.{Definitions, Numbered}
 use Rattle.rs_catalog.specs.Referents.{HeldReferents, referents_on}
 use Rattle.rs_catalog_pages.specs.Items.{CatalogueItems}
-use Rattle.rs_change_laws.specs.Changing.{ChangesFile, GivesState, HoldsNoFile}
+use Rattle.rs_change_laws.specs.Changing.{GivesState, HoldsNoFile}
 use Rattle.rs_disk.specs.declared.disk.Disk as disk
 use Rattle.rs_file.specs.Contents.{Contents}
 use Rattle.rs_file.specs.declared.opened.OpenedFile.{OpenedFile}
@@ -20,8 +20,8 @@ use Rattle.rs_refusal.specs.declared.refusal.Refusal.TheVariants as refusal
 use Rattle.rs_store.specs.Bracket.{ComesToRest}
 use Rattle.rs_store.specs.Changing.{HasBecome, LeavesStore}
 use Rattle.rs_store.specs.Kept.{IsAtRest, StandsIn, StoreState}
-use Rattle.rs_store.specs.Rewriting.{CanBeKept, IsNextWith, Redefines}
-use Rattle.rs_store.specs.Settling.{HasBegun, IsKept, Settles}
+use Rattle.rs_store.specs.Rewriting.{CanBeKept, Redefines}
+use Rattle.rs_store.specs.Settling.{HasBegun, Settles}
 use Rattle.rs_stored_catalog.specs.Listing.{listing_of}
 use Rattle.rs_store.proofs.Keeping.{store_over}
 use Rattle.rs_store.proofs.Rows.{KeptGives, by_part}

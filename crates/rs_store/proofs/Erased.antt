@@ -1,6 +1,5 @@
 -- Definitions of a catalogue at rest that are written anew, without a table or an index, as a file is to take them.
-use Rattle.std.proofs.Common.{◌≡◌, ◌≤◌, ◌<◌, ◌+◌, ◌∙◌, ℕ, Some, ap, subst, sym, arith}
-use Rattle.std.specs.FinMap as names
+use Rattle.std.proofs.Common.{◌≡◌, ◌≤◌, ◌<◌, ◌+◌, ◌∙◌, subst, sym, arith}
 use Rattle.std.specs.List.{AllByRecursion}
 use Rattle.rs_catalog.specs.Changes as changes
 use Rattle.rs_catalog.specs.Definitions.{AreDefinitions, Definitions, IndexItem, TableItem}

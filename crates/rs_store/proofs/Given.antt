@@ -1,5 +1,5 @@
 -- The numbers that the listing of a catalogue gives, each once.
-use Rattle.std.proofs.Common.{◌≡◌, ◌≤◌, ◌<◌, ◌+◌, ◌^◌, ◌∙◌, ℕ, zero, suc, Bool, true, false, T, List, [], ◌∷◌, ◌++◌, Some, ap, cond, get_or, inl, inr, length, map, refl, slice_get, subst, sym, arith}
+use Rattle.std.proofs.Common.{◌≡◌, ◌≤◌, ◌<◌, ◌+◌, ◌^◌, ◌∙◌, ℕ, zero, suc, Bool, true, false, T, List, [], ◌∷◌, ◌++◌, Some, ap, get_or, inl, inr, length, map, refl, slice_get, subst, sym, arith}
 use Rattle.std.specs.FinMap as names
 use Rattle.std.specs.FinMap.{entries_sorted, is_sorted}
 use Rattle.std.specs.FinMap.Entries.{below_all}

@@ -1,5 +1,5 @@
 -- The changes that a pager holds, as others are begun and taken back, and what is open as it is.
-use Rattle.std.proofs.Common.{◌≡◌, ◌≤◌, ◌<◌, ◌∙◌, ◌⊎◌, ◌∷◌, ℕ, List, Option, None, Result, Ok, Err, [], true, ap, inl, inr, length, refl, subst, sym}
+use Rattle.std.proofs.Common.{◌≡◌, ◌≤◌, ◌<◌, ◌∙◌, ◌∷◌, ℕ, List, Option, None, Result, Ok, Err, [], true, ap, inl, inr, length, refl, subst, sym}
 use Rattle.std.proofs.lemmas.Bool.{cases_lt}
 use Rattle.rs_disk.specs.declared.disk.Disk as disk
 use Rattle.rs_file.specs.declared.opened.OpenedFile.{OpenedFile}
@@ -13,7 +13,7 @@ use Rattle.rs_pages.specs.Held.{HeldPage}
 use Rattle.rs_pages.specs.Lending.{RestsAfter}
 use Rattle.rs_pages.specs.PageMap.{SamePages}
 use Rattle.rs_refusal.specs.declared.refusal.Refusal.{Refusal}
-use Rattle.rs_store.specs.Changing.{HasWritten, StillHolds}
+use Rattle.rs_store.specs.Changing.{StillHolds}
 use Rattle.rs_store.specs.Settling.{BeginsWith}
 use Rattle.std.specs.List.{AllZip}
 use Rattle.std.specs.Prelude.{OnErr, OnOk}

@@ -1,5 +1,5 @@
 -- An index that comes to a store or goes: the state that it gives, and that a file can keep the definitions then.
-use Rattle.std.proofs.Common.{◌≡◌, ◌≤◌, ◌<◌, ◌+◌, ◌++◌, ◌∷◌, ◌∙◌, ℕ, List, Some, ap, cond, false, is_some, length, map, refl, slice_get, subst, sym, true, arith}
+use Rattle.std.proofs.Common.{◌≡◌, ◌≤◌, ◌<◌, ◌+◌, ◌++◌, ◌∷◌, ◌∙◌, ℕ, Some, ap, cond, false, is_some, refl, slice_get, subst, sym, true, arith}
 use Rattle.std.specs.FinMap as names
 use Rattle.std.specs.FinMap.{get-insert}
 use Rattle.std.proofs.lemmas.List.{length-map}

@@ -1,19 +1,18 @@
 -- Indexes that are listed, and their positions among those of their tables.
-use Rattle.std.proofs.Common.{◌≡◌, ◌≤◌, ◌<◌, ◌+◌, ◌*◌, ◌==◌, ◌++◌, ◌∷◌, [], ◌∙◌, ℕ, zero, suc, Bool, List, Some, ap, cond, false, filter, length, map, not, refl, slice_get, subst, sym, true, arith}
+use Rattle.std.proofs.Common.{◌≡◌, ◌≤◌, ◌+◌, ◌==◌, ◌++◌, ◌∷◌, [], ◌∙◌, ℕ, zero, suc, List, Some, ap, cond, filter, length, map, not, refl, slice_get, subst, sym, arith}
 use Rattle.std.specs.FinMap as names
 use Rattle.std.specs.List.{AllByRecursion}
 use Rattle.std.specs.Option.{option_map}
-use Rattle.std.proofs.lemmas.Bool.{eq-eqb, eqb-true, ne_eqb}
+use Rattle.std.proofs.lemmas.Bool.{eq-eqb, ne_eqb}
 use Rattle.std.proofs.lemmas.List.{length-map}
-use Rattle.std.proofs.lemmas.Option.{same_Some, slice_get-map}
+use Rattle.std.proofs.lemmas.Option.{slice_get-map}
 use Rattle.rs_attr.specs.Entries.{FitsPages}
 use Rattle.rs_catalog.specs.Changes as changes
 use Rattle.rs_catalog.specs.Definitions as catalog
 use Rattle.rs_catalog.specs.Definitions.{AreDefinitions, Definitions, IsColumnOf}
 use Rattle.rs_catalog_pages.specs.Items.{CatalogueItems, IndexItem, TableItem}
-use Rattle.rs_catalog_pages.specs.Said.{said_catalogue, said_index}
 use Rattle.rs_catalog_pages.proofs.Counting.{times-cons}
-use Rattle.rs_facts.specs.Fact.{Name, Names}
+use Rattle.rs_facts.specs.Fact.{Name}
 use Rattle.rs_facts.specs.Query.{Column}
 use Rattle.rs_file.specs.Contents.{index_numbers, table_numbers, type_of}
 use Rattle.rs_file.specs.Slots.{indexes_on}

@@ -1,13 +1,12 @@
 -- What a whole file stands for, once it was read.
-use Rattle.std.proofs.Common.{◌≡◌, ◌≤◌, ℕ, ap, subst, sym, refl, arith}
+use Rattle.std.proofs.Common.{ℕ, subst}
 use Rattle.rs_catalog.specs.Definitions.{Definitions, Numbered}
 use Rattle.rs_catalog.specs.Referents.{HeldReferents}
-use Rattle.rs_file.specs.Contents.{Contents, HoldsAll}
+use Rattle.rs_file.specs.Contents.{Contents}
 use Rattle.rs_file.specs.Opening.{HoldsNothing, LoadsContents}
 use Rattle.rs_file.specs.declared.opened.OpenedFile.{OpenedFile}
 use Rattle.rs_file_meaning.specs.Meant.{IsMeant}
 use Rattle.rs_file_meaning.specs.Standing.{StandsFor}
-use Rattle.rs_machine.specs.State.{State}
 use Rattle.rs_pages.specs.PageMap.{PageMap}
 use Rattle.rs_store.specs.Loading.{BringsState, HasNoState, HoldsOpened, LoadsState, StandsForNone, StandsForSome}
 use Rattle.rs_store.proofs.Same.{FileHoldsOne, SameMeant, SameSays, SameState, meant_moves, records_of_meant, same_accepted, state_moves}

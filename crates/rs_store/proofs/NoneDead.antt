@@ -1,5 +1,5 @@
 -- A store of which no record is dead has released all that no live version sees.
-use Rattle.std.proofs.Common.{◌≡◌, ◌≤◌, ◌∙◌, ℕ, Bool, true, false, List, [], ◌∷◌, cond, refl, sym, arith}
+use Rattle.std.proofs.Common.{◌≡◌, ◌≤◌, ℕ, Bool, true, false, List, [], ◌∷◌, cond, refl, arith}
 use Rattle.std.proofs.lemmas.Bool.{leb-true, le-leb}
 use Rattle.std.proofs.lemmas.List.Sums.{sum_by-cons}
 use Rattle.std.specs.List.{AllZip, sum_by}
@@ -9,7 +9,7 @@ use Rattle.rs_change_laws.specs.Clearing.{LosesRecords}
 use Rattle.rs_disk.specs.declared.disk.Disk as disk
 use Rattle.rs_file.specs.Contents.{Contents, TableContents}
 use Rattle.rs_file_meaning.specs.Live.{KeepsLive}
-use Rattle.rs_file_parts.specs.Clearing.{ClearsTable, clearable, clearable_events, clearable_referents}
+use Rattle.rs_file_parts.specs.Clearing.{ClearsTable, clearable, clearable_events}
 use Rattle.rs_file_parts.proofs.Cleared.{none_cleared}
 use Rattle.rs_machine.specs.State.{State}
 use Rattle.rs_versioned.specs.Events.{Event, kept_events}

@@ -1,5 +1,5 @@
 -- A store stands in one state, which its parts say; a disk stands for one.
-use Rattle.std.proofs.Common.{◌≡◌, ◌∙◌, ℕ, List, refl, subst, sym, ap}
+use Rattle.std.proofs.Common.{◌≡◌, ◌∙◌, ℕ, refl, subst, sym, ap}
 use Rattle.std.proofs.Math.Path.{fun_ext}
 use Rattle.rs_catalog.specs.Definitions.{state_from}
 use Rattle.rs_catalog.specs.Referents.{referents_on}

@@ -1,5 +1,5 @@
 -- The place of a table of the catalogue among those of the file.
-use Rattle.std.proofs.Common.{◌≡◌, ◌≤◌, ◌<◌, ◌∙◌, ℕ, zero, suc, Bool, true, false, cond, List, [], ◌∷◌, Some, None, ap, length, map, refl, slice_get, subst, sym, arith}
+use Rattle.std.proofs.Common.{◌≡◌, ◌≤◌, ◌∙◌, ℕ, zero, suc, Bool, true, false, cond, List, [], ◌∷◌, Some, None, ap, map, refl, slice_get, subst, sym, arith}
 use Rattle.std.specs.FinMap as names
 use Rattle.std.specs.FinMap.{find, get-entries}
 use Rattle.std.specs.List.{AllByRecursion, AllZip}
@@ -13,7 +13,6 @@ use Rattle.rs_catalog.proofs.Names.{each_entry}
 use Rattle.rs_catalog_pages.specs.Items as items
 use Rattle.rs_catalog_pages.specs.Items.{CatalogueItems}
 use Rattle.rs_catalog_pages.specs.Said.{said_catalogue, said_table}
-use Rattle.rs_catalog_pages.specs.declared.items.StoredTable.{StoredTable}
 use Rattle.rs_facts.specs.Fact.{Name, Names, name_cmp}
 use Rattle.rs_facts.specs.Query.{Column}
 use Rattle.rs_file.specs.Contents.{type_of}

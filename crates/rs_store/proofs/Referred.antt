@@ -1,5 +1,5 @@
 -- Referents of a route in memory: one that came and went again, and those that a state has.
-use Rattle.std.proofs.Common.{◌≡◌, ◌∙◌, ℕ, Bool, true, false, cond, nat_eq, None, Some, ap, refl, subst, sym, arith}
+use Rattle.std.proofs.Common.{◌≡◌, ◌∙◌, ℕ, Bool, true, false, cond, nat_eq, None, Some, ap, refl, sym}
 use Rattle.std.specs.FinMap as names
 use Rattle.std.specs.FinMap.{get-insert, get-remove, same_map}
 use Rattle.std.specs.Ordering.{eq_by_cmp}

@@ -1,6 +1,6 @@
 -- Records that were cleared at the same version, as a store has it once its pages are kept or taken back.
-use Rattle.std.proofs.Common.{◌≡◌, ◌≤◌, ◌∙◌, ℕ, Bool, List, [], ◌∷◌, Result, Ok, Err, ap, inl, inr, refl, subst, sym, arith}
-use Rattle.std.specs.List.{AllByRecursion, AllZip}
+use Rattle.std.proofs.Common.{◌≡◌, ◌≤◌, ◌∙◌, ℕ, Bool, List, Result, Ok, Err, ap, inl, inr, refl, subst, sym, arith}
+use Rattle.std.specs.List.{AllByRecursion}
 use Rattle.std.specs.Prelude.{◌≢◌, IfOk, OnOk}
 use Rattle.rs_catalog.specs.Definitions.{Definitions, Numbered}
 use Rattle.rs_catalog.specs.Referents.{HeldReferents}
@@ -8,18 +8,16 @@ use Rattle.rs_catalog_pages.specs.Said.{said_catalogue}
 use Rattle.rs_catalog_pages.specs.Storing.{StoresAfter}
 use Rattle.rs_file.specs.Contents.{Contents, HoldsAll, SameContents, SameTable}
 use Rattle.rs_file.specs.declared.opened.OpenedFile.{OpenedFile}
-use Rattle.rs_file.specs.declared.opened.OpenedTable.{OpenedTable}
 use Rattle.rs_disk.specs.declared.disk.Disk as disk
 use Rattle.rs_file.proofs.Loaded.{same_map}
 use Rattle.rs_file_parts.specs.Clearing.{ClearsReferents, ClearsTable}
-use Rattle.rs_file_parts.specs.Parts.{IsAsItWas, IsCommitted, KeepsCommitted, SameOpened}
+use Rattle.rs_file_parts.specs.Parts.{IsCommitted, KeepsCommitted}
 use Rattle.rs_file_parts.proofs.Lists.{each_then}
 use Rattle.rs_machine.specs.State.{State}
-use Rattle.rs_pager.specs.Maps.{IsTied, KeepsBelow, KeepsChanges, committed, pager_store, working}
+use Rattle.rs_pager.specs.Maps.{IsTied, KeepsBelow, committed, pager_store, working}
 use Rattle.rs_pager.specs.Paged.{Paged}
 use Rattle.rs_pages.specs.PageMap.{PageMap}
 use Rattle.rs_pages.proofs.Stores.{SamePages-trans}
-use Rattle.rs_refusal.specs.Counts.{counted_on}
 use Rattle.rs_refusal.specs.declared.refusal.Refusal.{Refusal}
 use Rattle.rs_change_laws.specs.Changing.{HoldsNoFile}
 use Rattle.rs_change_laws.specs.Clearing.{ClearsFile, HoldsFewer, LosesRecords, StandsFewer}

@@ -1,18 +1,17 @@
 -- Definitions that were written into a file, or were refused, over any pages.
-use Rattle.std.proofs.Common.{◌≡◌, ◌≤◌, ◌+◌, ◌⊎◌, ◌∙◌, Result, Ok, Err, ap, inl, inr, refl, sym, arith}
+use Rattle.std.proofs.Common.{◌≡◌, ◌≤◌, ◌+◌, ◌⊎◌, Result, Ok, Err, ap, inl, inr, refl, arith}
 use Rattle.std.specs.List.{AllByRecursion}
-use Rattle.std.specs.Prelude.{OnErr, OnOk}
+use Rattle.std.specs.Prelude.{OnOk}
 use Rattle.rs_catalog.specs.Definitions.{Definitions}
 use Rattle.rs_catalog_pages.specs.Items.{CatalogueItems}
 use Rattle.rs_catalog_pages.specs.Said.{said_catalogue}
 use Rattle.rs_catalog_pages.specs.Storing.{StoresAfter}
 use Rattle.rs_catalog_pages.specs.declared.items.StoredCatalogue.{StoredCatalogue}
 use Rattle.rs_change_laws.specs.Changing.{ChangesFile, HoldsNoFile}
-use Rattle.rs_changes.specs.Calls.{Changes, ComesNext, LeavesFile}
+use Rattle.rs_changes.specs.Calls.{ComesNext, LeavesFile}
 use Rattle.rs_file.specs.Contents.{Contents}
 use Rattle.rs_file.specs.declared.opened.OpenedFile.{OpenedFile}
 use Rattle.rs_file_parts.proofs.Ready.{keeps_none}
-use Rattle.rs_file_parts.specs.Parts.{KeepsCommitted}
 use Rattle.rs_pages.specs.Store.{Store}
 use Rattle.rs_pages.specs.declared.pages.Pages.{Ghosts}
 use Rattle.rs_refusal.specs.declared.refusal.Refusal.{Refusal}

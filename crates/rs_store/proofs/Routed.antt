@@ -1,9 +1,9 @@
 -- A route that comes to a catalogue: by which version all routes are born, and that nothing lies on it.
-use Rattle.std.proofs.Common.{◌≡◌, ◌≤◌, ◌+◌, ◌∙◌, ◌||◌, ℕ, Bool, true, false, List, [], ◌∷◌, ◌++◌, Result, Ok, Err, Some, None, ap, refl, subst, sym, arith}
+use Rattle.std.proofs.Common.{◌≡◌, ◌≤◌, ◌+◌, ◌∙◌, ◌||◌, ℕ, Bool, true, false, List, [], ◌∷◌, ◌++◌, Some, None, ap, refl, subst, sym, arith}
 use Rattle.std.specs.FinMap as names
 use Rattle.std.specs.List.{AllByRecursion, list_any}
 use Rattle.std.specs.Option.{option_map}
-use Rattle.std.specs.Prelude.{OnErr, OnOk, Option, is_some}
+use Rattle.std.specs.Prelude.{Option, is_some}
 use Rattle.std.proofs.lemmas.Bool.{false≢true}
 use Rattle.rs_catalog.specs.Definitions.{AreDefinitions, Definitions, RouteItem, routes_of}
 use Rattle.rs_catalog.specs.Uses.{some_piece_on}

@@ -1,5 +1,5 @@
 -- Rows that a store was given, or that were taken from it.
-use Rattle.std.proofs.Common.{◌≡◌, ◌≤◌, ◌<◌, ◌+◌, ◌∙◌, ℕ, Bool, List, Result, Ok, Err, Some, ap, slice_get, subst, sym, arith}
+use Rattle.std.proofs.Common.{◌≡◌, ◌≤◌, ◌<◌, ◌+◌, ◌∙◌, ℕ, Bool, Result, Ok, Err, Some, ap, slice_get, arith}
 use Rattle.std.specs.FinMap as names
 use Rattle.std.specs.Prelude.{IfOk, OnOk, Option}
 use Rattle.rs_catalog.specs.Definitions.{Definitions, Numbered, RouteItem, TableItem}

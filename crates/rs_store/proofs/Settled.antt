@@ -1,5 +1,5 @@
 -- A change that was made or refused, as a store has it once its pages are kept or taken back.
-use Rattle.std.proofs.Common.{◌≡◌, ◌≤◌, ◌+◌, ◌∙◌, ℕ, Bool, IsTrue, List, [], ◌∷◌, Result, Ok, Err, Some, length, true, ap, inl, inr, refl, subst, sym, arith}
+use Rattle.std.proofs.Common.{◌≡◌, ◌≤◌, ◌+◌, ◌∙◌, ℕ, Bool, List, [], ◌∷◌, Result, Ok, Err, Some, length, true, ap, inl, inr, refl, subst, sym, arith}
 use Rattle.std.proofs.lemmas.List.Sums.{sum_by-cons}
 use Rattle.std.specs.FinMap as names
 use Rattle.std.specs.List.{AllByRecursion, AllZip, sum_by}
@@ -20,20 +20,20 @@ use Rattle.rs_file.specs.declared.opened.OpenedTable.{OpenedTable}
 use Rattle.rs_disk.specs.Content.{Content}
 use Rattle.rs_disk.specs.declared.disk.Disk as disk
 use Rattle.rs_file.proofs.Loaded.{same_map}
-use Rattle.rs_file_parts.specs.Clearing.{ClearsAsMany, ClearsReferents, ClearsTable, records_in}
+use Rattle.rs_file_parts.specs.Clearing.{ClearsReferents, ClearsTable, records_in}
 use Rattle.rs_file_parts.specs.Parts as parts
 use Rattle.rs_file_parts.specs.Parts.{HaveAllDiedBy, IsAsItWas, IsCommitted, IsReady, KeepsCommitted, SameOpened}
 use Rattle.rs_stored_catalog.specs.Listing.{listing_of}
 use Rattle.rs_file_parts.proofs.AsItWas.{still_opened}
 use Rattle.rs_file_parts.proofs.Lists.{each_then}
 use Rattle.rs_file_parts.proofs.Ready.{ready_after}
-use Rattle.rs_machine.specs.Lawful.{AreColumnsOfTable, AreViewsMeant, Each}
+use Rattle.rs_machine.specs.Lawful.{AreViewsMeant}
 use Rattle.rs_machine.specs.State.{State}
 use Rattle.rs_machine.specs.declared.limits.TheConstants.{CHANGES}
 use Rattle.rs_page.specs.declared.file_header.TheConstants.{FLAG_OFFSET}
 use Rattle.rs_pager.specs.Maps.{IsTied, KeepsBelow, committed, pager_store, working}
 use Rattle.rs_pager.specs.Paged.{Paged}
-use Rattle.rs_pages.specs.PageMap.{PageMap, SamePages}
+use Rattle.rs_pages.specs.PageMap.{PageMap}
 use Rattle.rs_pages.proofs.Stores.{SamePages-trans}
 use Rattle.rs_refusal.specs.Counts.{counted_on}
 use Rattle.rs_refusal.specs.declared.refusal.Refusal.{Refusal}
@@ -46,7 +46,7 @@ use Rattle.rs_refusal.specs.declared.refusal.Refusal.TheVariants as refusal
 use Rattle.rs_store.specs.Bracket.{BeginsChange, ComesToRest}
 use Rattle.rs_store.specs.Changing.{HasBecome, LeavesStore}
 use Rattle.rs_store.specs.Kept.{IsAtRest, Keeps, StandsIn, StoreState}
-use Rattle.rs_store.specs.Settling.{BeginsWith, HasBegun, IsFileKept, IsFileTakenBack, IsKept, IsTakenBack, Settles}
+use Rattle.rs_store.specs.Settling.{HasBegun, IsFileKept, IsFileTakenBack, IsKept, IsTakenBack, Settles}
 use Rattle.rs_store.proofs.HeldChanges.{still_as_it_was, still_by_changes, still_taken_back}
 use Rattle.rs_store.proofs.Keeping.{flag_of, pages_back, store_over}
 use Rattle.rs_store.proofs.Same.{SameMeant, SameSays, SameState, meant_moves, same_accepted, state_moves}

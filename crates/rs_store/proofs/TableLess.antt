@@ -1,9 +1,8 @@
 -- A table that goes from a store: how the others are listed, the state that it gives, and that a file can keep the definitions then.
-use Rattle.std.proofs.Common.{◌≡◌, ◌≤◌, ◌<◌, ◌+◌, ◌==◌, ◌++◌, ◌∷◌, [], ◌∙◌, ℕ, zero, suc, Bool, List, Some, Result, Ok, Err, ap, cond, drop, false, filter, length, map, not, refl, slice_get, subst, sym, take, true, arith}
+use Rattle.std.proofs.Common.{◌≡◌, ◌≤◌, ◌<◌, ◌+◌, ◌==◌, ◌++◌, ◌∷◌, [], ◌∙◌, ℕ, zero, suc, Bool, List, Some, ap, cond, false, filter, length, map, not, refl, slice_get, subst, sym, true, arith}
 use Rattle.std.specs.FinMap as names
-use Rattle.std.specs.List.{AllZip}
 use Rattle.std.specs.Option.{option_map}
-use Rattle.std.proofs.lemmas.Bool.{eq-eqb, eqb-true, ne_eqb}
+use Rattle.std.proofs.lemmas.Bool.{eq-eqb, ne_eqb}
 use Rattle.std.proofs.lemmas.List.{length-map}
 use Rattle.std.proofs.lemmas.Option.{slice_get-map, slice_get_within}
 use Rattle.rs_catalog.specs.Changes as changes
@@ -11,13 +10,13 @@ use Rattle.rs_catalog.specs.Definitions as catalog
 use Rattle.rs_catalog.specs.Definitions.{AreDefinitions, Definitions, Numbered}
 use Rattle.rs_catalog.specs.Referents.{HeldReferents}
 use Rattle.rs_catalog.proofs.MapLaws.{before_remove}
-use Rattle.rs_catalog_pages.specs.Items.{CatalogueItems, IndexItem, TableItem}
+use Rattle.rs_catalog_pages.specs.Items.{CatalogueItems, TableItem}
 use Rattle.rs_catalog_pages.specs.Said.{said_catalogue}
 use Rattle.rs_catalog_pages.proofs.Counting.{times-cons}
 use Rattle.rs_cell_versions.specs.declared.cell.TheConstants.{LIVING}
 use Rattle.rs_disk.specs.declared.disk.Disk as disk
 use Rattle.rs_facts.specs.Fact.{Name, Names}
-use Rattle.rs_file.specs.Contents.{Contents, IsTable, TableContents, table_numbers}
+use Rattle.rs_file.specs.Contents.{Contents, IsTable, table_numbers}
 use Rattle.rs_file.specs.declared.opened.OpenedFile.{OpenedFile}
 use Rattle.rs_machine.specs.Lawful.{AreColumnsOfTable, Each, IsLawful}
 use Rattle.rs_machine.specs.State.{State}
@@ -38,7 +37,7 @@ use Rattle.rs_store.specs.Rewriting.{CanBeKept}
 use Rattle.rs_store.specs.Tabling.{TakesNamed, without_number}
 use Rattle.rs_store.proofs.Given.{place_of}
 use Rattle.rs_store.proofs.Placed.{at_place, entry_there}
-use Rattle.rs_store.proofs.Redefined.{IsLineReadable, next_lives, stands_still}
+use Rattle.rs_store.proofs.Redefined.{IsLineReadable, stands_still}
 use Rattle.rs_store.proofs.TableMore.{as_many, kept_by_state}
 
 -- ---- the others

@@ -1,5 +1,5 @@
 -- A table that comes to a store: the state that it gives, and that a file can keep the definitions then.
-use Rattle.std.proofs.Common.{◌≡◌, ◌≤◌, ◌<◌, ◌+◌, ◌^◌, ◌++◌, ◌∷◌, [], ◌∙◌, ℕ, Bool, List, Some, Result, Ok, Err, All, ap, drop, false, length, map, refl, slice_get, subst, suc, sym, take, true, arith}
+use Rattle.std.proofs.Common.{◌≡◌, ◌≤◌, ◌<◌, ◌+◌, ◌^◌, ◌++◌, ◌∷◌, [], ◌∙◌, ℕ, List, Some, Result, Ok, Err, ap, drop, false, length, refl, slice_get, subst, suc, sym, take, true, arith}
 use Rattle.std.specs.FinMap as names
 use Rattle.std.specs.List.{AllZip}
 use Rattle.std.specs.Option.{option_map}
@@ -14,7 +14,7 @@ use Rattle.rs_catalog.specs.Definitions as catalog
 use Rattle.rs_catalog.specs.Definitions.{AreDefinitions, Definitions, IsFree, Numbered}
 use Rattle.rs_catalog.specs.Referents.{HeldReferents}
 use Rattle.rs_catalog_meaning.specs.Meaning.{AreMeant}
-use Rattle.rs_catalog_pages.specs.Items.{CatalogueItems, IndexItem, TableItem, ViewItem}
+use Rattle.rs_catalog_pages.specs.Items.{CatalogueItems, TableItem, ViewItem}
 use Rattle.rs_catalog_pages.specs.Said.{said_catalogue}
 use Rattle.rs_cell_versions.specs.declared.cell.TheConstants.{LIVING}
 use Rattle.rs_change_laws.specs.Changing.{GivesState}
@@ -25,7 +25,7 @@ use Rattle.rs_facts.specs.Fact.{Name}
 use Rattle.rs_file.specs.Contents.{Contents, IsTable, TableContents, table_numbers}
 use Rattle.rs_file.specs.declared.opened.OpenedFile.{OpenedFile}
 use Rattle.rs_file_meaning.specs.States.{IsViewOf}
-use Rattle.rs_machine.specs.Lawful.{AreViewsMeant, IsLawful}
+use Rattle.rs_machine.specs.Lawful.{IsLawful}
 use Rattle.rs_machine.specs.State.{State, has}
 use Rattle.rs_machine.specs.Step as machine
 use Rattle.rs_machine.specs.declared.limits.TheConstants.{CHANGES}

@@ -1,5 +1,5 @@
 -- Tables that are listed, and their places.
-use Rattle.std.proofs.Common.{◌≡◌, ◌≤◌, ◌<◌, ◌+◌, ◌*◌, ◌∙◌, ℕ, List, [], ◌∷◌, ◌++◌, Result, Ok, Err, None, Some, ap, false, inl, inr, is_some, length, map, refl, slice_get, subst, sym, arith}
+use Rattle.std.proofs.Common.{◌≡◌, ◌≤◌, ◌+◌, ◌*◌, ◌∙◌, ℕ, List, [], ◌∷◌, ◌++◌, Result, Ok, Err, None, Some, ap, false, inl, inr, is_some, length, map, refl, slice_get, subst, sym, arith}
 use Rattle.std.specs.FinMap as names
 use Rattle.std.specs.List.{AllByRecursion}
 use Rattle.std.specs.Option.{option_map}
@@ -28,7 +28,6 @@ use Rattle.rs_machine.specs.State.{has}
 use Rattle.rs_page_owners.specs.Counts.{times}
 use Rattle.rs_pages.specs.PageMap.{PageMap}
 use Rattle.rs_refusal.specs.declared.refusal.Refusal.{Refusal}
-use Rattle.rs_store.specs.Placing.{HasNoNumber}
 use Rattle.rs_store.specs.Tabling.{HasColumnsAt, HasNumbered, HasNumberedMore}
 use Rattle.rs_stored_catalog.specs.Listing.{listed_column, listed_table, listing_of}
 use Rattle.rs_stored_catalog.specs.Relisting.{HasTableMore}

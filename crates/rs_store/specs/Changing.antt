@@ -1,5 +1,5 @@
 -- What a change makes of a store: the state of the next version, in which live versions see what they saw.
-use Rattle.std.specs.Prelude.{◌≡◌, ◌≢◌, ◌≤◌, ◌+◌, ℕ, Err, Result, MatchResult, OnErr, OnOk, Some, true, IfErr, ◌⊎◌}
+use Rattle.std.specs.Prelude.{◌≡◌, ◌≢◌, ◌≤◌, ◌+◌, ℕ, Err, Result, MatchResult, OnErr, Some, true, IfErr, ◌⊎◌}
 use Rattle.std.specs.FinMap as names
 use Rattle.rs_catalog.specs.Definitions.{Definitions, RouteItem, TableItem}
 use Rattle.rs_catalog.specs.Events.{behind}

@@ -10,7 +10,7 @@ use Rattle.rs_machine.specs.State.{fresh}
 use Rattle.rs_pager.specs.Maps.{IsTied, committed, working}
 use Rattle.rs_pager.specs.Paged.{Paged}
 use Rattle.rs_pages.specs.PageMap.{SamePages}
-use Rattle.rs_store.specs.Kept.{StandsIn, StoreState}
+use Rattle.rs_store.specs.Kept.{StandsIn}
 
 module _ {D : Type 0} (d : disk.Ghosts D) where
   -- the pages are those of an honest disk, and stand for the state at the beginning, from its first version on

@@ -1,5 +1,5 @@
 -- What came into memory and was refused by the file is out of it again.
-use Rattle.std.proofs.Common.{◌≡◌, ◌≤◌, ◌+◌, ◌∙◌, List, refl, Result, ap, inl, subst, sym}
+use Rattle.std.proofs.Common.{◌≡◌, ◌≤◌, ◌+◌, ◌∙◌, List, refl, ap, inl, subst, sym}
 use Rattle.std.proofs.lemmas.Result.{err_from_is_err_and}
 use Rattle.std.specs.List.{AllByRecursion}
 use Rattle.rs_catalog.specs.Changes as changes

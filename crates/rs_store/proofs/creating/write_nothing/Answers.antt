@@ -1,5 +1,5 @@
 -- What was committed is on the disk, and says that there are no definitions.
-use Rattle.std.proofs.Common.{◌≡◌, ◌∙◌, IsTrue, ap, arith, length, refl, subst, sym}
+use Rattle.std.proofs.Common.{◌∙◌, refl, subst, sym}
 use Rattle.rs_file.specs.Contents.{HoldsAll}
 use Rattle.rs_file.specs.Creating.{no_contents}
 use Rattle.rs_file.proofs.Loaded.{same_map}

@@ -8,7 +8,7 @@ use Rattle.rs_catalog_pages.specs.declared.items.StoredView.{StoredView}
 use Rattle.rs_facts.specs.Insert.{same_name}
 use Rattle.rs_store.proofs.Listed.{listed_without, seen_passing}
 use Rattle.rs_store.proofs.defining.definitions_without_view.Goals as goal
-use Rattle.rs_stored_catalog.specs.Listing.{listed_view, listing_of}
+use Rattle.rs_stored_catalog.specs.Listing.{listed_view}
 
 pub returns : goal.returns
 returns c =

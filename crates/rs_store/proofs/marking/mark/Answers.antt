@@ -1,5 +1,5 @@
 -- The mark stands already, or is written now.
-use Rattle.std.proofs.Common.{◌≡◌, Err, Ok, refl, true}
+use Rattle.std.proofs.Common.{Err, Ok, refl, true}
 use Rattle.std.proofs.lemmas.Result.{err_from_is_err_and}
 use Rattle.rs_store.proofs.Begun.{marked_before, marks_now}
 use Rattle.rs_store.proofs.marking.mark.Goals as goal

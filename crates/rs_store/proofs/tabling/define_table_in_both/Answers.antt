@@ -1,5 +1,5 @@
 -- The table goes into memory, and then into the file or out of memory again.
-use Rattle.std.proofs.Common.{◌≡◌, ◌≤◌, ◌+◌, ◌∙◌, ℕ, ap, inl, map, refl, subst, sym}
+use Rattle.std.proofs.Common.{◌≡◌, ◌≤◌, ◌+◌, ◌∙◌, ℕ, inl, map, refl, subst, sym}
 use Rattle.std.proofs.lemmas.Result.{err_from_is_err_and}
 use Rattle.std.specs.List.{AllByRecursion}
 use Rattle.rs_catalog.specs.Changes as changes
@@ -9,7 +9,7 @@ use Rattle.rs_catalog_pages.specs.Items.{RouteItem}
 use Rattle.rs_catalog_pages.specs.Said.{said_catalogue}
 use Rattle.rs_refusal.specs.declared.refusal.Refusal.TheVariants as refusal
 use Rattle.rs_store.specs.Rewriting.{Rewrites}
-use Rattle.rs_store.specs.Tabling.{HasNumberedMore, PutsNumbered}
+use Rattle.rs_store.specs.Tabling.{PutsNumbered}
 use Rattle.rs_stored_catalog.specs.Listing.{listing_of}
 use Rattle.rs_store.proofs.Redefined.{err_never, ok_never}
 use Rattle.rs_store.proofs.Results.{err_always, ok_always}

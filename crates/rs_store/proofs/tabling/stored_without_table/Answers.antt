@@ -1,5 +1,5 @@
 -- What is kept of both lists is what has another number.
-use Rattle.std.proofs.Common.{◌≡◌, ◌==◌, ◌∙◌, List, ap, filter, map, not, rules}
+use Rattle.std.proofs.Common.{◌≡◌, ◌==◌, ◌∙◌, ap, filter, map, not, rules}
 use Rattle.std.proofs.lemmas.Fn.{filter_same}
 use Rattle.rs_catalog_pages.specs.Items.{IndexItem, TableItem}
 use Rattle.rs_catalog_pages.specs.Said.{said_alignment, said_index, said_route, said_table, said_view}

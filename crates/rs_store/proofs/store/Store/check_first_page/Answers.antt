@@ -1,5 +1,5 @@
 -- Nothing changes, and a disk that has all that was written is not found damaged.
-use Rattle.std.proofs.Common.{◌≡◌, ◌∙◌, ℕ, Err, ap, subst, sym}
+use Rattle.std.proofs.Common.{◌≡◌, ◌∙◌, ℕ, Err, ap, subst}
 use Rattle.rs_disk.specs.Content.{Content}
 use Rattle.rs_machine.specs.State.{State}
 use Rattle.rs_page.specs.declared.file_header.TheConstants.{FLAG_OFFSET}

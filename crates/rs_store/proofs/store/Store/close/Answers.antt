@@ -1,6 +1,5 @@
 -- The disk of a store that was put away.
-use Rattle.std.proofs.Common.{◌≡◌, ◌∙◌, ℕ, true, ap, subst, sym}
-use Rattle.rs_machine.specs.State.{State}
+use Rattle.std.proofs.Common.{◌∙◌, ℕ, ap, subst, sym}
 use Rattle.rs_store.specs.Standing.{Stands}
 use Rattle.rs_store.proofs.store.Store.close.Goals as goal
 

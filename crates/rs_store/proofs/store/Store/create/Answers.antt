@@ -1,5 +1,5 @@
 -- The store over the pages that were made.
-use Rattle.std.proofs.Common.{◌≡◌, Ok, subst, sym}
+use Rattle.std.proofs.Common.{Ok, subst, sym}
 use Rattle.rs_store.specs.Calls.{Creates}
 use Rattle.rs_store.specs.Kept.{StoreState}
 use Rattle.rs_store.proofs.store.Store.create.Goals as goal

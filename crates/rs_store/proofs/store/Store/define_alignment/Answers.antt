@@ -1,5 +1,5 @@
 -- The alignment is in the file and in memory, and so it is in the state.
-use Rattle.std.proofs.Common.{◌≡◌, ◌<◌, ◌∙◌, ℕ, Err, List, Ok, ap, false, refl, subst, sym}
+use Rattle.std.proofs.Common.{◌≡◌, ◌<◌, ◌∙◌, ℕ, Err, List, Ok, ap, refl, subst, sym}
 use Rattle.rs_catalog.proofs.DefinitionLaws.{are_definitions-tried}
 use Rattle.rs_catalog.specs.Changes as changes
 use Rattle.rs_catalog.specs.Definitions.{AreDefinitions, Definitions, pieces_of, routes_of}

@@ -1,5 +1,5 @@
 -- The index is in the file and in memory, and so it is in the state.
-use Rattle.std.proofs.Common.{◌≡◌, ◌<◌, ◌∙◌, ℕ, Err, ap, false, is_some, refl, subst, sym}
+use Rattle.std.proofs.Common.{◌≡◌, ◌<◌, ◌∙◌, ℕ, Err, ap, is_some, refl, subst, sym}
 use Rattle.rs_catalog.specs.Changes as changes
 use Rattle.rs_catalog.specs.Definitions.{AreDefinitions, Definitions, IndexItem, IsColumnOf}
 use Rattle.rs_catalog.specs.Referents.{referents_on}

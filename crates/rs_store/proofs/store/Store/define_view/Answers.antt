@@ -1,5 +1,5 @@
 -- The view is in the file and in memory, and so it is in the state.
-use Rattle.std.proofs.Common.{◌≡◌, ◌<◌, ◌∙◌, ℕ, Err, ap, false, refl, string_bytes, subst, sym}
+use Rattle.std.proofs.Common.{◌≡◌, ◌<◌, ◌∙◌, ℕ, Err, ap, refl, string_bytes, subst, sym}
 use Rattle.rs_catalog.specs.Changes as changes
 use Rattle.rs_catalog.specs.Definitions.{Definitions}
 use Rattle.rs_catalog.specs.Referents.{referents_on}

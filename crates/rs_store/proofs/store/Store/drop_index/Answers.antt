@@ -1,5 +1,5 @@
 -- The index is neither in the file nor in memory, and so it is not in the state.
-use Rattle.std.proofs.Common.{◌≡◌, ◌<◌, ◌∙◌, ℕ, Err, Some, ap, refl, slice_get, subst, sym, true}
+use Rattle.std.proofs.Common.{◌≡◌, ◌<◌, ◌∙◌, ℕ, Err, Some, ap, refl, slice_get, subst, sym}
 use Rattle.rs_catalog.specs.Changes as changes
 use Rattle.rs_catalog.specs.Definitions.{Definitions, IndexItem}
 use Rattle.rs_catalog.specs.Referents.{referents_on}

@@ -1,5 +1,5 @@
 -- The referent ends by a change of the file and of memory, which is kept or taken back.
-use Rattle.std.proofs.Common.{◌≡◌, ◌≤◌, ◌<◌, ◌+◌, ◌∙◌, ℕ, Err, Result, Some, ap, refl, subst, sym, true}
+use Rattle.std.proofs.Common.{◌≡◌, ◌<◌, ◌∙◌, ℕ, Err, subst, sym, true}
 use Rattle.rs_catalog.specs.Referents.{at_number, referents_on}
 use Rattle.rs_change_laws.specs.Changing.{ChangesFile}
 use Rattle.rs_change_laws.specs.Parts.{EndsReferent}
@@ -18,7 +18,6 @@ use Rattle.rs_store.specs.Kept.{StoreState}
 use Rattle.rs_store.specs.Settling.{HasBegun}
 use Rattle.std.proofs.lemmas.Result.{err_from_is_err_and}
 use Rattle.std.specs.FinMap as names
-use Rattle.std.specs.Prelude.{OnOk}
 use Rattle.rs_store.proofs.store.Store.drop_referent.Given.{Over}
 use Rattle.rs_store.proofs.store.Store.drop_referent.Goals as goal
 

@@ -1,5 +1,5 @@
 -- The route is neither in the file nor in memory, and so it is not in the state.
-use Rattle.std.proofs.Common.{◌≡◌, ◌<◌, ◌+◌, ◌∙◌, ℕ, Err, Some, ap, false, refl, subst, sym, true}
+use Rattle.std.proofs.Common.{◌≡◌, ◌<◌, ◌+◌, ◌∙◌, Err, Some, ap, false, subst, sym}
 use Rattle.rs_catalog.specs.Changes as changes
 use Rattle.rs_catalog.specs.Definitions.{Definitions, RouteItem}
 use Rattle.rs_catalog.specs.Uses.{some_piece_on}

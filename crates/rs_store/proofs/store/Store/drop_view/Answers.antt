@@ -1,5 +1,5 @@
 -- The view is neither in the file nor in memory, and so it is not in the state.
-use Rattle.std.proofs.Common.{◌≡◌, ◌<◌, ◌∙◌, ℕ, Err, Some, ap, refl, subst, sym, true}
+use Rattle.std.proofs.Common.{◌≡◌, ◌<◌, ◌∙◌, ℕ, Err, Some, ap, refl, subst, sym}
 use Rattle.rs_catalog.specs.Changes as changes
 use Rattle.rs_catalog.specs.Definitions.{Definitions, ViewItem}
 use Rattle.rs_catalog.specs.Referents.{referents_on}

@@ -1,8 +1,7 @@
 -- What was saved stays, and the disk is closed.
-use Rattle.std.proofs.Common.{◌≡◌, ◌∙◌, ℕ, true, false, subst, sym, ap}
+use Rattle.std.proofs.Common.{◌≡◌, ℕ, false, subst, sym}
 use Rattle.std.proofs.lemmas.Bool.{false≢true}
 use Rattle.std.proofs.lemmas.Result.{on_ok_weaker}
-use Rattle.rs_machine.specs.State.{State}
 use Rattle.rs_page.specs.declared.file_header.TheConstants.{FLAG_OFFSET}
 use Rattle.rs_store.specs.Standing.{IsFileOf}
 use Rattle.rs_store.specs.Calls.{KeepsStore}

@@ -1,17 +1,15 @@
 -- What is read is what was kept.
-use Rattle.std.proofs.Common.{◌≡◌, ◌∙◌, ℕ, Ok, Err, List, Bool, IsTrue, ap, refl, subst, sym}
+use Rattle.std.proofs.Common.{◌∙◌, Ok, Err, ap, subst}
 use Rattle.std.proofs.lemmas.Result.{err_from_is_err_and}
 use Rattle.rs_disk.specs.Content.{Content}
 use Rattle.rs_file.specs.Contents.{Contents}
-use Rattle.rs_machine.specs.State.{State}
 use Rattle.rs_page.specs.declared.file_header.TheConstants.{FLAG_OFFSET}
 use Rattle.rs_pager.specs.Maps.{KeepsChanges}
 use Rattle.rs_pager.specs.Paged.{Paged}
-use Rattle.rs_refusal.specs.declared.refusal.Refusal.TheVariants as refusal
-use Rattle.rs_store.specs.Calls.{KeepsSame, KeepsStore, Reopens}
-use Rattle.rs_store.specs.Kept.{Keeps, StandsIn, StoreState}
+use Rattle.rs_store.specs.Calls.{KeepsSame, Reopens}
+use Rattle.rs_store.specs.Kept.{Keeps, StoreState}
 use Rattle.rs_store.proofs.HeldChanges.{changes-trans, changes_by_forgetting, changes_by_reading, still_by_changes}
-use Rattle.rs_store.proofs.Keeping.{flag_of, keeps_anew, keeps_by_moves, keeps_store-trans, moves-trans, moves_by_maps, moves_by_reading, not_none, reopens_err, reopens_after, stands_anew, stands_kept, store_over}
+use Rattle.rs_store.proofs.Keeping.{flag_of, keeps_anew, keeps_by_moves, keeps_store-trans, moves_by_maps, moves_by_reading, not_none, reopens_err, reopens_after, stands_anew, stands_kept, store_over}
 use Rattle.rs_store.proofs.store.Store.read_anew.Goals as goal
 
 pub returns-in_err-file-clause-reopens : goal.returns-in_err-file-clause-reopens

@@ -1,9 +1,7 @@
 -- The disk is marked, and then all is written.
-use Rattle.std.proofs.Common.{◌≡◌, ◌∙◌, ℕ, IsTrue, Err, true, refl, subst, sym, ap}
+use Rattle.std.proofs.Common.{◌∙◌, refl, subst}
 use Rattle.std.proofs.lemmas.Result.{on_ok_weaker}
-use Rattle.rs_machine.specs.State.{State}
 use Rattle.rs_page.specs.declared.file_header.TheConstants.{FLAG_OFFSET}
-use Rattle.rs_pager.specs.Maps.{KeepsChanges}
 use Rattle.rs_pager.specs.Opened.{WritesAll}
 use Rattle.rs_store.specs.Calls.{KeepsStore, Saves}
 use Rattle.rs_store.specs.Changing.{StillHolds}
