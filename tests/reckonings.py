@@ -12,7 +12,7 @@ from harness import expect
 from prepared import client_of, lines_run, measure, seconds
 from roadseg import pairing, reckoning
 
-ROUTES = ("R1", "R2", "R3")
+ROUTES = ("SR1", "SR2", "SR3")
 END = 40  # thousandths
 ROUNDS = 60
 
@@ -83,7 +83,7 @@ def averages_are_those_of_all_thousandths(_program):
                 wanted = [slow_summary(group, [row for row in rows if key(row) == group], weight == reckoning.ROW) for group in slow_groups(rows, key)]
                 got = reckoning.summaries(rows, group_place + 1, by, weight)
                 expect("summaries of %r" % (rows,), [tuple(one) for one in got], wanted)
-    rows = [("R1", D("0.000"), D("1.000"), "b"), ("R1", D("1.000"), D("3.000"), "a"), ("R1", D("3.000"), D("4.000"), None)]
+    rows = [("SR1", D("0.000"), D("1.000"), "b"), ("SR1", D("1.000"), D("3.000"), "a"), ("SR1", D("3.000"), D("4.000"), None)]
     expect("of texts", reckoning.summaries(rows, 3), [((), 2, D("3.000"), None, "a", "b")])
     expect_error(ValueError, reckoning.summaries, rows, 3, (), "weight")
 
@@ -195,7 +195,7 @@ def quantiles_are_those_of_all_thousandths(_program):
             wanted.append(values[0] if values else None)
         expect("quantiles of %r" % (rows,), reckoning.quantiles(rows, last, parts), wanted)
     for part in (-0.1, 1.1, 2):
-        expect_error(ValueError, reckoning.quantiles, [("R1", D("0.000"), 1)], 2, [part])
+        expect_error(ValueError, reckoning.quantiles, [("SR1", D("0.000"), 1)], 2, [part])
 
 
 # Of two answers.
