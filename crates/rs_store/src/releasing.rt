@@ -20,8 +20,9 @@ use std::alloc::Global;
 
 impl<D: Disk> Store<D> {
     /// Clears records that no version from `oldest` on sees, 64 of them or all where they are fewer, and answers how many went; where
-    /// none is dead nothing is begun. The store stands in the state in which it stood, at the same version, and versions from `oldest` on see what they saw. It is refused
-    /// with 90, with 91, and with 94 only where the disk does not give back what was written. A refusal changes nothing.
+    /// none is dead nothing is begun. The store stands in the state in which it stood, at the same version, and versions from `oldest`
+    /// on see what they saw. It is refused with 90, with 91, and with 94 only where the disk does not give back what was written. A
+    /// refusal changes nothing.
     pub fn release(&mut self, alloc: Global, oldest: u64) -> Result<u64, Refusal>
         ensures leaves { LeavesReleased D.Disk result self.old self.new }
         ensures releases { (from : ℕ) (state : State) (stands : StandsIn D.Disk from self.old state) → from ≤ oldest → oldest ≤ self.old.file.accepted
