@@ -158,10 +158,10 @@ def pip_installs_the_package_without_a_network(program):
         environment = {**os.environ, "PYTHONPATH": folder}
         done = subprocess.run([python, "-c", ASKED, program.path], capture_output=True, cwd=folder, env=environment, timeout=PATIENCE)
         expect("what is asked of it", (done.returncode, done.stderr, done.stdout.decode()), (0, b"", ANSWERED))
-        for name in ("py.typed", "__main__.py", "diagram.py", "labels.py"):
+        for name in ("py.typed", "__main__.py", "diagram.py", "labels.py", "page.html", "page.css", "page_rows.js", "page_view.js"):
             expect(name, os.path.exists(os.path.join(folder, "roadseg", name)), True)
         scripts = sorted(name for name in os.listdir(os.path.join(folder, "bin")) if name.startswith("roadseg"))
-        expect("scripts", scripts, ["roadseg-diagram", "roadseg-prompt"])
+        expect("scripts", scripts, ["roadseg-diagram", "roadseg-page", "roadseg-prompt"])
         shutil.rmtree(folder)
     left = sorted(set(os.listdir(source)) - set(os.listdir(CLIENTS)) - {"__pycache__"})
     expect("what is left in the source", left, [])

@@ -1,5 +1,5 @@
 #!/usr/bin/env python3
-"""Tries the package in Python, its prompt, the diagrams that are drawn with it, and the scripts of the documents that use them.
+"""Tries the package in Python, its prompt, the diagrams and pages that it makes, and the scripts of the documents that use them.
 
     clients.py [--program PATH] [--jobs N] [--speed] [TEST ..]
 
@@ -33,6 +33,8 @@ from diagrams import DIAGRAM_TESTS
 from document_scripts import DOCUMENT_TESTS
 from files_and_peers import LONGEST, NOT_OPENED, Program, put, serving
 from harness import expect, run_tests
+from page_browser import BROWSER_TESTS, PAGE_SPEED_TESTS
+from pages import PAGE_TESTS
 from programs import PROGRAM
 from prompts import PROMPT_TESTS
 from reckonings import COST_TESTS, RECKONING_TESTS
@@ -276,10 +278,12 @@ TESTS = [
     a_server_is_asked_over_the_network,
     an_error_of_the_caller_closes_the_cursors,
     *DIAGRAM_TESTS,
+    *PAGE_TESTS,
+    *BROWSER_TESTS,
     *DOCUMENT_TESTS,
 ]
 
 
 if __name__ == "__main__":
     said = "Tries the client in Python and its diagrams against the program."
-    sys.exit(run_tests(said, TESTS, Program, PROGRAM, [roadseg.Error], [*SPEED_TESTS, *COST_TESTS]))
+    sys.exit(run_tests(said, TESTS, Program, PROGRAM, [roadseg.Error], [*SPEED_TESTS, *COST_TESTS, *PAGE_SPEED_TESTS]))

@@ -22,6 +22,8 @@ from harness import Wrong, expect
 
 import diagram  # of the clients, whose folder client_parts names
 import labels
+from prepared import seconds
+from roadseg import colours, elements, picture
 
 SVG = "{http://www.w3.org/2000/svg}"
 
@@ -126,7 +128,7 @@ def expect_readable(read):
         expect("whether %.60r is within the picture" % name, inside, True)
     for line in read.lines:
         x1, y1, x2, y2 = (float(line.get(name)) for name in ("x1", "y1", "x2", "y2"))
-        if line.get("stroke-dasharray") or line.get("stroke") == diagram.GRID:
+        if line.get("stroke-dasharray") or line.get("stroke") == elements.GRID:
             continue
         for name, box in texts:
             if box.overlaps(Box(min(x1, x2) - 0.1, y1 + 0.1, max(x1, x2) + 0.1, max(y2 - 2, y1 + 0.2))):
@@ -310,7 +312,7 @@ def texts_are_escaped(_program):
         expect("titles", [title_of(span) for span in read.spans].count(title), 1)
     expect("the picture's title", title_of(read.root), "R, 0.000 to 9.000 <miles> & \ufffd")
     tags = {element.tag.removeprefix(SVG) for element in read.root.iter()}
-    expect("elements", tags, {"svg", "title", "rect", "line", "polygon", "g", "text"})
+    expect("elements", tags, {"svg", "title", "defs", "pattern", "path", "rect", "line", "polygon", "g", "text"})
     expect("how blanks are kept", read.root.get("{http://www.w3.org/XML/1998/namespace}space"), "preserve")
 
 
@@ -341,33 +343,152 @@ def seen(colour, eye):
     return 116 * y - 16, 500 * (x - y), 200 * (y - z)
 
 
+def contrast(one, other):
+    light = sorted(sum(map(float.__mul__, (0.2126, 0.7152, 0.0722), light_of(colour))) + 0.05 for colour in (one, other))
+    return light[1] / light[0]
+
+
 def colours_are_told_apart_by_every_eye(_program):
-    colours = (*diagram.COLOURS, diagram.GREY)
-    for eye in EYES:
-        for one, other in itertools.combinations(colours, 2):
+    for many in ((*colours.COLOURS, colours.GREY), (*colours.COLOURS, colours.UNKNOWN), colours.STEPS):
+        for eye, (one, other) in itertools.product(EYES, itertools.combinations(many, 2)):
             distance = math.dist(seen(one, eye), seen(other, eye))
             expect("whether an eye with %s tells %s from %s (%.1f)" % (eye, one, other, distance), distance >= 17, True)
-    for colour in colours:
-        light = [sum(map(float.__mul__, (0.2126, 0.7152, 0.0722), light_of(one))) + 0.05 for one in (colour, diagram.INK)]
-        expect("whether black is read on %s (%.1f)" % (colour, light[0] / light[1]), light[0] / light[1] >= 4.5, True)
-    expect("how many marks differ", len({*diagram.SHAPES, diagram.OTHER_SHAPE}), len(colours))
+    classes = [one.style for one in colours.Scheme(range(6)).classes]
+    styles = [*colours.STYLES, colours.OTHER, colours.NONE, *classes]
+    for style in styles:
+        found = contrast(style.fill, style.ink)
+        expect("whether letters are read on %s (%.1f)" % (style.fill, found), found >= 4.5, True)
+    for what in ("hatch", "shape"):
+        told = {(style.fill, getattr(style, what)) for style in styles}
+        expect("styles told apart by colour and %s" % what, len(told), len(styles))
+    expect("hatches and shapes", (len({*elements.HATCHES}), len({*elements.SHAPES})), (8, 8))
+    expect("steps from light to dark", sorted(colours.STEPS, key=lambda one: -seen(one, "all cones")[0]), list(colours.STEPS))
 
 
 def colours_stand_for_values(_program):
-    rows = [("R", measure(k * 1_000), measure(k * 1_000 + 1_000), name, k) for k, name in enumerate("abacb")]
-    read = Read(diagram.draw("R", 0, 5_000, [diagram.Band("By name", rows, 1), diagram.Band("By all", rows)]))
+    rows = [("R", measure(k * 1_000), measure(k * 1_000 + 1_000), name, k) for k, name in enumerate("dbdcb")]
+    scheme = colours.Scheme("abcd")
+    bands = [diagram.Band("By name", rows, 1, scheme), diagram.Band("By number", rows, 2), diagram.Band("As it is", rows)]
+    read = Read(diagram.draw("R", 0, 5_000, bands))
     fills = [span.get("fill") for span in read.spans]
-    expect("by a column", [fills[:5].index(fill) for fill in fills[:5]], [0, 1, 0, 3, 1])
-    expect("by all", len(set(fills[5:])), 5)
-    expect("the legend", [read.has(text) for text in ("a", "b", "c", "a, 0", "b, 4", "d")], [True] * 5 + [False])
-    wide = (3, 5, 8, 9, 12, 13, 17)
-    many = [("R", measure(10 * k), measure(10 * k + (5 if k in wide else 4)), k) for k in range(20)]
-    read = Read(diagram.draw("R", 0, 200, [diagram.Band("Many", many)]))
-    coloured = [int(title_of(span).split(": ")[1]) for span in read.spans if span.get("fill") != diagram.GREY]
-    expect("values of most length", coloured, list(wide))
-    expect("the others in the legend", read.has("13 other values"), True)
+    wanted = [colours.COLOURS[k] for k in (3, 1, 3, 2, 1)]
+    expect("by the values of the whole column", fills[:5], wanted)
+    expect("by numbers", fills[5:10], [colours.STEPS[k] for k in (0, 1, 2, 3, 5)])
+    expect("by the first of what is there", fills[10:], [colours.COLOURS[k] for k in (2, 0, 2, 1, 0)])
+    expect("the legend", [read.has(text) for text in ("b", "c", "d", "0", "4", "a", "7")], [True] * 5 + [False] * 2)
     for column in (0, 3):
         expect_error(ValueError, diagram.draw, "R", 0, 5_000, [diagram.Band("By none", rows, column)])
+    none = Read(diagram.draw("R", 0, 5_000, [diagram.Band("None", [row[:3] for row in rows])]))
+    expect("rows without values", ({span.get("fill") for span in none.spans}, none.has("a row")), ({colours.GREY}, True))
+
+
+def hatches_tell_many_values_apart(_program):
+    values = ["V%02d" % k for k in range(60)]
+    rows = [("R", measure(k * 100), measure(k * 100 + 100), value) for k, value in enumerate([*values, None])]
+    read = Read(diagram.draw("R", 0, 6_100, [diagram.Band("Many", rows)], (), "", 2_400))
+    fills = [span.get("fill") for span in read.spans]
+    expect("fills", len(set(fills[:49])), 49)
+    expect("those without a hatch", fills[:7], list(colours.COLOURS))
+    expect("what has none of its own", set(fills[49:60]), {colours.GREY})
+    expect("in the legend", (read.has("11 other values"), read.has("NULL")), (True, True))
+    named = {"url(#%s)" % pattern.get("id") for pattern in read.root.iter(SVG + "pattern")}
+    expect("the hatches that are there", named, {fill for fill in fills if fill.startswith("url")})
+    plates = [rect for rect in read.root.iter(SVG + "rect") if rect.get("height") == "14"]
+    expect("plain grounds of labels on hatches", len(plates), len(read.labels_like("V[0-9]+")) - 18)
+
+
+def numbers_have_classes(_program):
+    for numbers, wanted in (
+        ([5], ["5"]),
+        ([2, 4], ["2", "4"]),
+        ([-3, 0, 1, 2, 3, 9], ["-3", "0", "1", "2", "3", "9"]),
+        (range(1950, 2020), ["1950 to 1959", "1960 to 1979", "1980 to 1999", "2000 to 2019"]),
+        (range(7), ["0 to 1", "2 to 3", "4 to 5", "6"]),
+        ([1, 2, 3, 4, 5, 6, 7, 8, 9, 10, 11, 100_000], ["1 to 2", "3 to 4", "5 to 6", "7 to 8", "9 to 10", "11 to 100000"]),
+        ([-(2**63), *range(6), 2**63 - 1], None),
+    ):
+        scheme = colours.Scheme([*numbers, None])
+        legend = scheme.legend([*numbers, None])
+        expect("the last of the legend", legend[-1], ("NULL", colours.NONE))
+        if wanted is not None:
+            expect("classes", [entry.text for entry in legend[:-1]], wanted)
+        expect("styles", len({entry.style for entry in legend}), len(legend))
+        for number in numbers:
+            [one] = [one for one in scheme.classes if one.least <= number <= one.greatest]
+            expect("the class of %d" % number, scheme.entry(number), (colours.class_text(one), one.style))
+
+
+def colours_may_be_given(program):
+    given = colours.given_colours(["surface:asphalt=#4477aa", "lanes:2=#00FF00", "surface:a=b:c=#000000"])
+    expect("as words", given, {"surface": {"asphalt": "#4477AA", "a=b:c": "#000000"}, "lanes": {"2": "#00FF00"}})
+    for word in ("surface", "surface:asphalt", "surface:asphalt=blue", "surface:asphalt=#12345", ":a=#123456", "a b:c=#123456"):
+        expect_error(ValueError, colours.given_colours, [word])
+    scheme = colours.Scheme([1, 2, 3], given["lanes"])
+    expect("of numbers", [scheme.style(k).fill for k in (1, 2, 3)], [colours.STEPS[0], "#00FF00", colours.STEPS[5]])
+    with network(program) as road:
+        questions = [diagram.Question("Pavement", "pavement")]
+        palette = colours.Palette(road, {"surface": given["surface"]})
+        read = Read(diagram.diagram(road, "US40", questions, palette=palette))
+        expect("in a picture", [span.get("fill") for span in read.spans], [colours.COLOURS[1]] * 2 + ["#4477AA"])
+        expect_error(ValueError, colours.Palette, road, given)
+
+
+def colours_are_the_same_in_every_picture(program):
+    """By the values of the whole column, whatever the route, the query and the name that it gives to the column."""
+    queries = ("pavement", "RENAME(pavement, surface TO s2)", "OVERLAY(traffic, pavement)", "WHERE(pavement, surface = 'concrete')", "seen")
+    with network(program) as road:
+        road.execute("DEFINE VIEW seen AS OVERLAY(RENAME(pavement, surface TO s), speed)")
+        road.execute("DEFINE LINE TABLE survey (surface TEXT(20), year TEXT(4))")
+        road.execute("INSERT INTO survey ON US40 FROM 102.5 TO 103 VALUES ('brick', '1987')")
+        wanted = dict(zip(("asphalt", "brick", "concrete"), colours.COLOURS))
+        for route, query in itertools.product(("SR12", "US40", "I95"), queries):
+            column = 2 if query.startswith("OVERLAY") else 1
+            read = Read(diagram.diagram(road, route, [diagram.Question("Q", query, column)]))
+            for span in read.spans:
+                surface = re.search("'([a-z]+)'", title_of(span))[1]
+                expect("%s of %s by %s" % (surface, route, query), span.get("fill"), wanted[surface])
+        origins = [colours.origins_of(query, road.schema()) for query in ("seen", "OVERLAY(none, pavement)")]
+        expect("what colours go by", origins, [["surface", "year", "mph"], None])
+        told = [span.get("fill") for span in Read(diagram.diagram(road, "US40", [diagram.Question("Q", "survey", 2)])).spans]
+        expect("a text that looks like a number", told, [colours.COLOURS[0]])
+
+
+def a_picture_of_a_server_has_the_same_colours(program):
+    """Where nothing is known of what is defined, the whole answers tell the values."""
+    with network(program) as road:
+        questions = [diagram.Question("Pavement", "pavement"), diagram.Question("Crashes", "crashes", 2)]
+        wanted = [diagram.diagram(road, route, questions) for route in ("SR12", "I95")]
+        road._schema = roadseg.Schema()
+        expect("pictures", [diagram.diagram(road, route, questions) for route in ("SR12", "I95")], wanted)
+
+
+def a_leader_goes_to_each_label_that_is_wider_than_its_span(_program):
+    read = Read(crowded())
+    boxes = [(title_of(span), box_of_rect(span)) for span in read.spans]
+    outside = 0
+    for text in read.labels_like(r"WZ\d+|\d{4}|[a-z ]+, (\d+|NULL)"):
+        for one in (one for one in read.texts if one.text == text):
+            box = box_of_text(one)
+            if any(span.left <= box.left and box.right <= span.right and span.top < box.top < span.bottom for _title, span in boxes):
+                continue
+            lines = [line for line in read.lines if abs(float(line.get("y2")) - (float(one.get("y")) - 9)) < 0.02]
+            lines = [float(line.get("x1")) for line in lines if float(line.get("y2")) - float(line.get("y1")) >= picture.LEADER]
+            own = [x for x in lines if box.left - 4 <= x <= box.right + 4]
+            if not own and float(one.get("y")) > 860:
+                continue  # of the legend
+            expect("leaders to %s" % text, len(own), 1)
+            spans = [title for title, span in boxes if span.left - 1 <= own[0] <= span.right + 1 and span.bottom < box.top + 40]
+            value = text.split(", ")[0]
+            expect("whether the leader to %s is at its span" % text, any(value in title for title in spans), True)
+            outside += 1
+    expect("labels outside of spans", outside > 100, True)
+
+
+def long_titles_are_cut_at_once(_program):
+    title = "A band of 5,000 letters, " * 200
+    took, svg = seconds(lambda: diagram.draw(title, 0, 1_000, [diagram.Band(title, [("R", D("0.000"), D("1.000"), title)])]))
+    expect("whether %.3f seconds are few" % took, took <= 0.1, True)
+    expect("the heading", max(len(text.text) for text in Read(svg).texts if text.get("font-size") == "18") < 150, True)
 
 
 DRAW_AGAIN = "import sys; sys.path[:0] = sys.argv[1:]; import diagrams; sys.stdout.buffer.write(diagrams.crowded().encode())"
@@ -452,6 +573,13 @@ DIAGRAM_TESTS = [
     texts_are_escaped,
     colours_are_told_apart_by_every_eye,
     colours_stand_for_values,
+    hatches_tell_many_values_apart,
+    numbers_have_classes,
+    colours_may_be_given,
+    colours_are_the_same_in_every_picture,
+    a_picture_of_a_server_has_the_same_colours,
+    a_leader_goes_to_each_label_that_is_wider_than_its_span,
+    long_titles_are_cut_at_once,
     a_picture_is_the_same_each_time,
     referents_of_a_route_are_found,
     a_route_is_asked_for_and_drawn,

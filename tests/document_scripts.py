@@ -19,6 +19,8 @@ README = os.path.join(ROOT, "README.md")
 PACKAGE = os.path.join(CLIENTS, "README.md")
 ASKED = "How is the inventory asked from Python?"
 DRAWN = "How is a diagram of a road drawn?"
+LOOKED_AT = "How is a network looked at in a browser?"
+PAGED = "How does an office's CSV become a page to look at?"
 FROM_CSV = "How do two CSV files become a payment table and a diagram?"
 BY_SHELL = "How does a CSV become a table, and that a payment table, in the shell?"
 AS_TEXT = "How is the inventory kept as plain text, and what changed between two days?"
@@ -131,6 +133,23 @@ def diagrams_are_drawn_as_they_are_kept(program):
             raise Wrong("examples/%s is drawn otherwise" % name)
 
 
+def a_page_is_made_as_it_is_kept(program):
+    prepare(program)
+    expect("scripts", run_section(program, COOKBOOK, LOOKED_AT), 1)
+    if bytes_at(program.file("roads.html")) != bytes_at(os.path.join(ROOT, "examples", "roads.html")):
+        raise Wrong("examples/roads.html is made otherwise")
+
+
+def csv_becomes_a_page_in_five_commands(program):
+    prepare(program)
+    expect("scripts", run_section(program, COOKBOOK, PAGED), 1)
+    [block] = [one for one in blocks_of(COOKBOOK, PAGED) if one.language == "sh"]
+    expect("commands, and the one that shows the page", len(block.text.splitlines()) + 1, 5)
+    made = bytes_at(program.file("office.html"))
+    expect("what the page has", (b'"title":"Not mowed"' in made, made.count(b'["SR12",0,14250,')), (True, 1))
+    expect("whether all was taken", b"ERR" in bytes_at(program.file("replies")), False)
+
+
 def two_csv_files_become_a_payment_table_and_a_diagram(program):
     prepare(program)
     expect("scripts", run_section(program, COOKBOOK, FROM_CSV), 1)
@@ -186,7 +205,7 @@ def each_script_of_the_cookbook_is_run(_program):
     with open(COOKBOOK, encoding="utf-8") as file:
         headings = [line[3:].rstrip("\n") for line in file if line.startswith("## ")]
     with_scripts = [one for one in headings if any(block.language in ("python", "sh") for block in blocks_of(COOKBOOK, one))]
-    run = {ASKED, DRAWN, FROM_CSV, BY_SHELL, AS_TEXT, KEPT, BACKED_UP, LONGER, REFUSED, NETWORKED}
+    run = {ASKED, DRAWN, LOOKED_AT, PAGED, FROM_CSV, BY_SHELL, AS_TEXT, KEPT, BACKED_UP, LONGER, REFUSED, NETWORKED}
     expect("sections with scripts", set(with_scripts), run)
 
 
@@ -196,6 +215,8 @@ DOCUMENT_TESTS = [
     each_script_of_the_cookbook_is_run,
     the_inventory_is_asked_from_python,
     diagrams_are_drawn_as_they_are_kept,
+    a_page_is_made_as_it_is_kept,
+    csv_becomes_a_page_in_five_commands,
     two_csv_files_become_a_payment_table_and_a_diagram,
     csv_becomes_a_payment_table_in_the_shell,
     the_inventory_is_kept_as_plain_text,

@@ -32,8 +32,29 @@ class Prepared:
 
 def client_of(rows):
     """A client that is answered these rows of a SELECT."""
+    return roadseg.Client(Prepared(reply_of(rows)))
+
+
+def reply_of(rows):
     lines = ["0 ROW " + " ".join(map(text_of, row)) for row in rows]
-    return roadseg.Client(Prepared("\n".join([*lines, "0 OK %d\n" % len(rows)]).encode()))
+    return "\n".join([*lines, "0 OK %d\n" % len(rows)]).encode()
+
+
+class Answers(Prepared):
+    """A wire that has the answers of queries."""
+
+    def __init__(self, answers):
+        super().__init__(b"")
+        self.answers = answers
+
+    def send(self, data, _longest):
+        self.data, self.place = self.answers[data.decode().strip().partition("SELECT ")[2]], 0
+
+
+def client_of_answers(definitions, answers):
+    """A client that knows these definitions, and is answered these rows of queries."""
+    wire = Answers({query: reply_of(rows) for query, rows in answers.items()})
+    return roadseg.Client(wire, schema=roadseg.Schema(definitions))
 
 
 def text_of(part):

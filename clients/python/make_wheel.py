@@ -16,6 +16,7 @@ import zipfile
 HERE = os.path.dirname(os.path.abspath(__file__))
 PACKAGE = "roadseg"
 TAG = "py3-none-any"
+KEPT = (".py", ".typed", ".html", ".css", ".js")  # the files of the package
 FIRST_TIME = (1980, 1, 1, 0, 0, 0)  # of all files, so that the same package makes the same wheel
 PAIR = re.compile(r'([A-Za-z-]+) = "(.*)"')
 
@@ -50,7 +51,7 @@ def add_to_archive(archive, path, data):
 def package_paths():
     """The paths of the package's files from here, with slashes."""
     names = sorted(os.listdir(os.path.join(HERE, PACKAGE)))
-    return ["%s/%s" % (PACKAGE, name) for name in names if name.endswith((".py", ".typed"))]
+    return ["%s/%s" % (PACKAGE, name) for name in names if name.endswith(KEPT)]
 
 
 def read(path):

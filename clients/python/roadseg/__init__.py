@@ -25,7 +25,7 @@ The language has no dates. `literal` writes a date as the text 'YYYY-MM-DD', whi
 back as that text: `datetime.date.fromisoformat` makes a date of it.
 
 `roadseg.dbapi` is DB-API 2, `roadseg.reckoning` and `roadseg.pairing` answer what lines can't ask, `roadseg.diagram` draws
-roads, and `python -m roadseg` is a prompt.
+roads, `roadseg.page` makes a page of a file, and `python -m roadseg` is a prompt.
 """
 
 from .client import Client

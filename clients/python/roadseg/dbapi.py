@@ -170,7 +170,8 @@ def connect(
     if host is not None:
         if file is not None:
             raise InterfaceError("a file is opened, or a host is asked, and not both")
-        return Connection(asked(lambda: opening.connect(host, port, session, timeout)))
+        address: str = host
+        return Connection(asked(lambda: opening.connect(address, port, session, timeout)))
     return Connection(asked(lambda: opening.run(file, program, session, timeout)))
 
 

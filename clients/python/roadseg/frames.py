@@ -117,9 +117,13 @@ def whole_of(cell: Any) -> Optional[int]:
         return None
     if isinstance(cell, numbers.Integral) and not is_truth(cell):
         return int(cell)
-    if isinstance(cell, (numbers.Real, Decimal)) and not is_truth(cell) and abs(cell) < 10**15 and cell == int(cell):
+    if isinstance(cell, (numbers.Real, Decimal)) and not is_truth(cell) and is_small(cell) and cell == int(cell):
         return int(cell)
     raise Refusal("no whole number")
+
+
+def is_small(cell: Any) -> bool:
+    return -(10**15) < cell < 10**15
 
 
 def is_truth(cell: Any) -> bool:

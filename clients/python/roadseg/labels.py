@@ -8,6 +8,8 @@ from __future__ import annotations
 import unicodedata
 from bisect import bisect
 from collections.abc import Sequence
+from functools import lru_cache
+from itertools import accumulate
 from typing import NamedTuple, Optional
 
 TEXT_SIZE = 11  # of letters
@@ -31,6 +33,7 @@ def bold_width(text: str, size: float = TEXT_SIZE) -> float:
     return text_width(text, size) * BOLD
 
 
+@lru_cache(maxsize=4096)
 def character_width(character: str) -> int:
     base = unicodedata.normalize("NFD", character)[0]
     if unicodedata.combining(base):
@@ -48,9 +51,12 @@ def shortened(text: str, width: float, size: float = TEXT_SIZE) -> str:
     """A text that is no wider than this: its end is cut off where need be."""
     if text_width(text, size) <= width:
         return text
-    while text and text_width(text + "…", size) > width:
-        text = text[:-1]
-    return text.rstrip() + "…"
+    room, kept = width - text_width("…", size), 0
+    for end in accumulate(character_width(character) * size / 100 for character in text):
+        if end > room:
+            break
+        kept += 1
+    return text[:kept].rstrip() + "…"
 
 
 def wrapped(text: str, width: float) -> list[str]:

@@ -114,7 +114,8 @@ def carried_out(client: Client, planned: Iterable[Planned]) -> Loaded:
     loaded = Loaded(0, 0, [])
     try:
         for some in batches(planned):
-            lines, answers = [one.line for one in some if one.why is None], []
+            lines = [one.line for one in some if one.why is None]
+            answers: list[Any] = []
             try:
                 if lines:
                     client._exchange_all(client.session, lines, answers)

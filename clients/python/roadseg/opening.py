@@ -114,7 +114,10 @@ def locked(path: str) -> Iterator[None]:
     with held:
         with in_the_system("cannot open %s" % path):
             take_lock(held, path)
-        yield
+        try:
+            yield
+        finally:
+            give_back_lock(held)
 
 
 def take_lock(held: IO[bytes], path: str) -> None:
@@ -126,6 +129,13 @@ def take_lock(held: IO[bytes], path: str) -> None:
         raise Failed("cannot open %s: another program has it" % path) from fault
     if not os.path.samestat(os.fstat(held.fileno()), os.stat(path)):
         raise Failed("cannot open %s: another program has replaced it meanwhile" % path)
+
+
+def give_back_lock(held: IO[bytes]) -> None:
+    """Closing the file is not enough: a process that another thread is starting has it as well until it runs its program."""
+    import fcntl
+
+    fcntl.flock(held, fcntl.LOCK_UN)
 
 
 @contextlib.contextmanager

@@ -28,7 +28,7 @@ class Table(NamedTuple):
             return column
         if column not in self.names:
             raise ValueError("no column %r: %s are known" % (column, ", ".join(self.names) or "none"))
-        return list(self.names).index(column)
+        return list(self.names).index(str(column))
 
     def places(self, columns: Union[ColumnOf, Iterable[ColumnOf]]) -> list[int]:
         return [self.place(one) for one in ([columns] if isinstance(columns, (str, int)) else columns)]

@@ -102,9 +102,16 @@ def totals_by_route(rows: Iterable[tuple], by: Columns = (), sum: Optional[Colum
     table = table_of(rows)
     places = [0, *table.places(by)]
     summed = None if sum is None else table.place(sum)
-    unit: Callable[[int], Any] = measure if table.rows and is_line(table.rows[0]) else int
+    unit = unit_of(table)
     groups = grouped(table, places)
     return [(*group, *map(unit, total_of(groups[group], summed))) for group in in_order(groups)]
+
+
+def unit_of(table: Table) -> Callable[[int], Any]:
+    """What makes a total's number of a whole number: of lines a measure."""
+    if table.rows and is_line(table.rows[0]):
+        return measure
+    return int
 
 
 def total_of(placed: Sequence[Placed], summed: Optional[int]) -> tuple[int, ...]:

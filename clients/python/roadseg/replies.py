@@ -45,7 +45,7 @@ class Reply(NamedTuple):
     """A reply: the texts of its ROW lines; then the number of its OK line, or the number and words of its ERR line."""
 
     texts: list[str]
-    count: int
+    count: int  # type: ignore[assignment]  # in place of the method of tuples
     refusal: Optional[int]
     words: str
 
@@ -285,7 +285,9 @@ def routes() -> Column:
 
 
 def positions(method: Optional[str]) -> Column:
-    return Column(READ_POSITION[method], MEASURES, Decimal if method in (None, ABSOLUTE) else READ_POSITION[method])
+    if method in (None, ABSOLUTE):
+        return Column(READ_POSITION[method], MEASURES, Decimal)
+    return Column(READ_POSITION[method], MEASURES, READ_POSITION[method])
 
 
 def values() -> Column:

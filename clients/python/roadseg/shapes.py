@@ -94,7 +94,7 @@ class QueryReader:
     def _names(self) -> list[str]:
         """The names between brackets."""
         self._expect("(")
-        found = []
+        found: list[str] = []
         while True:
             text = self._next()
             if text == ")":

@@ -49,7 +49,7 @@ class Connection:
 class Process:
     """A run of the program.
 
-    It is in a session of its own, since Ctrl-C in the terminal would kill it and leave its file not closed. It ends when
+    It is in a session of its own, since Ctrl-C in the terminal would kill it and lose what was not saved. It ends when
     its input does, also where this process is killed.
     """
 

@@ -1,0 +1,251 @@
+"""Makes a page of a file: one HTML file that a browser shows without a network, with a straight-line diagram of each route.
+
+    python -m roadseg.page FILE [--query NAME=QUERY ..] [--by BAND=COLUMN ..] [--colour COLUMN:VALUE=#RRGGBB ..] > roads.html
+    python -m roadseg.page --port PORT --definitions DUMP ..
+
+Each table has a band, and so has each query. The page has all rows, packed, and a script that draws them: `page.html`,
+`page.css` and the scripts beside this module. The same file gives the same bytes.
+"""
+
+from __future__ import annotations
+
+import argparse
+import json
+import os
+import pkgutil
+import re
+import sys
+from bisect import bisect_left, bisect_right
+from collections.abc import Iterable, Sequence
+from decimal import Decimal
+from itertools import repeat
+from operator import mul
+from typing import Any, NamedTuple, Optional
+
+from .client import Client
+from .colours import OTHER, Palette, Scheme, Style, given_colours, in_order, legend_of
+from .errors import Error
+from .opening import PROGRAM, connect, run
+from .schema import LINE, POINT
+from .wires import LIMIT
+
+SCRIPTS = ("page_rows.js", "page_picture.js")
+VIEW = "page_view.js"
+PLACE = re.compile("@@([a-z]+)@@")  # of a part in the template
+
+
+class Asked(NamedTuple):
+    """A band to ask for: its title, its query, and the column that colours go by at first; the first where none is named."""
+
+    title: str
+    query: str
+    by: Optional[str] = None
+
+
+def page(road: Client, asked: Sequence[Asked], palette: Palette, title: str, unit: str = "") -> str:
+    """The page of what is asked."""
+    return html_of(data_of(road, asked, palette, title, unit))
+
+
+# What the page knows.
+
+
+def data_of(road: Client, asked: Sequence[Asked], palette: Palette, title: str, unit: str = "") -> dict[str, Any]:
+    """What the page knows: routes in order, with thousandths, and bands with their rows on each route, packed."""
+    styles = Styles()
+    routes = sorted(road.schema().routes.values())
+    answers = [road.columns(one.query) for one in asked]
+    for one, answer in zip(asked, answers):
+        tell(palette, road, one.query, answer)
+    names = [route.name for route in routes]
+    bands = [band_of(road, one, answer, names, palette, styles) for one, answer in zip(asked, answers)]
+    told = [[one.name, *thousandths([one.start, one.end]), referents_of(one.referents)] for one in routes]
+    plain = styles.number(OTHER)
+    return {"title": title, "unit": unit, "routes": told, "bands": bands, "plain": plain, "styles": styles.told()}
+
+
+def thousandths(measures: Iterable[Decimal]) -> list[int]:
+    return list(map(int, map(mul, measures, repeat(1000))))
+
+
+def referents_of(referents: dict[str, Any]) -> list[list]:
+    """Referents by their places, of several at one place the one with the least name first."""
+    return [[name, place] for place, name in sorted(zip(thousandths(referents.values()), referents))]
+
+
+def tell(palette: Palette, road: Client, query: str, answer: dict[str, list]) -> None:
+    """Lets the palette have the values of a table, which were asked for already."""
+    table = road.schema().tables.get(query)
+    if table is not None:
+        for column, values in zip(table.columns, list(answer.values())[-len(table.columns) :]):
+            palette.knows(query, column.name, values)
+
+
+class Styles:
+    """The styles that a page uses, by their numbers."""
+
+    def __init__(self) -> None:
+        self._numbers: dict[Style, int] = {}
+
+    def number(self, style: Style) -> int:
+        return self._numbers.setdefault(style, len(self._numbers))
+
+    def told(self) -> list[list]:
+        return [list(style) for style in self._numbers]
+
+
+def band_of(
+    road: Client, asked: Asked, answer: dict[str, list], routes: Sequence[str], palette: Palette, styles: Styles
+) -> dict[str, Any]:
+    """A band: what its columns hold, each value once and in order, and its rows on each route, by the numbers of values."""
+    shape = road.shape(asked.query)
+    if shape is not None and tuple(answer) != shape.names():
+        raise ValueError("the rows of %s are not those of what is defined" % asked.title)
+    kind = (POINT if "at" in list(answer)[1:2] else LINE) if shape is None else shape.kind
+    ends = 2 if kind == POINT else 3
+    names = [one.name for one in shape.columns] if shape else list(answer)[ends:]
+    route_of, *places = list(answer.values())[:ends] if answer else [[]]
+    columns, numbers = [], []
+    for name, values, scheme in zip(names, list(answer.values())[ends:], palette.schemes(asked.query)):
+        column, found = column_of(name, values, scheme, styles)
+        columns.append(column)
+        numbers.append(found)
+    measures = list(map(thousandths, places))
+    rows = [packed(route_of, name, measures, numbers) for name in routes]
+    by = by_of(asked, names) if columns else -1
+    return {"title": asked.title, "query": asked.query, "kind": kind, "by": by, "columns": columns, "rows": rows}
+
+
+def by_of(asked: Asked, names: Sequence[str]) -> int:
+    if asked.by is not None and asked.by not in names:
+        raise ValueError("%s has no column %s: it has %s" % (asked.title, asked.by, ", ".join(names)))
+    return 0 if asked.by is None else list(names).index(asked.by)
+
+
+def column_of(name: str, values: Sequence[Any], scheme: Scheme, styles: Styles) -> tuple[dict[str, Any], list[int]]:
+    """A column: its values in order, its legend, and for each value the number of what the legend says of it; and the numbers of
+    the values of its rows."""
+    held = in_order(values)
+    entries = list(map(scheme.entry, held))
+    legend = legend_of(entries)
+    numbers = {entry: k for k, entry in enumerate(legend)}
+    entry = list(map(numbers.__getitem__, entries))
+    told = {"name": name, "values": held, "legend": [[one.text, styles.number(one.style)] for one in legend], "entry": entry}
+    places = {value: k for k, value in enumerate(held)}
+    return told, list(map(places.__getitem__, values))
+
+
+def packed(routes: Sequence[str], name: str, measures: Sequence[list[int]], numbers: Sequence[list[int]]) -> list[int]:
+    """The rows of a route: how far each start is from the one before it, lengths, and the numbers of the values by columns."""
+    first, end = bisect_left(routes, name), bisect_right(routes, name)
+    if first == end:
+        return []
+    starts = measures[0][first:end]
+    flat = [after - before for before, after in zip([0, *starts], starts)]
+    if len(measures) == 2:
+        flat += [stop - start for start, stop in zip(starts, measures[1][first:end])]
+    for column in numbers:
+        flat += column[first:end]
+    return flat
+
+
+# The page's text.
+
+
+def html_of(data: dict[str, Any]) -> str:
+    """The page: the template with its style, its data and its scripts."""
+    told = json.dumps(data, ensure_ascii=False, separators=(",", ":")).replace("<", "\\u003c")
+    parts = {"title": escaped(data["title"]), "style": part("page.css"), "data": told}
+    parts.update(parts="".join(map(part, SCRIPTS)), view=part(VIEW))
+    return PLACE.sub(lambda found: parts[found[1]], part("page.html"))
+
+
+def part(name: str) -> str:
+    found = pkgutil.get_data(__package__, name)
+    if found is None:
+        raise ValueError("the package lacks %s" % name)
+    return found.decode()
+
+
+def escaped(text: str) -> str:
+    return text.replace("&", "&amp;").replace("<", "&lt;")
+
+
+# The program.
+
+
+def words_of(arguments: Optional[Sequence[str]]) -> argparse.Namespace:
+    parser = argparse.ArgumentParser(prog="python -m roadseg.page", description="Makes a page of a file, for a browser.")
+    parser.add_argument("file", nargs="?", metavar="FILE", help="start `roadseg run` on this file")
+    parser.add_argument("--port", type=int, metavar="PORT", help="connect to a `roadseg serve` at this port")
+    parser.add_argument("--host", default="127.0.0.1", metavar="HOST", help="the server's address (default: 127.0.0.1)")
+    parser.add_argument("--definitions", metavar="DUMP", help="what the server's file has, from `roadseg dump --definitions`")
+    parser.add_argument("--program", default=PROGRAM, metavar="PATH", help="what FILE is opened by (default: roadseg)")
+    parser.add_argument("--session", type=int, default=0, metavar="N", help="the session, 0 to 63 (default: 0)")
+    parser.add_argument("--timeout", type=float, default=LIMIT, metavar="S", help="seconds for a reply; 0 for no limit")
+    parser.add_argument("--table", action="append", metavar="TABLE", help="a band for this table, and not for each one")
+    parser.add_argument("--query", action="append", default=[], metavar="NAME=QUERY", help="a band for a query")
+    parser.add_argument("--by", action="append", default=[], metavar="BAND=COLUMN", help="the column that colours go by at first")
+    parser.add_argument("--colour", action="append", default=[], metavar="COLUMN:VALUE=#RRGGBB", help="the colour of a value")
+    parser.add_argument("--unit", default="", metavar="UNIT", help="what measures are in, as miles")
+    parser.add_argument("--title", metavar="TITLE", help="the page's title (default: the file's name)")
+    parser.add_argument("--out", metavar="HTML", help="the page's file (default: standard output)")
+    words = parser.parse_args(arguments)
+    if (words.file is None) == (words.port is None):
+        parser.error("a file is opened, or a server is asked by --port")
+    if words.port is not None and words.definitions is None:
+        parser.error("a server's lines don't list what is defined: --definitions has it")
+    for option in (*words.query, *words.by):
+        if "=" not in option:
+            parser.error("%s has no =" % option)
+    return words
+
+
+def opened(words: argparse.Namespace) -> Client:
+    timeout = words.timeout or None
+    if words.port is None:
+        return run(words.file, words.program, words.session, timeout)
+    with open(words.definitions, encoding="utf-8") as file:
+        lines = file.readlines()
+    road = connect(words.host, words.port, words.session, timeout)
+    road.learn(lines)
+    return road
+
+
+def asked_of(words: argparse.Namespace, tables: Iterable[str]) -> list[Asked]:
+    """The bands that the words ask for: tables by their names, then queries in their order."""
+    held = sorted(tables)
+    missing = [name for name in words.table or () if name not in held]
+    if missing:
+        raise ValueError("no table %s: there are %s" % (missing[0], ", ".join(held) or "none"))
+    pairs = [(name, name) for name in words.table or held] + [tuple(one.split("=", 1)) for one in words.query]
+    by = dict(one.rsplit("=", 1) for one in words.by)
+    unknown = [name for name in by if name not in (title for title, _query in pairs)]
+    if unknown:
+        raise ValueError("no band %s: there are %s" % (unknown[0], ", ".join(title for title, _query in pairs)))
+    return [Asked(title, query, by.get(title)) for title, query in pairs]
+
+
+def made(words: argparse.Namespace) -> str:
+    given = given_colours(words.colour)
+    with opened(words) as road:
+        asked = asked_of(words, road.schema().tables)
+        title = words.title or os.path.splitext(os.path.basename(words.file or words.definitions))[0]
+        return page(road, asked, Palette(road, given), title, words.unit)
+
+
+def main(arguments: Optional[Sequence[str]] = None) -> None:
+    words = words_of(arguments)
+    try:
+        text = made(words).encode("utf-8", "replace")
+    except (Error, ValueError, OSError) as fault:
+        sys.exit("page: %s" % fault)
+    if words.out is None:
+        sys.stdout.buffer.write(text)
+    else:
+        with open(words.out, "wb") as file:
+            file.write(text)
+
+
+if __name__ == "__main__":
+    main()
