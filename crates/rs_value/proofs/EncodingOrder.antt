@@ -22,13 +22,13 @@ use Rattle.rs_value.specs.Row.{Datum, null, number, text, Row, datum_cmp, row_cm
 use Rattle.rs_value.specs.Values.{is_control, is_text, IsValue}
 use Rattle.rs_value.specs.Encoding.{width, row_width, SaysNumber, SaysText, SaysDatum, SaysRow}
 
-less : (x y : ℕ) → x < y → nat_cmp x y ≡ Less
+pub less : (x y : ℕ) → x < y → nat_cmp x y ≡ Less
 less x y h = sym (nat_cmp_is x y Less h)
 
 equal : (x y : ℕ) → x ≡ y → nat_cmp x y ≡ Equal
 equal x y h = sym (nat_cmp_is x y Equal h)
 
-greater : (x y : ℕ) → y < x → nat_cmp x y ≡ Greater
+pub greater : (x y : ℕ) → y < x → nat_cmp x y ≡ Greater
 greater x y h = sym (nat_cmp_is x y Greater h)
 
 -- A number added on both sides changes nothing.
@@ -75,7 +75,7 @@ big_endian_cmp (suc k) x y =
     ∙ digits_cmp (byte_at k x) (byte_at k y) (256 ^ k) (x % 256 ^ k) (y % 256 ^ k) (mod-lt x (above_zero k)) (mod-lt y (above_zero k))
     ∙ ap (λ n. nat_cmp n (byte_at k y * 256 ^ k + y % 256 ^ k)) (low_more k x) ∙ ap (nat_cmp (x % 256 ^ suc k)) (low_more k y)
 
-eight_bytes_cmp : (x y : ℕ) → x < 2 ^ 64 → y < 2 ^ 64 → slice_cmp nat_cmp (to_be_bytes w64 x) (to_be_bytes w64 y) ≡ nat_cmp x y
+pub eight_bytes_cmp : (x y : ℕ) → x < 2 ^ 64 → y < 2 ^ 64 → slice_cmp nat_cmp (to_be_bytes w64 x) (to_be_bytes w64 y) ≡ nat_cmp x y
 eight_bytes_cmp x y hx hy = big_endian_cmp 8 x y ∙ ap (λ n. nat_cmp n (y % 2 ^ 64)) (mod-eq_of_lt hx) ∙ ap (nat_cmp x) (mod-eq_of_lt hy)
 
 -- how far a number is above -2^63, without a sum of signed numbers
@@ -102,7 +102,7 @@ below_all (pos k) above few e = let few_here : k ≤ 10 ^ 12 = few in omega arit
 below_all (negsuc k) above few e = omega arith
 
 -- The order of numbers is that of their distances.
-above_cmp : (n m : ℤ) (x y : ℕ) → IsAbove n x → IsAbove m y → nat_cmp x y ≡ int_cmp n m
+pub above_cmp : (n m : ℤ) (x y : ℕ) → IsAbove n x → IsAbove m y → nat_cmp x y ≡ int_cmp n m
 above_cmp (pos a) (pos b) x y e f = grind (arith, nat_tests)
 above_cmp (pos a) (negsuc b) x y e f = greater x y (omega arith)
 above_cmp (negsuc a) (pos b) x y e f = less x y (omega arith)
@@ -176,7 +176,7 @@ texts_cmp most a b s t is_s is_t (short, is_a) (brief, is_b) =
     ap (λ l. slice_cmp nat_cmp l b) is_a ∙ ap (slice_cmp nat_cmp (1 ∷ s ++ replicate (most - length s) 0)) is_b
     ∙ text_cmp s t (most - length s) (most - length t) (omega arith) (not_control s is_s) (not_control t is_t)
 
-then_equal : (o : Ordering) → o ≡ ordering_then o Equal
+pub then_equal : (o : Ordering) → o ≡ ordering_then o Equal
 then_equal Less = refl
 then_equal Equal = refl
 then_equal Greater = refl
@@ -197,12 +197,12 @@ datums_cmp (types.Text most) a b (text s) null h g = ap (slice_cmp nat_cmp a) g 
 datums_cmp (types.Text most) a b (text s) (number m) h g = absurd g
 datums_cmp (types.Text most) a b (text s) (text t) h g = texts_cmp most a b s t h.0 g.0 h.1 g.1
 
-then_assoc : (r s o : Ordering) → ordering_then (ordering_then r s) o ≡ ordering_then r (ordering_then s o)
+pub then_assoc : (r s o : Ordering) → ordering_then (ordering_then r s) o ≡ ordering_then r (ordering_then s o)
 then_assoc Less s o = refl
 then_assoc Equal s o = refl
 then_assoc Greater s o = refl
 
-beside_cmp : (a b c d : List ℕ) → length a ≡ length b → slice_cmp nat_cmp (a ++ c) (b ++ d) ≡ ordering_then (slice_cmp nat_cmp a b) (slice_cmp nat_cmp c d)
+pub beside_cmp : (a b c d : List ℕ) → length a ≡ length b → slice_cmp nat_cmp (a ++ c) (b ++ d) ≡ ordering_then (slice_cmp nat_cmp a b) (slice_cmp nat_cmp c d)
 beside_cmp [] [] c d wide = refl
 beside_cmp [] (y ∷ b) c d wide = absurd (omega arith)
 beside_cmp (x ∷ a) [] c d wide = absurd (omega arith)

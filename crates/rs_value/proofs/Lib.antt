@@ -4,3 +4,8 @@ pub mod EncodingLaws
 mod EncodingSteps
 mod FittingLemmas
 mod QuotesDoubled
+pub mod KeptRows
+pub mod KeptOrder
+pub mod KeptReading
+mod KeptEncoding
+mod KeptText

@@ -4,3 +4,5 @@ pub mod View
 pub mod Fitting
 pub mod Text
 pub mod Encoding
+pub mod Kept
+pub mod LentView

@@ -21,8 +21,8 @@ use std::str;
 // The greatest distance of a number from 0.
 const GREATEST_NUMBER: u64 = 1_000_000_000_000;
 
-// The byte before a value that is not NULL. Before NULL it is 0.
-const PRESENT: u8 = 1;
+/// The byte before a value that is not NULL. Before NULL it is 0.
+pub(crate) const PRESENT: u8 = 1;
 
 // What 0 is written as: its distance from the least `i64`.
 const ZERO: u64 = 1 << 63;
@@ -90,8 +90,8 @@ fn encode_number(number: i64, bytes: &mut [u8])
     bytes[1..].copy_from_slice(&above.to_be_bytes());
 }
 
-// How far a number is above the least `i64`.
-fn above_least(number: i64) -> u64
+/// How far a number is above the least `i64`.
+pub(crate) fn above_least(number: i64) -> u64
     ensures { pos result ≡ number +ℤ pos (2 ^ 63) }
 {
     ZERO.wrapping_add_signed(number)
@@ -152,15 +152,15 @@ fn decode_value(column: ColumnType, bytes: &[u8]) -> Option<Value>
     }
 }
 
-// Whether all bytes are zeros.
-fn are_zeros(bytes: &[u8]) -> bool
+/// Whether all bytes are zeros.
+pub(crate) fn are_zeros(bytes: &[u8]) -> bool
     ensures { IsTrue result ↔ (bytes.now ≡ replicate (length bytes.now) 0) }
 {
     bytes.iter().all(|byte| *byte == 0)
 }
 
-// The number that eight bytes say.
-fn decode_number(bytes: &[u8]) -> Option<i64>
+/// The number that eight bytes say.
+pub(crate) fn decode_number(bytes: &[u8]) -> Option<i64>
     requires { length bytes.now ≡ 8 }
     ensures value { IfSome result (λ n. IsValue (rows.number n) × SaysNumber (1 ∷ bytes.now) n) }
     ensures none { IfNone result ((n : ℤ) → IsValue (rows.number n) → SaysNumber (1 ∷ bytes.now) n → ⊥) }
@@ -173,16 +173,16 @@ fn decode_number(bytes: &[u8]) -> Option<i64>
     }
 }
 
-// The number of eight bytes, the highest first.
-fn eight_bytes(bytes: &[u8]) -> u64
+/// The number of eight bytes, the highest first.
+pub(crate) fn eight_bytes(bytes: &[u8]) -> u64
     requires { length bytes.now ≡ 8 }
     ensures { to_be_bytes w64 result ≡ bytes.now }
 {
     u64::from_be_bytes(bytes.try_into().unwrap())
 }
 
-// The number that is so far above the least `i64`.
-fn number_above(above: u64) -> i64
+/// The number that is so far above the least `i64`.
+pub(crate) fn number_above(above: u64) -> i64
     ensures { pos above ≡ result +ℤ pos (2 ^ 63) }
 {
     above.wrapping_sub(ZERO).cast_signed()
@@ -201,8 +201,8 @@ fn decode_text(bytes: &[u8]) -> Option<ArrayString<TEXT_BYTES>>
     }
 }
 
-// How many bytes there are before the first zero.
-fn length_before_zero(bytes: &[u8]) -> usize
+/// How many bytes there are before the first zero.
+pub(crate) fn length_before_zero(bytes: &[u8]) -> usize
     ensures { result ≡ position_or_len (λ byte. byte == 0) bytes.now }
 {
     bytes.iter().take_while(|byte| **byte != 0).count()

@@ -8,6 +8,13 @@ pub mod comparison;
 pub mod encoding;
 pub mod encoding_laws;
 pub mod fitting;
+pub mod kept;
+mod kept_bytes;
+pub mod kept_encoding;
+pub mod kept_laws;
+mod kept_making;
+pub mod kept_text;
+pub mod lent;
 pub mod limits;
 pub mod row_order;
 pub mod row_text;
@@ -22,6 +29,14 @@ pub use encoding_laws::{
     rows_have_one_width, said_row_is_of_its_columns,
 };
 pub use fitting::fits;
+pub use kept::KeptRow;
+pub use kept_encoding::says_row;
+pub use kept_laws::{
+    each_row_is_kept, kept_bytes_compare_as_rows, kept_bytes_keep_one_row,
+    kept_bytes_keep_rows_together, row_is_kept_one_way,
+};
+pub use kept_text::push_lent;
+pub use lent::LentValue;
 pub use row_order::{compare_rows, row_order_is_total, same_row, tied_rows_are_equal};
 pub use row_text::{push_doubled, push_value, push_values};
 pub use text::{as_text, has_control};

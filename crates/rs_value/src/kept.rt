@@ -1,0 +1,136 @@
+//! A row that is kept: the bytes of its values, and no more room than they take.
+//!
+//! A contract sees it as the row. Rows compare by their bytes, and no value is read but the one that is asked for.
+
+ghost use Rattle.std.specs.Prelude.{◌≡◌, ◌++◌, ◌↔◌, List, ℕ, map, get_or, replicate, IsTrue, IfOk, OnOk, IfSome, IfNone, string_bytes};
+ghost use Rattle.rs_value.specs.Encoding.{SaysRow};
+ghost use Rattle.rs_value.specs.Kept.{MayBeKept};
+ghost use Rattle.rs_value.specs.LentView.{lent_datum};
+ghost use Rattle.rs_value.specs.Row.{Row, row_cmp, null};
+ghost use Rattle.rs_value.specs.Text.{values_text};
+ghost use Rattle.rs_value.specs.Values.{AreValues, IsRowOf};
+ghost use Rattle.rs_value.specs.View.{row_of};
+
+use crate::column::Schema;
+use crate::kept_bytes::{after_values, first_value};
+use crate::kept_encoding::{kept_of, push_encoded};
+use crate::kept_making::{bytes_of, bytes_of_nulls, columns_of, joined};
+use crate::kept_text::push_each;
+use crate::lent::LentValue;
+use crate::value::Value;
+use std::alloc::{AllocError, Global};
+use std::cmp::Ordering;
+use std::marker::Model;
+
+/// A row that is kept: one value for each column, from the left.
+#[derive(Debug, Drop)]
+pub struct KeptRow {
+    bytes: Vec<u8>,
+}
+
+impl Model for KeptRow {
+    ghost use Rattle.rs_value.specs.Row.{Row};
+    ghost use Rattle.rs_value.specs.Kept.{Keeps, row_in};
+
+    ghost Value = { Row };
+
+    ghost view = { λ kept. row_in kept.bytes.items };
+
+    ghost invariant = { λ kept. Keeps kept.bytes.items (row_in kept.bytes.items) };
+}
+
+impl KeptRow {
+    /// The row of these values. The only refusal is for want of memory.
+    pub fn of_values(alloc: Global, values: &[Value]) -> Result<Self, AllocError>
+        requires { AreValues (row_of values.now) }
+        ensures { IfOk result (λ kept. kept ≡ row_of values.now) }
+    {
+        let bytes = bytes_of(alloc, values)?;
+        Ok(KeptRow { bytes })
+    }
+
+    /// A row of so many NULLs. The only refusal is for want of memory.
+    pub fn nulls(alloc: Global, width: usize) -> Result<Self, AllocError>
+        ensures { IfOk result (λ kept. kept ≡ replicate width null) }
+    {
+        let bytes = bytes_of_nulls(alloc, width)?;
+        Ok(KeptRow { bytes })
+    }
+
+    /// A copy of the row. The only refusal is for want of memory.
+    pub fn copied(&self, alloc: Global) -> Result<Self, AllocError>
+        ensures { IfOk result (λ kept. kept ≡ self.now) }
+    {
+        let bytes = Vec::from_slice(alloc, &self.bytes)?;
+        Ok(KeptRow { bytes })
+    }
+
+    /// The values of this row before those of another. The only refusal is for want of memory.
+    pub fn beside(&self, alloc: Global, other: &KeptRow) -> Result<Self, AllocError>
+        ensures { IfOk result (λ kept. kept ≡ self.now ++ other.now) }
+    {
+        let bytes = joined(alloc, &self.bytes, &other.bytes)?;
+        Ok(KeptRow { bytes })
+    }
+
+    /// The values in the columns named, the leftmost 0, in the order of their names; NULL for one past the end. The only
+    /// refusal is for want of memory.
+    pub fn chosen(&self, alloc: Global, columns: &[u8]) -> Result<Self, AllocError>
+        ensures { IfOk result (λ kept. kept ≡ map (λ column. get_or self.now column null) columns.now) }
+    {
+        let bytes = columns_of(alloc, &self.bytes, columns)?;
+        Ok(KeptRow { bytes })
+    }
+
+    /// The value in a column, the leftmost 0; NULL past the end.
+    pub fn value_at(&self, column: u8) -> LentValue<'_>
+        ensures value { lent_datum result ≡ get_or self.now column null }
+        ensures kept { MayBeKept (lent_datum result) }
+    {
+        first_value(after_values(&self.bytes, usize::from(column)))
+    }
+
+    /// The row that bytes of these columns say, as `encode` writes them; none as `decode`. The only refusal is for want of memory.
+    pub fn of_encoded(
+        alloc: Global,
+        schema: &Schema,
+        encoded: &[u8],
+    ) -> Result<Option<Self>, AllocError>
+        ensures row { IfOk result (λ found. IfSome found (λ kept. SaysRow schema.now.items encoded.now kept)) }
+        ensures none { IfOk result (λ found. IfNone found ((row : Row) → SaysRow schema.now.items encoded.now row → ⊥)) }
+    {
+        match kept_of(alloc, schema, encoded)? {
+            Some(bytes) => Ok(Some(KeptRow { bytes })),
+            None => Ok(None),
+        }
+    }
+
+    /// Puts the row after the bytes, as `encode` writes it. The only refusal is for want of memory.
+    pub fn push_encoded(&self, schema: &Schema, bytes: &mut Vec<u8>) -> Result<(), AllocError>
+        requires row { IsRowOf schema.now.items self.now }
+        ensures { OnOk result ((row : List ℕ) × SaysRow schema.now.items row self.now × (bytes.new.items ≡ bytes.old.items ++ row)) }
+    {
+        push_encoded(&self.bytes, schema, bytes)
+    }
+}
+
+/// Compares two rows in the order of rows.
+pub fn compare_rows(left: &KeptRow, right: &KeptRow) -> Ordering
+    ensures { result ≡ row_cmp left.now right.now }
+{
+    left.bytes.as_slice().cmp(right.bytes.as_slice())
+}
+
+/// Whether two rows are the same.
+pub fn same_row(left: &KeptRow, right: &KeptRow) -> bool
+    ensures { IsTrue result ↔ (left.now ≡ right.now) }
+{
+    left.bytes.as_slice() == right.bytes.as_slice()
+}
+
+/// Appends a space and the text of each value of a row. Where memory runs out, a part may have been appended.
+pub fn push_values(text: &mut String, row: &KeptRow) -> Result<(), AllocError>
+    ensures { OnOk result (string_bytes text.new ≡ string_bytes text.old ++ values_text row.now) }
+{
+    push_each(text, &row.bytes)
+}

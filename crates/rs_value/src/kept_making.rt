@@ -1,0 +1,82 @@
+//! The bytes of a row are made of values, and of those of other rows.
+
+ghost use Rattle.std.specs.Prelude.{◌++◌, ◌∷◌, [], map, get_or, replicate, IfOk};
+ghost use Rattle.rs_value.specs.Kept.{Keeps};
+ghost use Rattle.rs_value.specs.Row.{Row, null};
+ghost use Rattle.rs_value.specs.Values.{AreValues};
+ghost use Rattle.rs_value.specs.View.{row_of};
+
+use crate::kept_bytes::{NULL, after_values, kept_width, push_kept, split_first};
+use crate::lent::lent;
+use crate::value::Value;
+use std::alloc::{AllocError, Global};
+
+/// The bytes of a row of these values. The only refusal is for want of memory.
+pub(crate) fn bytes_of(alloc: Global, values: &[Value]) -> Result<Vec<u8>, AllocError>
+    requires { AreValues (row_of values.now) }
+    ensures { IfOk result (λ bytes. Keeps bytes.items (row_of values.now)) }
+{
+    let mut bytes = Vec::with_capacity(alloc, width_of(values))?;
+    for value in values {
+        push_kept(&mut bytes, lent(value))?;
+    }
+    Ok(bytes)
+}
+
+// How many bytes keep the values.
+fn width_of(values: &[Value]) -> usize {
+    let mut total = 0_usize;
+    for value in values {
+        total = total.saturating_add(kept_width(lent(value)));
+    }
+    total
+}
+
+/// The bytes of a row of so many NULLs. The only refusal is for want of memory.
+pub(crate) fn bytes_of_nulls(alloc: Global, width: usize) -> Result<Vec<u8>, AllocError>
+    ensures { IfOk result (λ bytes. Keeps bytes.items (replicate width null)) }
+{
+    vec![in alloc; NULL; width]
+}
+
+/// The bytes of two rows, one after the other. The only refusal is for want of memory.
+pub(crate) fn joined(alloc: Global, left: &[u8], right: &[u8]) -> Result<Vec<u8>, AllocError>
+    ensures { (x y : Row) → Keeps left.now x → Keeps right.now y → IfOk result (λ bytes. Keeps bytes.items (x ++ y)) }
+{
+    let mut bytes = Vec::with_capacity(alloc, left.len().saturating_add(right.len()))?;
+    bytes.extend_from_slice(left)?;
+    bytes.extend_from_slice(right)?;
+    Ok(bytes)
+}
+
+/// The bytes of the values in the columns named, of a row that these bytes keep. The only refusal is for want of memory.
+pub(crate) fn columns_of(alloc: Global, kept: &[u8], columns: &[u8]) -> Result<Vec<u8>, AllocError>
+    ensures { (row : Row) → Keeps kept.now row → IfOk result (λ bytes. Keeps bytes.items (map (λ column. get_or row column null) columns.now)) }
+{
+    let mut bytes = Vec::with_capacity(alloc, columns_width(kept, columns))?;
+    for column in columns {
+        bytes.extend_from_slice(column_bytes(kept, *column))?;
+    }
+    Ok(bytes)
+}
+
+// How many bytes keep the values in the columns named.
+fn columns_width(kept: &[u8], columns: &[u8]) -> usize {
+    let mut total = 0_usize;
+    for column in columns {
+        total = total.saturating_add(column_bytes(kept, *column).len());
+    }
+    total
+}
+
+// The bytes of the value in a column, of a row that these bytes keep.
+fn column_bytes(kept: &[u8], column: u8) -> &[u8]
+    ensures { (row : Row) → Keeps kept.now row → Keeps result.now (get_or row column null ∷ []) }
+{
+    let rest = after_values(kept, usize::from(column));
+    if rest.is_empty() {
+        &[NULL]
+    } else {
+        split_first(rest).0
+    }
+}

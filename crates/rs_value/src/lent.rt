@@ -1,0 +1,65 @@
+//! A value that is lent by the row that holds it.
+
+ghost use Rattle.std.specs.Prelude.{◌≡◌};
+ghost use Rattle.rs_value.specs.Kept.{IsShort, MayBeKept};
+ghost use Rattle.rs_value.specs.Row as rows;
+ghost use Rattle.rs_value.specs.LentView.{lent_datum};
+ghost use Rattle.rs_value.specs.Values.{IsValue};
+ghost use Rattle.rs_value.specs.View.{datum_of};
+
+use crate::value::Value;
+use arrayvec::ArrayString;
+use std::str;
+
+/// A value in a column of a row, lent.
+#[derive(Clone, Copy)]
+pub enum LentValue<'a> {
+    /// No value.
+    Null,
+    /// A whole number from -10^12 to 10^12.
+    Int(i64),
+    /// A text, of UTF-8 without the bytes 0 to 31 and 127.
+    Text(&'a [u8]),
+}
+
+impl LentValue<'_> {
+    /// The value, with a text copied.
+    pub fn value(self) -> Value
+        requires { MayBeKept (lent_datum self) }
+        ensures { datum_of result ≡ lent_datum self.entry }
+    {
+        match self {
+            LentValue::Null => Value::Null,
+            LentValue::Int(number) => Value::Int(number),
+            LentValue::Text(bytes) => {
+                match ArrayString::from(text_in(bytes)) {
+                    Ok(text) => Value::Text(text),
+                    Err(_) => unreachable!(),
+                }
+            }
+        }
+    }
+}
+
+/// The bytes of a text, as a text.
+pub(crate) fn text_in(bytes: &[u8]) -> &str
+    requires { IsValue (rows.text bytes.now) }
+    ensures { result.now ≡ bytes.now }
+{
+    match str::from_utf8(bytes) {
+        Ok(text) => text,
+        Err(_) => unreachable!(),
+    }
+}
+
+/// A value, lent.
+pub(crate) fn lent(value: &Value) -> LentValue<'_>
+    ensures value { lent_datum result ≡ datum_of value.now }
+    ensures short { IsShort (lent_datum result) }
+{
+    match value {
+        Value::Null => LentValue::Null,
+        Value::Int(number) => LentValue::Int(*number),
+        Value::Text(text) => LentValue::Text(text.as_str().as_bytes()),
+    }
+}
