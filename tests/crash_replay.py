@@ -1,0 +1,233 @@
+"""Conversations with the program whose calls of its file are logged, and the log replayed: each image that a crash may leave at
+each moment has to stand for a state between what was kept last and what was accepted by then.
+
+Some of the images are opened by the program too (crash_programs.py). The calls are also looked at for their order.
+"""
+
+import random
+import re
+from typing import NamedTuple
+
+from crash_images import Amount, images, moments
+from crash_judge import Bounds, Judge
+from crash_order import Order, expect_folder_synced, expect_read_alone
+from device_log import NOTHING, WELL
+from harness import Wrong, expect
+from programs import Ended
+from slow_file import read
+from slow_journal import VERSION
+from slow_machine import Machine
+
+WORD = re.compile(rb" *[0-9]+ *([A-Z]+)")
+KEEPS = (b"SAVE", b"REOPEN")
+ASKS = (b"SELECT", b"TOTAL", b"EXPLAIN", b"TRANSLATE", b"OPEN", b"FETCH")
+NO_DISK = b" ERR 91 disk\n"
+UNSAVED = Ended(1, b"", b"roadseg: ERR 91 disk\n")
+
+
+def word_of(line):
+    """The first word of a line's command, if it has one."""
+    found = WORD.match(line)
+    return found[1] if found else b""
+
+
+def is_kept_by(line, reply):
+    """Whether all that was accepted is kept once this line is answered so."""
+    return word_of(line) in KEEPS and b" OK " in reply
+
+
+class Mark(NamedTuple):
+    """How many calls there were when a line was answered, how many changes were accepted, and how many of them are kept."""
+
+    calls: int
+    accepted: int
+    kept: int
+
+
+class Told(NamedTuple):
+    """What was told of a conversation: the file before it, the log, a mark before the first line and after each, the end too; the
+    lines that were not refused by 91, with their replies; and how many were."""
+
+    data: bytes
+    entries: list
+    marks: list
+    lines: list
+    refused: int
+
+    def bounds(self):
+        """For each place in the log how many changes a file has then at least and at the most."""
+        found, place = [], 0
+        for calls in range(len(self.entries) + 1):
+            while place + 1 < len(self.marks) and self.marks[place + 1].calls <= calls:
+                place += 1
+            found.append(Bounds(self.marks[place].kept, self.marks[place].accepted))
+        return found
+
+
+def machine_after(lines):
+    machine = Machine()
+    for line in lines:
+        machine.answer(line)
+    return machine
+
+
+class Telling:
+    """A conversation with the program, in which calls of the file may fail: each reply is the slow machine's, or 91 of a line that
+    may need the disk. After so many of these there is room again, and SAVE is accepted."""
+
+    def __init__(self, run, before, patience):
+        self.run, self.machine, self.patience = run, machine_after(before), patience
+        self.kept = self.machine.changes
+        self.marks = [Mark(0, self.kept, self.kept)]
+        self.lines, self.refused = [], 0
+
+    def tell(self, line):
+        reply = self.run.ask(line + b"\n")
+        if self.patience and reply == line.split(b" ")[0] + NO_DISK and word_of(line) not in ASKS:
+            self.refused += 1
+            self.mark()
+            if self.refused == self.patience:
+                self.run.ask_for(NOTHING)
+                self.patience = 0
+                self.tell(b"0 SAVE")
+            return
+        expect(repr(line), reply, self.machine.answer(line))
+        self.lines.append((line, reply))
+        if is_kept_by(line, reply):
+            self.kept = self.machine.changes
+        self.mark()
+
+    def mark(self):
+        self.marks.append(Mark(self.run.calls(), self.machine.changes, self.kept))
+
+    def end(self):
+        """The end, which may be refused by 91 too."""
+        ended = self.run.end()
+        if self.patience and ended == UNSAVED:
+            self.refused += 1
+        else:
+            expect("the end", ended, WELL)
+            self.kept = self.machine.changes
+        self.mark()
+
+
+def told_of(program, talk, asked=NOTHING, patience=0, data=None):
+    """Has a conversation with the program over a file that was filled before."""
+    data = program.bytes_after(talk.before) if data is None else data
+    program.file_of(data)
+    with program.run(asked) as run:
+        telling = Telling(run, talk.before, patience)
+        for line in talk.lines:
+            telling.tell(line)
+        telling.end()
+        return Told(data, run.entries(), telling.marks, telling.lines, telling.refused)
+
+
+def follow_order(talk, told):
+    """Looks at the order of the calls of a conversation: those of the opening end with the first sync, since the file was closed."""
+    order = Order(told.data)
+    start = next(place for place, entry in enumerate(told.entries, 1) if entry.is_change())
+    order.opening(told.entries[:start])
+    ends = [mark.calls for mark in told.marks[1:]]
+    for (line, reply), end in zip(told.lines, ends):
+        try:
+            order.line(word_of(line) if b" OK " in reply else None, told.entries[start:end], talk.is_large)
+        except Wrong as wrong:
+            raise Wrong("%r: %s" % (line, wrong)) from None
+        start = max(start, end)
+    order.closing(told.entries[start : ends[-1]])
+    expect("whether a checkpoint was made for which no line asked", order.unasked > 0, talk.is_large)
+
+
+class Sample:
+    """Some of the images that were met, each as likely as any other, with the states that they stand for."""
+
+    def __init__(self, size, by):
+        self.size, self.by, self.met, self.chosen = size, by, 0, []
+
+    def put(self, title, data, state):
+        self.met += 1
+        if len(self.chosen) < self.size:
+            self.chosen.append((title, data, state))
+        elif (place := self.by.randrange(self.met)) < self.size:
+            self.chosen[place] = (title, data, state)
+
+
+class Depth(NamedTuple):
+    """How many images there are of a moment; how many moments are looked at beside those around a sync, all where that is None; and
+    how many images are opened by the program."""
+
+    amount: Amount
+    moments: int | None
+    sample: int
+
+
+# Of the gate and of the long run, each for short conversations and for large ones.
+GATE = Depth(Amount(3, 6), None, 150), Depth(Amount(1, 2), 20, 8)
+LONG = Depth(Amount(5, 120), None, 400), Depth(Amount(3, 20), 400, 20)
+
+
+def chosen_moments(found, depth, by):
+    """The moments of a log that are looked at."""
+    if depth.moments is None:
+        return found
+    near = {place + step for place, one in enumerate(found) if not one.count for step in (-2, -1, 0, 1, 2)}
+    near.update(by.sample(range(len(found)), min(len(found), depth.moments)))
+    return [one for place, one in enumerate(found) if place in near]
+
+
+def replay(talk, told, seed, depth, since=0, forgets=False):
+    """Judges the images of a log, from a place of it on: the judge, and a sample of the images."""
+    by = random.Random("%s %d" % (talk.name, seed))
+    judge, chosen, bounds = Judge(), Sample(depth.sample, by), told.bounds()
+    found = [one for one in moments(told.data, told.entries, forgets) if one.place >= since]
+    for moment in chosen_moments(found, depth, by):
+        judge_moment(judge, moment, bounds[moment.place], depth.amount, by, chosen)
+    judge.compare(Machine(), [*talk.before, *(line for line, _ in told.lines)])
+    return judge, chosen
+
+
+def judge_moment(judge, moment, bounds, amount, by, chosen):
+    for number, data in enumerate(images(moment, by, amount)):
+        title = "image %d after %d calls" % (number, moment.place)
+        try:
+            state = judge.judge(data, bounds)
+        except Wrong as wrong:
+            raise Wrong("%s: %s" % (title, wrong)) from None
+        chosen.put(title, data, state)
+
+
+def replay_recovery(program, data, state, by, depth):
+    """Judges the images of the log of a recovery, which stand for the state that it began with: how many there were."""
+    program.file_of(data)
+    with program.run() as run:
+        expect("the end of a run without lines", run.end(), WELL)
+        entries = run.entries()
+    last = max(place for place, entry in enumerate(entries) if entry.is_change())
+    order = Order(data)
+    order.opening(entries[:last])
+    order.closing(entries[last:])
+    judge, bounds = Judge(), Bounds(state.accepted, state.accepted)
+    for moment in chosen_moments(list(moments(data, entries)), depth, by):
+        for image in images(moment, by, depth.amount):
+            expect("the state after a crash in recovery", judge.judge(image, bounds), state)
+    return judge.met
+
+
+def expect_opened(program, data, entries_are):
+    """Opens a file in a run without lines, or dumps it, and looks at its calls."""
+    program.file_of(data)
+    command = "dump" if entries_are is expect_read_alone else "run"
+    with program.run(command=command) as run:
+        ended = run.end()
+        expect("the end of %s" % command, (ended.status, ended.errors), (0, b""))
+        entries_are(run.entries())
+
+
+def expect_created(program):
+    """A new file is synced, and its folder; it is of version 2 and empty."""
+    expect_folder_synced(program.created())
+    data = program.bytes_left()
+    found = read(data)
+    expect("what a new file says (%s)" % found.why, found.answer, b"OK")
+    expect("the version of a new file", data[VERSION], b"\0\0\0\2")

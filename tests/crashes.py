@@ -1,0 +1,250 @@
+#!/usr/bin/env python3
+"""Judges what the built program leaves of a file where it is stopped, the disk fails or is full, or power is cut.
+
+    crashes.py [--program PATH] [--checkpoints] [--long] [--seed S] [--kills N] [--images N] [--jobs N] [PART ..]
+
+The PARTS, each of which is judged by the slow reader of files, by the order of calls, and by the program itself:
+
+- `planted`: the slow checkpoint is judged, and faults that are planted in it are found; no program is run.
+- `created`: a new file is of version 2, and is synced as well as its folder; of a closed one of version 1 nothing but the format
+  is written; `dump` opens a file for reading and writes nothing.
+- `journals`: files whose journals are written by hand (written_journals.py) are opened or refused by `run` and `dump`.
+- `replays`: a log of the calls of the file in a conversation is replayed: a power cut at each moment, with what was written since
+  the last sync kept, lost, torn or filled; each image stands for a state between what was kept last and what was accepted, and
+  some are opened by `run` and `dump`, and their recovery is replayed in turn.
+- `stops`: the process is killed at each change of the file, and again in the recovery.
+- `faults`: each change fails once, and the disk is full from each write on and has room again later.
+- `kills`: a writer is killed at random, 50 times by default.
+
+All but the first need a program that makes checkpoints, and are done where --checkpoints is said, or their names.
+Six short conversations are had (crash_lines.py). With --long it is done once: whole conversations, and long ones with more than
+1,024 changed pages, until there were 1,000,000 images (--images), all stops and faults of the six, each byte of a journal, and
+5,000 kills. It prints what is not as wanted, what was done in each part, and at last `N passed, M failed`, counted in tasks.
+"""
+
+import os
+import random
+import sys
+from collections import Counter
+from functools import partial
+from itertools import islice
+from multiprocessing import Pool
+from typing import NamedTuple
+
+from crash_faults import fail_everywhere
+from crash_kills import kill_at_random
+from crash_lines import long_talk, short_talks, whole_talks
+from crash_order import expect_migrated, expect_read_alone
+from crash_plants import PLANTS, expect_found, expect_sound
+from crash_programs import Opening, openers_of
+from crash_replay import GATE, LONG, expect_created, expect_opened, follow_order, replay, replay_recovery, told_of
+from crash_stops import stop_everywhere
+from device_log import Program, build
+from file_writer import DAMAGED, OK
+from harness import Wrong, bytes_at, expect, parser_of, summary
+from programs import PROGRAM, library_of, scratch_folder
+from slow_file import read
+from slow_journal import FIRST_VERSION, LAST_VERSION, VERSION, Damaged, has_open_gate, know
+from written_journals import changed_bytes, files, pair_of, small, with_number
+
+KILLS, ALL_KILLS, KILLS_AT_ONCE = 50, 5_000, 25
+IMAGES = 1_000_000
+BYTES, ALL_BYTES = 40, 1  # every so many changed bytes
+WHOLE, LONG_ROWS = 20, 6_000
+RECOVERIES, ALL_RECOVERIES = 6, 60  # of a conversation that are replayed
+BATCH = 500  # files that are kept at once
+MOST_PRINTED = 5  # faults of a task
+
+# Of the conversations that are stopped, and whose calls fail, how many stops there are at the most, and every how many faults.
+STOPPED = {"rows": None, "definitions": 60, "beside cursors": 60, "rows that go": 40, "many pages": 6}
+FAILED = {"rows": 1, "definitions": 5, "rows that go": 15, "beside cursors": 5}
+
+
+class Task(NamedTuple):
+    """A part, what it is done with, and how."""
+
+    part: str
+    what: object
+    words: object
+
+
+class Built(NamedTuple):
+    """The program with the library that logs its calls, and the library that forks it."""
+
+    program: Program
+    forking: str
+
+    def open(self, openings, what):
+        """Opens files with the program: how many."""
+        faults = openers_of(self.program.path, self.forking, self.program.folder).faults(openings)
+        if faults:
+            raise Wrong("; ".join(faults[:MOST_PRINTED]))
+        return Counter({what: len(openings)})
+
+
+def title_of(task):
+    return "%s, %s" % (task.part, getattr(task.what, "name", task.what))
+
+
+# Parts: each gives what was counted.
+
+
+def planted(_built, what, words):
+    if what is None:
+        return Counter({"images of the slow checkpoint": expect_sound(words.seed)})
+    expect_found(what, words.seed)
+    return Counter({"planted faults found": 1})
+
+
+def created(built, _what, _words):
+    program = built.program
+    expect_created(program)
+    pair = pair_of(small)
+    first_version = with_number(pair.closed, VERSION.start, FIRST_VERSION)
+    expect_opened(program, first_version, expect_migrated)
+    for data in (pair.closed, pair.opened, first_version):
+        expect_opened(program, data, expect_read_alone)
+    return Counter(created=1)
+
+
+def journals(built, part, words):
+    """Every so many of the files that are written by hand, from one on."""
+    counts = Counter()
+    for openings in batches_of(openings_of(built.program, part, words)):
+        counts += built.open(openings, "journals opened")
+    return counts
+
+
+def openings_of(program, part, words):
+    """The library that is loaded, whose bytes say that a gate is open; the files; and those with a byte changed."""
+    yield Opening("a library", bytes_at(program.library), DAMAGED)
+    for file in islice(files(), part, None, words.jobs):
+        found = read(file.data)
+        expect("what the slow reader says of %s (%s)" % (file.name, found.why), found.answer, file.answer)
+        expect("how many changes %s has" % file.name, found.state and found.state.accepted, file.accepted)
+        yield Opening(file.name, file.data, found.answer, found.state)
+    every = ALL_BYTES if words.is_long else BYTES
+    for name, data, plays_no_part in islice(changed_bytes(), part * every, None, words.jobs * every):
+        found = read(data)
+        expect("what the slow reader says of %s" % name, found.answer == OK or not plays_no_part, True)
+        yield Opening(name, data, found.answer, found.state)
+
+
+def batches_of(items):
+    while batch := list(islice(items, BATCH)):
+        yield batch
+
+
+def replays(built, talk, words):
+    """A conversation, its order, the images of its log, and a sample of them opened and recovered."""
+    program = built.program
+    depth = (LONG if words.is_long else GATE)[talk.is_large]
+    told = told_of(program, talk)
+    follow_order(talk, told)
+    judge, sample = replay(talk, told, words.seed, depth)
+    counts = Counter({"calls": len(told.entries), "images": judge.met, "different files": len(judge.read)})
+    chosen = list({data: Opening(title, data, OK, state) for title, data, state in sample.chosen}.values())
+    counts += built.open(chosen, "images opened")
+    by = random.Random("recoveries %s %d" % (talk.name, words.seed))
+    with_gate = [one for one in chosen if has_open_gate(one.data)]
+    most = 1 if talk.is_large else ALL_RECOVERIES if words.is_long else RECOVERIES
+    for one in with_gate[:most]:
+        counts["images of recoveries"] += replay_recovery(program, one.data, one.state, by, depth)
+    return counts
+
+
+def stops(built, talk, words):
+    told = told_of(built.program, talk)
+    most = None if words.is_long and not talk.is_large else STOPPED[talk.name]
+    return Counter(stops=stop_everywhere(built.program, talk, told, words.seed, most, None if words.is_long else 2))
+
+
+def faults(built, talk, words):
+    told = told_of(built.program, talk)
+    count, images, refused = fail_everywhere(built.program, talk, told, words.seed, 1 if words.is_long else FAILED[talk.name])
+    return Counter({"conversations with faults": count, "images after faults": images, "refused by 91": refused})
+
+
+def kills(built, part, words):
+    count = min(KILLS_AT_ONCE, words.kills - part * KILLS_AT_ONCE)
+    return kill_at_random(built.program, count, words.seed + part)
+
+
+PARTS = {part.__name__: part for part in (planted, created, journals, replays, stops, faults, kills)}
+
+
+# Tasks.
+
+
+def tasks_of(words):
+    talks = {talk.name: talk for talk in short_talks()}
+    whats = {
+        "planted": [None, *PLANTS],
+        "created": [None],
+        "journals": range(words.jobs),
+        "replays": [talks.pop("many pages"), *talks.values()],
+        "stops": [talk for talk in short_talks() if talk.name in STOPPED],
+        "faults": [talk for talk in short_talks() if talk.name in FAILED],
+        "kills": range(-(-words.kills // KILLS_AT_ONCE)),
+    }
+    if words.is_long:
+        whats["replays"] = [*whats["replays"], *whole_talks(WHOLE, words.seed)]
+    parts = words.parts or (PARTS if words.has_checkpoints else ["planted"])
+    return [Task(part, what, words) for part in parts for what in whats[part]]
+
+
+def done(built, task):
+    """Does a task: its title, its counts, and what is wrong."""
+    try:
+        return title_of(task), PARTS[task.part](built, task.what, task.words), None
+    except (Wrong, Damaged, OSError) as fault:
+        return title_of(task), Counter(), str(fault) or repr(fault)
+
+
+class Work:
+    """Tasks that are done by several processes, and what came of them."""
+
+    def __init__(self, pool, built):
+        self.pool, self.built = pool, built
+        self.counts, self.passed, self.failed = Counter(), 0, 0
+
+    def do(self, tasks):
+        for title, counts, fault in self.pool.imap_unordered(partial(done, self.built), tasks):
+            self.counts += counts
+            self.passed, self.failed = self.passed + (not fault), self.failed + bool(fault)
+            if fault:
+                print("%s: %s" % (title, fault), flush=True)
+
+
+def arguments():
+    parser = parser_of(__doc__, PROGRAM)
+    parser.add_argument("--checkpoints", action="store_true", dest="has_checkpoints")
+    parser.add_argument("--long", action="store_true", dest="is_long")
+    parser.add_argument("--seed", type=int, default=0)
+    parser.add_argument("--kills", type=int)
+    parser.add_argument("--images", type=int, default=IMAGES)
+    parser.add_argument("--jobs", type=int, default=os.cpu_count() or 1)
+    parser.add_argument("parts", nargs="*", choices=[*PARTS, []], metavar="PART")
+    words = parser.parse_args()
+    if words.kills is None:
+        words.kills = ALL_KILLS if words.is_long else KILLS
+    return words
+
+
+def main():
+    words = arguments()
+    know(LAST_VERSION)
+    with scratch_folder() as folder, Pool(words.jobs) as pool:
+        work = Work(pool, Built(Program(words.program, build(folder), folder), library_of("forked", folder)))
+        work.do(tasks_of(words))
+        seed = words.seed
+        while words.is_long and 0 < work.counts["images"] < words.images and not work.failed:
+            talks = [long_talk(LONG_ROWS, seed + place) for place in range(words.jobs)]
+            work.do([Task("replays", talk, words) for talk in talks])
+            seed += words.jobs
+        print(", ".join("%d %s" % (count, what) for what, count in work.counts.items()))
+    return summary(work.passed, work.failed)
+
+
+if __name__ == "__main__":
+    sys.exit(main())
