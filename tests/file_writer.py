@@ -105,6 +105,7 @@ class Description:
     alignments: list = field(default_factory=list)
     referents: list = field(default_factory=list)
     accepted: int = 0
+    version: int = 1
     flag: int = 0
     free: int = 0
     leaf_cells: int = CONTENT_BYTES  # at the most, as are the next two
@@ -353,7 +354,7 @@ class Writer:
         numbers = [("pages", len(self.out.data) // PAGE_BYTES), ("first free", first_free), ("free", self.said.free)]
         numbers += [("first catalogue", first), ("catalogue bytes", length)]
         flag = ("flag", number(self.said.flag, 1))
-        parts = [("mark", b"ROADSEG1"), ("format", number(1, 4)), flag, ("zeros", bytes(3))]
+        parts = [("mark", b"ROADSEG1"), ("format", number(self.said.version, 4)), flag, ("zeros", bytes(3))]
         self.out.put_parts("file", 16, parts + [(name, number(value, 4)) for name, value in numbers])
 
 

@@ -146,7 +146,7 @@ def a_closed_file_is_as_the_format_says(program):
 
 
 def what_is_saved_stands_in_the_file(program):
-    """After SAVE, after each line, and after each REOPEN the file in use is, but for its flag, one of the slow machine's state."""
+    """After SAVE, after each line, and after each REOPEN the file in use is one of the slow machine's state."""
     for name in SAVED:
         file, machine = program.file(name), Machine()
         program.expect(["create", "--file", file], b"", b"")
@@ -162,10 +162,8 @@ def what_is_saved_stands_in_the_file(program):
 
 
 def expect_state(file, machine):
-    """The bytes of a file in use, but for its flag, stand for the state of a machine."""
-    data = bytes_at(file)
-    expect("the flag of a file in use", data[FLAG_PLACE], 1)
-    found = read(as_closed(data))
+    """The bytes of a file in use stand for the state of a machine."""
+    found = read(bytes_at(file))
     expect("why the file is none", found.why, None)
     expect("what is in it", contents_of(machine_of(found.state)), contents_of(machine))
 
@@ -174,7 +172,7 @@ def a_file_that_changes_in_use_is_judged_anew(program):
     """A byte of a file is another one when its page is read again: REOPEN says what the slow reader says of these bytes.
 
     On page 0 any other field is damage, also where the whole file would be another one of the same state; but the flag that says
-    that the file is open is not looked at.
+    that the file is being written is not looked at.
     """
     sent = DEFINED + FOUR_TIMES + b"0 DEFINE LINE TABLE gone (n INT)\n0 INSERT INTO gone ON A FROM 0 TO 1 VALUES (1)\n0 DROP TABLE gone\n"
     file = program.created(sent, b"0 OK 0\n0 OK 0\n0 OK 1000\n0 OK 1000\n0 OK 0\n0 OK 500\n0 OK 0\n0 OK 1000\n0 OK 0\n")
@@ -184,7 +182,7 @@ def a_file_that_changes_in_use_is_judged_anew(program):
     with started(program, "run", "--file", file) as process:
         rows = answer_to(process, SELECTED)
         expect("the rows before", rows, b"0 ROW A 0.000 2.500 'AC'\n0 OK 1\n")
-        for flag in (b"\0", b"\7", b"\1"):
+        for flag in (b"\1", b"\7", b"\0"):
             put(file, flag, FLAG_PLACE)
             expect("REOPEN with the flag %r" % flag, answer_to(process, b"0 REOPEN\n"), b"0 OK 0\n")
             expect("the rows with the flag %r" % flag, answer_to(process, SELECTED), rows)
@@ -762,19 +760,35 @@ def an_address_in_use_closes_the_file(program):
     program.expect(["run", "--file", file], SELECTED, ROWS)
 
 
-def a_killed_server_leaves_its_file_open(program):
+def a_killed_server_leaves_what_was_saved(program):
+    """What was accepted after SAVE is gone, and what was saved is there; where only questions were asked, no byte is another."""
     file = program.created(DEFINED, b"0 OK 0\n0 OK 0\n")
+    saved, lost = (b"0 INSERT INTO pave ON A FROM %d TO %d VALUES ('AC')\n" % span for span in ((0, 2), (3, 4)))
+    data = bytes_at(file)
     for sign in (signal.SIGKILL, signal.SIGTERM):
         with serving(program, file, 2) as server:
-            server.expect_answers(SELECTED + b"0 SAVE\n", b"0 OK 0\n0 OK 0\n")
+            server.expect_answers(SELECTED, b"0 OK 0\n")
             server.process.send_signal(sign)
             expect("the end of the server", ended(server.process).status, -sign)
-        data = bytes_at(file)
-        program.expect(["run", "--file", file], SELECTED, b"", NOT_CLOSED)
-        program.expect(["serve", "--file", file], b"", b"", NOT_CLOSED)
-        program.expect(["create", "--file", file], b"", b"", EXISTS)
-        expect("the file after that", bytes_at(file), data)
-        put(file, b"\x00", FLAG_PLACE)
+        expect("the file that was only asked", bytes_at(file), data)
+    answered = b"0 ROW A 0.000 2.000 'AC'\n0 OK 1\n"
+    for sign, new in ((signal.SIGKILL, b"2000"), (signal.SIGTERM, b"0")):
+        with serving(program, file, 2) as server:
+            server.expect_answers(saved + b"0 SAVE\n" + lost, b"0 OK %s\n0 OK 0\n0 OK 1000\n" % new)
+            server.process.send_signal(sign)
+            expect("the end of the server", ended(server.process).status, -sign)
+        program.expect(["run", "--file", file], SELECTED, answered)
+
+
+def a_file_that_is_being_written_is_refused(program):
+    """Its open flag is set, as where a run was killed in a SAVE: no byte of it is written then."""
+    file = program.created(DEFINED, b"0 OK 0\n0 OK 0\n")
+    put(file, b"\x01", FLAG_PLACE)
+    data = bytes_at(file)
+    program.expect(["run", "--file", file], SELECTED, b"", NOT_CLOSED)
+    program.expect(["serve", "--file", file], b"", b"", NOT_CLOSED)
+    program.expect(["create", "--file", file], b"", b"", EXISTS)
+    expect("the file after that", bytes_at(file), data)
 
 
 TESTS = [
@@ -809,7 +823,8 @@ TESTS = [
     a_hundred_peers_are_served_one_after_another,
     peers_wait_for_their_turn,
     an_address_in_use_closes_the_file,
-    a_killed_server_leaves_its_file_open,
+    a_killed_server_leaves_what_was_saved,
+    a_file_that_is_being_written_is_refused,
 ]
 
 

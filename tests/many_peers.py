@@ -43,10 +43,11 @@ def created(program):
 
 
 def memory_of(process):
-    """Bytes of memory that a process has, counted page by page: the counts in `statm` may be some pages off for each processor."""
+    """Bytes of memory that a process has for itself, counted page by page: the counts in `statm` may be some pages off for each
+    processor, and pages of its program come and go as the machine has room."""
     with open("/proc/%d/smaps_rollup" % process.pid, encoding="ascii") as file:
-        resident = next(line for line in file if line.startswith("Rss:"))
-    return int(resident.split()[1]) * 1024
+        own = next(line for line in file if line.startswith("Anonymous:"))
+    return int(own.split()[1]) * 1024
 
 
 def thousands_of_peers(program, words):

@@ -140,8 +140,18 @@ class Running:
             self.process.stdin.write(sent)
 
     def replies(self, count):
-        """The next replies."""
-        raise NotImplementedError
+        """The next replies. Where the program ends before, one is what it had written of it, and others are empty."""
+        data, ends, seen = bytearray(), [0], 0
+        while len(ends) <= count:
+            piece = self.piece()
+            if not piece:
+                break
+            data += piece
+            ends += [found.end() for found in FINISH.finditer(data, seen)]
+            seen = data.rfind(b"\n") + 1
+        bounds = [*ends[:count], len(data)]
+        replies = [bytes(data[start:end]) for start, end in zip(bounds, bounds[1:])]
+        return replies + [b""] * (count - len(replies))
 
     def piece(self):
         """What it writes next; nothing where it has ended."""

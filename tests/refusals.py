@@ -14,9 +14,9 @@ queries are asked again. And files are created.
   the line before it, where it changed nothing, is answered as before, and each query of the conversation as in a run that was
   sent only what comes before the refused line. Sent again, the line is answered as wanted, and so is all that follows.
 - Where the program can't start it says so, with status 1, and answers nothing. The file is what it was, and a further run
-  answers all. Only where the open flag's own write or sync failed that flag may be set, and the file then refused by 95.
+  answers all.
 - Where it can't close the file it says so, with status 1. A further run refuses the file by 94 or 95, or, where the flag is
-  no longer set, answers each query as before.
+  not set, answers each query as before, or as after a front of the lines, whose state by the slow machine the file has then.
 - Else it ends with status 0, and a further run answers each query as before.
 - Where it can't create a file it says so, with status 1. What is left is refused, or is the file that was to be.
 - With all reads and writes of the file cut short nothing changes, neither a reply nor a byte of the file that is left.
@@ -42,7 +42,9 @@ from conversations import FOLDER, exchanges_of
 from harness import Wrong, expect, parser_of, summary
 from programs import PROGRAM, Ended, scratch_folder
 from refusing import NOTHING, WELL, Counts, Program, Refusal, build
-from slow_pages import FLAG_PLACE, as_closed
+from slow_file import read
+from slow_pages import FLAG_PLACE
+from stored_machine import ChangingMachine, contents_of, machine_of
 from worked import WORKED
 
 FAULTS_SHOWN = 20
@@ -152,8 +154,8 @@ class Held:
         self.script, self.way, self.lines, self.data = script, way, lines, data
         self.name = "%s, %s" % (script.name, WAYS[way])
         self.tail = b"" if way == "again" else script.tail
-        self.counts = None
-        self.growths_after, self.calls_after = [], []  # each line, in a run in which nothing is refused
+        self.counts, self.left = None, None  # of a run in which nothing is refused
+        self.growths_after, self.calls_after = [], []  # each line, in that run
 
     def is_over_file(self):
         return self.data is not None
@@ -170,7 +172,8 @@ class Held:
                 self.calls_after.append(run.counts().calls())
             expect("the end", run.end(self.tail), WELL)
             self.counts = run.counts()
-        return program.bytes_left() if self.is_over_file() else None
+        self.left = program.bytes_left() if self.is_over_file() else None
+        return self.left
 
     def flushing_calls(self):
         """The numbers of the device calls of the first line that writes home more pages than may be held, where one does."""
@@ -195,6 +198,16 @@ class Held:
     def queries_at(self, program, place):
         """The queries of the conversation, each with its reply where just the lines before this place were sent."""
         return self.script.queries_at(program, len(self.script.lines) if self.way == "again" else place)
+
+    def place_written_before(self, left):
+        """The place of the line before which the slow machine has the state of the file that is left, but for cursors."""
+        found, machine, place = read(left), machine_of(read(self.data).state, ChangingMachine), 0
+        expect("why the file that is left is none", found.why, None)
+        while machine.changes < found.state.accepted and place < len(self.lines):
+            machine.answer(self.lines[place].sent.removesuffix(b"\n"))
+            place += 1
+        expect("the state before line %d" % place, contents_of(machine_of(found.state)), contents_of(machine))
+        return place
 
     def faults(self, refusal):
         """What may be told where this is refused."""
@@ -266,14 +279,8 @@ class Judge:
         self.judge_fault(self.run.end(), "at the start")
         if not self.held.is_over_file():
             return
-        left, data = self.program.bytes_left(), self.held.data
-        if self.kind in ("write", "sync"):
-            expect("the file but for its flag", as_closed(left) == as_closed(data), True)
-            self.how += ", the file as it was" if left == data else ", the flag set"
-        else:
-            expect("the file", left == data, True)
-        is_opened = is_answered_over(self.program, self.held.lines, [NOT_CLOSED])
-        expect("whether the file is opened", is_opened, left == data)
+        expect("the file", self.program.bytes_left() == self.held.data, True)
+        expect("whether the file is opened", is_answered_over(self.program, self.held.lines, []), True)
 
     def judge_end(self):
         """The program ends by itself. Where nothing was refused before, something is now."""
@@ -288,10 +295,15 @@ class Judge:
             self.judge_left(ended == WELL)
 
     def judge_left(self, is_well):
-        """The file that is left is closed, as it has to be where all is well, and answered from as before; or it is refused."""
-        is_closed = self.program.bytes_left()[FLAG_PLACE] == 0
+        """The file that is left is closed, as it has to be where all is well, and answered from as before; or it is refused. Where
+        its writing failed before the flag was set, it has the state after a front of the lines, and is answered from as there."""
+        left, place = self.program.bytes_left(), len(self.held.lines)
+        is_closed = left[FLAG_PLACE] == 0
         expect("whether the file is closed", is_closed or not is_well, True)
-        queries = self.held.queries_at(self.program, len(self.held.lines))
+        if is_closed and not is_well and left != self.held.left:
+            place = self.held.place_written_before(left)
+            self.how += ", as written before"
+        queries = self.held.queries_at(self.program, place)
         is_answered = is_answered_over(self.program, queries, [DAMAGED, NOT_CLOSED])
         expect("whether the file is answered from", is_answered, is_closed)
         if not is_well:

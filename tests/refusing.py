@@ -7,7 +7,7 @@ import struct
 from typing import NamedTuple
 
 from harness import Wrong, bytes_at, expect
-from programs import FINISH, Ended, Running, library_of
+from programs import Ended, Running, library_of
 
 LONGEST = 60  # seconds that a reply or an end may take
 
@@ -95,20 +95,6 @@ class Run(Running):
     def __exit__(self, *fault):
         super().__exit__(*fault)
         self.told.close()
-
-    def replies(self, count):
-        """The next replies. Where the program ends before, one is what it had written of it, and others are empty."""
-        data, ends, seen = bytearray(), [0], 0
-        while len(ends) <= count:
-            piece = self.piece()
-            if not piece:
-                break
-            data += piece
-            ends += [found.end() for found in FINISH.finditer(data, seen)]
-            seen = data.rfind(b"\n") + 1
-        bounds = [*ends[:count], len(data)]
-        replies = [bytes(data[start:end]) for start, end in zip(bounds, bounds[1:])]
-        return replies + [b""] * (count - len(replies))
 
     def counts(self):
         """How many growths the run has asked for by now, and how many device calls it has made."""

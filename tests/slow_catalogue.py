@@ -10,7 +10,8 @@ from functools import lru_cache
 from typing import NamedTuple
 
 from slow_commands import Column
-from slow_pages import INDEXES, TABLES, want
+from slow_journal import want
+from slow_pages import INDEXES, TABLES
 from slow_reader import LONGEST_NAME, LONGEST_TEXT, RESERVED
 
 ROUTES = 4096

@@ -3,8 +3,8 @@
 
     python3 tests/slow_file.py FILE [--why]
 
-It prints `OK` and then the state, or `ERR 94` where the file stands for none, or `ERR 95` where it stands for one and
-was not closed. It is written from the format and the definitions alone and shares nothing with the crates: pages are
+It prints `OK` and then the state, or `ERR 94` where the file stands for none, or `ERR 95` where it is of version 1, stands for
+one and was not closed. Of a file whose gate is open it reads the pages of the journal (slow_journal.py). It is written from the format and the definitions alone and shares nothing with the crates: pages are
 read by slow_pages.py, the catalogue by slow_catalogue.py, and what a view's text says, and its checks, are those of the
 slow machine. A file may be longer than the pages that it tells.
 
@@ -29,7 +29,8 @@ from typing import NamedTuple
 
 from slow_catalogue import Catalogue, catalogue_of, is_name
 from slow_commands import DefineView, Named, Refused, Relative, parts_of, refuse_if
-from slow_pages import NO_TREE, Damaged, Pages, want
+from slow_journal import Damaged, want
+from slow_pages import NO_TREE, Pages
 from slow_queries import View, opened, size_of
 from slow_reader import GREATEST_NUMBER, command_of, session_of, text_of_line
 from slow_tables import Table

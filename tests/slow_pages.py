@@ -1,20 +1,21 @@
 """The pages of a file, for the slow reader of files: page 0, the directory, chains of pages, and trees.
 
-It is written from the format alone and shares nothing with the crates. Each page is taken once, by whoever it belongs
-to, and its first 16 bytes are looked at then. Of what follows no more is given than is counted there, where something is:
-so which bytes of a file the reader can have looked at is known. All numbers are big-endian. What does not fit is `Damaged`.
+It is written from the format alone and shares nothing with the crates. Where the gate is open, pages are those of the journal
+(slow_journal.py). Each page is taken once, by whoever it belongs to, and its first 16 bytes are looked at then. Of what follows
+no more is given than is counted there, where something is: so which bytes of a file the reader can have looked at is known. All
+numbers are big-endian. What does not fit is `Damaged`.
 """
 
 import struct
 from functools import lru_cache
 from typing import NamedTuple
 
-PAGE_BYTES = 4096
+from slow_journal import FIRST_VERSION, LAST_VERSION, PAGE_BYTES, page_at, places_of, want
+
 HEADER_BYTES = 16
 CONTENT_BYTES = PAGE_BYTES - HEADER_BYTES
 MOST_PAGES = 1_048_576
 MARK = b"ROADSEG1"
-FORMAT = 1
 FLAG_PLACE = 28
 PAGE_0_END = 52
 
@@ -27,16 +28,6 @@ TREE_ITEM = struct.Struct(">IQQ")
 DIRECTORY_FORM = struct.Struct(">" + "IQQ" * TABLES + "I" * INDEXES + "IQQ" + "Q")
 PAGE_HEADER = struct.Struct(">BBHIII")
 FILE_FIELDS = struct.Struct(">8sIB3sIIIII")
-
-
-class Damaged(Exception):
-    """The file stands for no state."""
-
-
-def want(is_so, what):
-    """What a file of a state has: without it the file is damaged."""
-    if not is_so:
-        raise Damaged(what)
 
 
 def is_zeros(data):
@@ -85,16 +76,18 @@ class Pages:
 
     def __init__(self, data):
         self.data = data
+        self.places = places_of(data)
         self.taken = set()
-        self.given = []
+        self.given = list(self.places.given)
         self.count = 1
-        want(len(data) >= PAGE_BYTES, "a file has a page")
         content = self.take(0, FILE_HEADER).content
-        mark, form, self.flag, zeros, self.count, *numbers = FILE_FIELDS.unpack_from(content)
+        mark, version, self.flag, zeros, self.count, *numbers = FILE_FIELDS.unpack_from(content)
         self.first_free, self.free, self.first_catalogue, self.catalogue_bytes = numbers
-        want(mark == MARK and form == FORMAT, "the mark and the format")
+        want(mark == MARK and version in (FIRST_VERSION, LAST_VERSION), "the mark and the format")
+        want(version == self.places.version, "page 0 says the file's version")
+        want(version == FIRST_VERSION or self.flag == 0, "version 2 has no flag")
         want(is_zeros(zeros) and is_zeros(content[PAGE_0_END - HEADER_BYTES :]), "the rest of page 0 is zeros")
-        want(self.count <= MOST_PAGES, "no more pages than the limit")
+        want(2 <= self.count <= MOST_PAGES, "two pages at the least, and no more than the limit")
         want(self.count <= len(data) // PAGE_BYTES, "the file has its pages")
 
     def take(self, number, *kinds, widths=()):
@@ -102,15 +95,16 @@ class Pages:
         the bytes of each may be told."""
         want(number < self.count and number not in self.taken, "a page of its own")
         self.taken.add(number)
-        start = number * PAGE_BYTES
-        kind, zero, count, own_number, next_page, last = PAGE_HEADER.unpack_from(self.data, start)
-        end = start + HEADER_BYTES + min(count * widths[kind] if kind in widths else CONTENT_BYTES, CONTENT_BYTES)
-        self.given.append((start, end))
+        data = page_at(self.data, self.places, number)
+        kind, zero, count, own_number, next_page, last = PAGE_HEADER.unpack_from(data)
+        end = HEADER_BYTES + min(count * widths[kind] if kind in widths else CONTENT_BYTES, CONTENT_BYTES)
+        start = self.places.start(number)
+        self.given.append((start, start + end))
         want(kind in kinds, "the kind of page %d" % number)
         want(own_number == number and zero == 0 and last == 0, "the header of page %d" % number)
         want(next_page == 0 or kind in (CATALOGUE, FREE), "no next page of page %d" % number)
         want(count == 0 or kind in (LEAF, INNER, CATALOGUE), "no count in page %d" % number)
-        return Page(kind, count, next_page, self.data[start + HEADER_BYTES : end])
+        return Page(kind, count, next_page, data[HEADER_BYTES:end])
 
     def chain(self, first, kind, widths=()):
         """The pages of a chain, from its first on; 0 is the end."""
