@@ -1,5 +1,5 @@
 #!/usr/bin/env python3
-"""Times a step of the pager: `begin`, `page_mut` of one page, a byte changed, `commit`.
+"""Times a step of the pager: `make_room`, `begin`, `page_mut` of one page, a byte changed, `commit`.
 
     bench/pager.py [--sizes 1000,10000,100000] [--rounds 7] [--folder FOLDER] [--unproved]
 
@@ -9,8 +9,8 @@ each size it prints the nanoseconds of a step, the best of the rounds, and at la
 smallest one.
 
 Two loads: `in runs`, where 900 steps change 900 pages that no step has read before, which are then written, so that each size
-reads and writes as much; and `scattered`, over all pages in turn, where `begin` writes as it comes to that. In a file of 1,000
-pages all of them come to be held as changes, so there is nothing to read, and `begin` never writes.
+reads and writes as much; and `scattered`, over all pages in turn, where `make_room` writes as it comes to that. In a file of 1,000
+pages all of them come to be held as changes, so there is nothing to read, and `make_room` never writes.
 
 --folder keeps the repository, so that a second run builds what has changed. --unproved runs the program by `rt try`, with
 checks and without a proof: slower, but each size alike.

@@ -1,5 +1,5 @@
 -- How an engine comes to be, is saved, read anew and put away.
-use Rattle.std.specs.Prelude.{◌≡◌, ◌≢◌, ◌⊎◌, ℕ, true, IfErr, IfOk, MatchResult, OnOk, Result, Ok, Err}
+use Rattle.std.specs.Prelude.{◌≡◌, ◌≢◌, ℕ, true, IfErr, IfOk, MatchResult, OnOk, Result, Ok, Err}
 use Rattle.rs_disk.specs.Content.{Content}
 use Rattle.rs_disk.specs.declared.disk.Disk as disk
 use Rattle.rs_engine.specs.Kept.{EngineState, IsMachine}
@@ -8,8 +8,8 @@ use Rattle.rs_machine.specs.State.{State, fresh}
 use Rattle.rs_machine.specs.Step.{without_cursors}
 use Rattle.rs_refusal.specs.declared.refusal.Refusal.{Refusal}
 use Rattle.rs_refusal.specs.declared.refusal.Refusal.TheVariants as refusal
-use Rattle.rs_store.specs.Standing.{IsFileOf, Stands}
-use Rattle.rs_store.specs.Calls.{IsClosedFile, IsLeftOpen, IsNoFileOfAny, StaysFile}
+use Rattle.rs_store.specs.Standing.{Stands}
+use Rattle.rs_store.specs.Calls.{IsLeftOpen, IsNoFileOfAny}
 use Rattle.rs_store.specs.Kept.{StoreState}
 use Rattle.rs_syntax.specs.Tree.{CommandTree, reopen, save}
 
@@ -55,30 +55,27 @@ module _ {D : Type 0} (d : disk.Ghosts D) where
     pub stood : Stands limit content state
     pub is : IsMachine d engine (machine_with state engine)
 
-  -- What an honest disk is opened as. After all refusals but 91 it is as it was, and after 91 too unless it stood for a state, of
-  -- which it is a file then, though its flag may be any.
+  -- What an honest disk is opened as. It is as it was, whatever is answered.
   pub record Opens (limit : ℕ) (old : D) (result : Result (EngineState D) (D × Refusal)) : Type 0 where
     pub opens : IfOk result (OpensMachine limit (d.seen old))
     pub damaged : IfErr result (λ refused. refused.1 ≡ refusal.DamagedFile → IsNoFileOfAny limit (d.seen old))
     pub left_open : IfErr result (λ refused. refused.1 ≡ refusal.FileNotClosed → IsLeftOpen limit (d.seen old))
-    pub seen : IfErr result (λ refused. refused.1 ≢ refusal.Disk → d.seen refused.0 ≡ d.seen old)
-    pub before : IfErr result (λ refused. (d.seen refused.0 ≡ d.seen old) ⊎ IsClosedFile limit (d.seen old))
-    pub stays : IfErr result (λ refused. StaysFile limit (d.seen old) (d.seen refused.0))
+    pub seen : MatchResult result (λ engine. d.seen engine.store.pager.disk ≡ d.seen old) (λ refused. d.seen refused.0 ≡ d.seen old)
 
   -- ---- an engine in use
 
-  -- The disk is synced, and a file of the state that the engine was in, without its cursors. Its limit stays, and so does its disk's
+  -- The disk is synced, and stands for the state that the engine was in, without its cursors. Its limit stays, and so does its disk's
   -- honesty.
   pub record Saves {T : Type 0} (result : Result T Refusal) (old new : EngineState D) : Type 0 where
-    pub file : (machine : Machine) → IsMachine d old machine → OnOk result (IsFileOf new.store.pager.limit (d.seen new.store.pager.disk) (without_cursors machine.state))
+    pub stands : (machine : Machine) → IsMachine d old machine → OnOk result (Stands new.store.pager.limit (d.seen new.store.pager.disk) (without_cursors machine.state))
     pub synced : OnOk result (d.is_synced new.store.pager.disk ≡ true)
     pub honesty : d.is_honest new.store.pager.disk ≡ d.is_honest old.store.pager.disk
     pub limit : new.store.pager.limit ≡ old.store.pager.limit
 
-  -- SAVE and REOPEN leave the disk synced, and a file of the state that the engine was in, without its cursors.
+  -- SAVE and REOPEN leave the disk synced, and it stands for the state that the engine was in, without its cursors.
   pub record SavesWhereAsked (tree : CommandTree) (reply : Reply) (old new : EngineState D) : Type 0 where
-    pub file : (machine : Machine) → IsMachine d old machine
-        → WhereSaved tree reply (IsFileOf new.store.pager.limit (d.seen new.store.pager.disk) (without_cursors machine.state))
+    pub stands : (machine : Machine) → IsMachine d old machine
+        → WhereSaved tree reply (Stands new.store.pager.limit (d.seen new.store.pager.disk) (without_cursors machine.state))
     pub synced : WhereSaved tree reply (d.is_synced new.store.pager.disk ≡ true)
 
   -- ---- an engine that is put away

@@ -233,9 +233,9 @@ pub fn explain(refusal: &Refusal) -> Explanation {
             mended: "roadseg run --file roads.seg",
         },
         Refusal::FileNotClosed => Explanation {
-            meaning: "The program was stopped before it closed the file, which may have half of a change in it.",
+            meaning: "The program was stopped while it wrote the file, which may have half of a change in it.",
             look: "The backup, and the lines that were sent since. There is no crash safety yet.",
-            refused: "roadseg run --file roads.seg, after a run that was killed",
+            refused: "roadseg run --file roads.seg, after a run that was killed in a SAVE",
             mended: "roadseg run --file backup.seg",
         },
     }

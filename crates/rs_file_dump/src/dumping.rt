@@ -61,7 +61,7 @@ pub fn dump_disk<D: Disk, W: Write, E: Write>(
     spans_within_hold_what_the_table_holds();
     store_stands_in_one_state::<D>();
     state_of_a_disk_is_lawful();
-    match Store::look(alloc, disk, GREATEST_LIMIT) {
+    match Store::open(alloc, disk, GREATEST_LIMIT) {
         Ok(store) => {
             let mut held = HeldFile { store };
             let ended = dump(alloc, &mut held, wanted, output, errors);

@@ -76,8 +76,11 @@ impl Changes {
 
     /// What the changed pages are by number, to be read.
     pub fn slots(&self) -> &BTreeMap<u32, Slot>
-        ensures { result.now.entries ≡ self.now }
+        ensures same { result.now.entries ≡ self.now }
+        ensures pages { ListsHeld self.now }
     {
+        // For the proof: that the entries are in order.
+        let _entries = self.slots.len();
         &self.slots
     }
 

@@ -6,6 +6,7 @@
 ghost use Rattle.std.specs.Prelude.{◌≡◌, ◌≤◌, ◌<◌, ◌⊎◌, ℕ, Some, None, [], length, is_some, IfOk, OnOk, OnErr, IsTrue, IsSome, Err, IsOkUnless, Contains};
 ghost use Rattle.std.specs.Option.{option_map};
 ghost use Rattle.rs_disk.specs.Counts.{Counts};
+ghost use Rattle.rs_disk.specs.Crash.{Same, Passes};
 ghost use Rattle.rs_pages.specs.declared.pages.TheConstants.{GREATEST_LIMIT};
 ghost use Rattle.rs_page_cache.specs.Stored.{disk_page};
 ghost use Rattle.rs_page_cache.specs.Clean.{clean_at, has_number, kept_pages, Loads};
@@ -97,6 +98,9 @@ impl CleanPages {
         ensures most { self.new.most ≡ self.old.most }
         ensures same { IsTrue (D.is_honest disk.old) → D.seen disk.new ≡ D.seen disk.old }
         ensures honesty { D.is_honest disk.new ≡ D.is_honest disk.old }
+        ensures keeping { D.keeps_crashes disk.new ≡ D.keeps_crashes disk.old }
+        ensures crash { IsTrue (D.keeps_crashes disk.old)
+            → Passes D.may_leave D.left_since Same disk.old disk.new }
         ensures synced { D.is_synced disk.new ≡ D.is_synced disk.old }
         ensures refused { IsOkUnless result Refusal.Disk }
         ensures count { Counts result (D.failures disk.old) (D.failures disk.new) }

@@ -2,7 +2,9 @@
 use Rattle.std.proofs.Common.{◌≡◌, ◌≢◌, ◌<◌, ◌≤◌, inl, inr, ℕ, Bool, true, Option, Some, None, IsSome, IfSome, List, is_some, refl, sym, ap, ◌∙◌, subst, arith}
 use Rattle.std.proofs.lemmas.Bool.{true≢false, cases_eq}
 use Rattle.rs_disk.specs.Content.{Content}
+use Rattle.rs_disk.specs.Crash.{Same}
 use Rattle.rs_disk.specs.declared.disk.Disk as disk
+use Rattle.rs_disk.proofs.Reaching.{passes_none}
 use Rattle.rs_page.specs.declared.file_header.FileHeader.{FileHeader}
 use Rattle.rs_pages.specs.Held.{HeldPage, page_or, held_change, with_copy}
 use Rattle.rs_pages.specs.Store.{Store, Rests, HoldsCopy, Edits}
@@ -62,8 +64,10 @@ module _ {D : Type 0} (d : disk.Ghosts D) (p : Paged D) (changes : Changes) (fie
     changed = same;
     lacks = refl;
     honesty = refl;
+    keeping = refl;
     synced = refl;
     unwritten = λ _. refl;
+    crash = λ _. passes_none d.may_leave d.left_since Same p.disk (λ _. refl);
     most_clean = refl;
   }
 

@@ -1,20 +1,22 @@
 -- What a flush makes of a pager and its disk.
-use Rattle.std.proofs.Common.{IsTrue, ◌≡◌, ◌<◌, ◌≤◌, ◌+◌, ◌-◌, ◌*◌, ℕ, Option, Some, None, List, [], ◌∷◌, Contains, ap, sym, ◌∙◌, subst, true, false, Bool, nat_lt, refl, arith, rules, tests}
+use Rattle.std.proofs.Common.{IsTrue, IsSome, ◌≡◌, ◌<◌, ◌≤◌, ◌+◌, ◌-◌, ◌*◌, ℕ, Option, Some, None, List, [], ◌∷◌, Contains, ap, sym, ◌∙◌, subst, true, false, Bool, nat_lt, refl, arith, rules, tests}
 use Rattle.std.specs.Prelude.{if◌then◌else◌, ◌&&◌}
+use Rattle.std.proofs.lemmas.Bool.{false≢true}
 use Rattle.rs_disk.specs.Content.{Content}
 use Rattle.rs_disk.specs.declared.disk.Disk as disk
 use Rattle.rs_page.specs.declared.page.TheConstants.{PAGE_SIZE}
 use Rattle.rs_page.specs.FileHeader.{IsFileHeader}
 use Rattle.rs_page.specs.declared.file_header.FileHeader.{FileHeader}
-use Rattle.rs_pages.specs.Held.{HeldPage, page_or, held_change}
+use Rattle.rs_page.specs.declared.file_header.TheConstants.{FLAG_OFFSET}
+use Rattle.rs_pages.specs.Held.{HeldPage, nothing_held, page_or, held_change}
 use Rattle.rs_pages.specs.PageMap.{SamePages, is_page}
 use Rattle.rs_pages.specs.declared.pages.TheConstants.{GREATEST_LIMIT}
-use Rattle.rs_page_cache.specs.Changes.{Changes, held_at}
+use Rattle.rs_page_cache.specs.Changes.{Changes, ListsHeld, held_at}
 use Rattle.rs_page_cache.specs.Clean.{Clean, HeldClean, AreClean, AreAfterHeader}
 use Rattle.rs_page_cache.specs.Stored.{disk_page}
 use Rattle.rs_pager.specs.Paged.{Paged, IsSound, held}
 use Rattle.rs_pager.specs.Writing.{AreBelow, WritesOut, HasAll}
-use Rattle.rs_pager.specs.Maps.{page_or_stored, committed, working, KeepsChanges, KeepsMaps, KeepsDiskMasked, HoldsNoChange, IsTied}
+use Rattle.rs_pager.specs.Maps.{page_or_stored, committed, working, KeepsChanges, KeepsMaps, HoldsNoChange, IsShut, IsTied}
 use Rattle.rs_pager.specs.Opened.{WritesAll, WritesAtMost}
 
 -- the clean pages are dropped and the disk is another
@@ -52,7 +54,7 @@ pub stored-written : (pages n : ℕ) (change : Option (List ℕ)) (new old : Con
 stored-written pages n None new old same has = stored-kept pages n None new old same
 stored-written pages n (Some page) new old same has = ap (λ (p : List ℕ). if is_page pages n then Some p else None) (has page refl)
 
-page_or-none : (copy committed_fields : Option (List ℕ)) → page_or copy committed_fields ≡ None → committed_fields ≡ None
+pub page_or-none : (copy committed_fields : Option (List ℕ)) → page_or copy committed_fields ≡ None → committed_fields ≡ None
 page_or-none (Some page) committed_fields e = cc
 page_or-none None committed_fields e = e
 
@@ -98,7 +100,7 @@ module _ {D : Type 0} (d : disk.Ghosts D) (old : Paged D) (disk : D)
     (honesty : d.is_honest disk ≡ d.is_honest old.disk)
     (out : IsTrue (d.is_honest old.disk) → WritesOut old.changes old.is_header_changed (d.seen old.disk) (d.seen disk)) where
   kept_header : IsTied d old → old.is_header_changed ≡ false → IsFileHeader (disk_page (d.seen disk) 0) old.committed_fields
-  kept_header tied e = subst (λ (page : List ℕ). IsFileHeader page old.committed_fields) (sym ((out tied.honest).header e)) (tied.header e)
+  kept_header tied e = (out tied.honest).header e old.committed_fields (tied.header e)
 
   faulted_tied : IsTied d old → IsTied d (faulted_pager disk old)
   faulted_tied tied = record {
@@ -148,9 +150,6 @@ module _ {D : Type 0} (d : disk.Ghosts D) (old : Paged D) (disk : D)
     past = λ n past. (out honest).others n (omega (arith, past, sound.directory)) (no_change-past n past);
     no_longer = (out honest).no_longer old.committed_fields.pages (omega (arith, sound.directory)) (sound-below old.limit old.changes old.committed_fields old.working old.is_begun sound);
   }
-
-  pub masked-kept : KeepsDiskMasked d old (faulted_pager disk old)
-  masked-kept = λ honest. (out honest).masked
 
   module _ (shut : old.is_begun ≡ false) (has : IsTrue (d.is_honest old.disk) → HasAll old.changes old.committed_fields old.is_header_changed (d.seen disk)) where
     written_header : IsTied d old → IsFileHeader (disk_page (d.seen disk) 0) old.committed_fields
@@ -221,14 +220,12 @@ written-no_change disk p = record { none = λ n. refl; lacks = refl }
 -- what a flush leaves where a call of the disk failed
 pub record FaultsHome {D : Type 0} (d : disk.Ghosts D) (old new : Paged D) : Type 0 where
   pub keeps : KeepsMaps d old new
-  pub masked : KeepsDiskMasked d old new
   pub others : IsTrue (d.is_honest old.disk) → WritesAtMost d old new
   pub changes : KeepsChanges old new
 
 -- and where none did
 pub record WritesHome {D : Type 0} (d : disk.Ghosts D) (old new : Paged D) : Type 0 where
   pub keeps : KeepsMaps d old new
-  pub masked : KeepsDiskMasked d old new
   pub others : IsTrue (d.is_honest old.disk) → WritesAtMost d old new
   pub written : IsTied d old → WritesAll d old new
   pub no_change : HoldsNoChange new
@@ -247,7 +244,6 @@ module _ {D : Type 0} (d : disk.Ghosts D) (p old : Paged D) (disk : D) (clean : 
       (subst (λ (l : HeldClean). FaultsHome d p (record p { disk = disk; clean = l.pages; most_clean = l.most })) (sym dropped)
       (record {
         keeps = faulted-keeps d p disk sound honesty told;
-        masked = masked-kept d p disk sound honesty told;
         others = writes-at_most d p disk sound honesty told;
         changes = faulted-changes d p disk sound honesty told;
       }))
@@ -263,13 +259,45 @@ module _ {D : Type 0} (d : disk.Ghosts D) (p old : Paged D) (disk : D) (clean : 
       (subst (λ (l : Changes). WritesHome d p (record p { disk = disk; changes = l; clean = []; is_header_changed = false })) (sym none)
       (record {
         keeps = written-keeps d p disk sound honesty told shut all;
-        masked = masked-kept d p disk sound honesty told;
         others = λ honest.
             let at_most = writes-at_most d p disk sound honesty told honest in
             record { changes = at_most.changes; past = at_most.past; no_longer = at_most.no_longer };
         written = written-all d p disk sound honesty told shut all;
         no_change = written-no_change disk p;
       })))
+
+-- where nothing is held, no entry is there
+pub none-listed : (changes : Changes) → ListsHeld changes → ((n : ℕ) → held_at changes n ≡ nothing_held) → changes ≡ []
+none-listed [] lists none = refl
+none-listed ((n, h) ∷ rest) lists none =
+    let first : Contains ((n, h) ∷ rest) (n, h) = (0, omega arith, refl) in
+    let nothing : h ≡ nothing_held = lists.each n h first ∙ none n in
+    let some : IsSome (held_change nothing_held) = subst (λ (x : HeldPage). IsSome (held_change x)) nothing (lists.some n h first) in
+    absurd (false≢true some)
+
+-- the open flag says that the file is closed, still or again
+module _ {D : Type 0} (d : disk.Ghosts D) (p old : Paged D) (disk : D) (is : p ≡ old) where
+  -- a call of the disk failed: where nothing was lacked, nothing was written
+  pub faults-shut : (changes : Changes) (clean : HeldClean) → changes ≡ p.changes → ListsHeld p.changes
+      → (changes ≡ [] → p.is_header_changed ≡ false → d.seen disk ≡ d.seen p.disk)
+      → IsShut d old → IsShut d (record p { disk = disk; clean = clean.pages; most_clean = clean.most })
+  faults-shut changes clean same lists untouched shut = record {
+    closed = λ holds.
+        let was : IsShut d p = subst (IsShut d) (sym is) shut in
+        let none : p.changes ≡ [] = none-listed p.changes lists holds.none in
+        ap (λ (content : Content). content.byte FLAG_OFFSET) (untouched (same ∙ none) holds.lacks)
+        ∙ was.closed (record { none = holds.none; lacks = holds.lacks });
+  }
+
+  -- all was written
+  pub writes-shut : (changes now : Changes) (clean : HeldClean) → changes ≡ p.changes
+      → ((changes ≡ [] → p.is_header_changed ≡ false → (d.seen p.disk).byte FLAG_OFFSET ≡ 0) → (d.seen disk).byte FLAG_OFFSET ≡ 0)
+      → IsShut d old → IsShut d (record p { disk = disk; changes = now; clean = clean.pages; most_clean = clean.most; is_header_changed = false })
+  writes-shut changes now clean same closed shut = record {
+    closed = λ _. closed (λ none lacks.
+        let was : IsShut d p = subst (IsShut d) (sym is) shut in
+        was.closed (record { none = λ n. ap (λ (l : Changes). held_at l n) (sym same ∙ none); lacks = lacks }));
+  }
 
 -- while no changes are begun, what keeps the held changes leaves the two maps the same
 module _ {D : Type 0} (d : disk.Ghosts D) where

@@ -7,6 +7,7 @@ pub mod Flushed
 pub mod Headers
 pub mod Lent
 pub mod Loaded
+pub mod Marking
 pub mod Opened
 pub mod Released
 pub mod Stored

@@ -3,6 +3,7 @@ use Rattle.std.proofs.Common.{◌≡◌, ◌<◌, ◌≤◌, ◌+◌, ◌*◌, i
 use Rattle.std.specs.Prelude.{IsOkUnless}
 use Rattle.rs_disk.specs.Content.{Content}
 use Rattle.rs_disk.specs.Counts.{Counts}
+use Rattle.rs_disk.specs.Crash.{Same, Passes}
 use Rattle.rs_disk.specs.declared.disk.Disk as disk
 use Rattle.rs_page.specs.declared.page.TheConstants.{PAGE_SIZE}
 use Rattle.rs_refusal.specs.declared.refusal.Refusal.{Refusal}
@@ -23,8 +24,10 @@ with_clean p disk clean = record p { disk = disk; clean = clean }
 -- the clean page with this number may have been read
 pub record ReadsClean {D : Type 0} (d : disk.Ghosts D) (n : ℕ) (old : Paged D) (disk : D) (clean : Clean) : Type 0 where
   pub honesty : d.is_honest disk ≡ d.is_honest old.disk
+  pub keeping : d.keeps_crashes disk ≡ d.keeps_crashes old.disk
   pub synced : d.is_synced disk ≡ d.is_synced old.disk
   pub same : IsTrue (d.is_honest old.disk) → d.seen disk ≡ d.seen old.disk
+  pub crash : IsTrue (d.keeps_crashes old.disk) → Passes d.may_leave d.left_since Same old.disk disk
   pub loads : IsTrue (d.is_honest old.disk) → Loads n (λ page. page ≡ disk_page (d.seen old.disk) n) old.clean clean
 
 module _ {D : Type 0} (d : disk.Ghosts D) (n : ℕ) (old : Paged D) (disk : D) (clean : Clean) (pos : 0 < n) (reads : ReadsClean d n old disk clean) where
@@ -62,8 +65,10 @@ module _ {D : Type 0} (d : disk.Ghosts D) (n : ℕ) (old : Paged D) (disk : D) (
     changed = λ m. refl;
     lacks = refl;
     honesty = reads.honesty;
+    keeping = reads.keeping;
     synced = reads.synced;
     unwritten = reads.same;
+    crash = reads.crash;
     most_clean = refl;
   }
 

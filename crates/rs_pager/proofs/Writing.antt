@@ -1,20 +1,18 @@
 -- What the writes of a flush leave, one after another.
-use Rattle.std.proofs.Common.{◌≡◌, ◌≢◌, inl, inr, ℕ, ◌+◌, ◌*◌, ◌<◌, ◌≤◌, max, Option, None, Some, List, [], ◌∷◌, true, false, Bool, refl, sym, ap, ◌∙◌, subst, arith, rules, tests, IsTrue, Result, Ok, Err, OnOk}
+use Rattle.std.proofs.Common.{◌≡◌, ◌≢◌, inl, inr, ℕ, ◌+◌, ◌*◌, ◌<◌, ◌≤◌, max, Option, None, Some, List, [], ◌∷◌, true, false, Bool, refl, sym, ap, ◌∙◌, subst, arith, Result, Ok, Err, OnOk}
 use Rattle.std.proofs.lemmas.Bool.{cases_eq}
 use Rattle.std.specs.BTreeMap.{is_at}
 use Rattle.std.specs.Ordering.{nat_cmp}
 use Rattle.rs_disk.specs.Content.{Content, KeepsOthers}
 use Rattle.rs_page.specs.declared.page.TheConstants.{PAGE_SIZE}
-use Rattle.rs_page.specs.FileHeader.{IsFileHeader, is_masked}
-use Rattle.rs_page.specs.declared.file_header.TheConstants.{FLAG_OFFSET}
+use Rattle.rs_page.specs.FileHeader.{IsFileHeader}
 use Rattle.rs_page.specs.declared.file_header.FileHeader.{FileHeader}
 use Rattle.rs_pages.specs.Held.{HeldPage}
 use Rattle.rs_page_cache.specs.Changes.{Changes, held_at}
 use Rattle.rs_page_cache.specs.Stored.{disk_page}
 use Rattle.rs_page_cache.proofs.Changed.{apart}
-use Rattle.rs_pager.specs.Stored.{KeepsMasked}
 use Rattle.rs_pager.specs.Writing.{AreBelow, HasPage, WritesPage, WritesSlot, WritesChanges, HasChanges, WritesHeader, WritesOut, HasAll}
-use Rattle.rs_pager.proofs.DiskBytes.{disk_page-same, first_byte-same, other_page-kept}
+use Rattle.rs_pager.proofs.DiskBytes.{disk_page-same, other_page-kept}
 
 pub on_ok : {T E : Type 0} (result : Result T E) (P : Type 0) → P → OnOk result P
 on_ok (Ok t) P p = p
@@ -117,13 +115,6 @@ HasSoFar-all changes rest content none so_far = record {
   each = λ n page is. so_far.each n page is (ap (λ (l : Changes). (held_at l n).committed) none);
 }
 
--- where nothing is written to page 0
-pub masked-kept : (old new : Content) → disk_page new 0 ≡ disk_page old 0 → KeepsMasked old new
-masked-kept old new same = record { bytes = λ place masked. first_byte-same new old place same (at_flag place masked) }
-  where
-    at_flag : (place : ℕ) → IsTrue (is_masked place) → place < PAGE_SIZE
-    at_flag place masked = let at : place ≡ FLAG_OFFSET = search (rules, tests) in omega arith
-
 -- the pages after page 0 stay where it is written
 after_header : (b c : Content) (n : ℕ) → 0 < n → WritesHeader b c → disk_page c n ≡ disk_page b n
 after_header b c n pos header = disk_page-same c b n (λ i lo hi. header.after i (omega arith))
@@ -132,8 +123,7 @@ after_header b c n pos header = disk_page-same c b n (λ i lo hi. header.after i
 pub WritesOut-pages : (changes : Changes) (lacks : Bool) (a b : Content) → (held_at changes 0).committed ≡ None → WritesChanges changes a b → WritesOut changes lacks a b
 WritesOut-pages changes lacks a b none pages = record {
   others = λ n pos none. pages.others n none;
-  header = λ e. pages.others 0 none;
-  masked = masked-kept a b (pages.others 0 none);
+  header = λ e fields is. subst (λ (page : List ℕ). IsFileHeader page fields) (sym (pages.others 0 none)) is;
   no_shorter = pages.no_shorter;
   no_longer = λ bound pos below. pages.no_longer bound below;
 }
@@ -143,8 +133,8 @@ pub WritesOut-all : (changes : Changes) (lacks : Bool) (a b c : Content) → (he
     → (lacks ≡ false → c ≡ b) → WritesOut changes lacks a c
 WritesOut-all changes lacks a b c none pages header same = record {
   others = λ n pos unchanged. after_header b c n pos header ∙ pages.others n unchanged;
-  header = λ e. ap (λ (content : Content). disk_page content 0) (same e) ∙ pages.others 0 none;
-  masked = record { bytes = λ place masked. header.masked.bytes place masked ∙ (masked-kept a b (pages.others 0 none)).bytes place masked };
+  header = λ e fields is. subst (λ (page : List ℕ). IsFileHeader page fields)
+      (sym (ap (λ (content : Content). disk_page content 0) (same e) ∙ pages.others 0 none)) is;
   no_shorter = omega (arith, pages.no_shorter, header.no_shorter);
   no_longer = λ bound pos below. omega (arith, pages.no_longer bound below, header.no_longer);
 }

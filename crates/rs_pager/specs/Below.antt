@@ -1,7 +1,9 @@
 -- What is kept below the working pages is kept in one call after another.
 use Rattle.std.specs.Prelude.{IsTrue, refl}
 use Rattle.std.proofs.Common.{◌∙◌, subst, sym}
+use Rattle.rs_disk.specs.Crash.{Same}
 use Rattle.rs_disk.specs.declared.disk.Disk as disk
+use Rattle.rs_disk.proofs.Reaching.{passes_none, passes_then}
 use Rattle.rs_pages.proofs.Stores.{SamePages-trans}
 use Rattle.rs_pager.specs.Paged.{Paged}
 use Rattle.rs_pager.specs.Maps.{KeepsBelow}
@@ -15,8 +17,10 @@ module _ {D : Type 0} (d : disk.Ghosts D) where
     changed = λ n. refl;
     lacks = refl;
     honesty = refl;
+    keeping = refl;
     synced = refl;
     unwritten = λ _. refl;
+    crash = λ _. passes_none d.may_leave d.left_since Same p.disk (λ _. refl);
     most_clean = refl;
   }
 
@@ -28,7 +32,10 @@ module _ {D : Type 0} (d : disk.Ghosts D) where
     changed = λ n. other.changed n ∙ one.changed n;
     lacks = other.lacks ∙ one.lacks;
     honesty = other.honesty ∙ one.honesty;
+    keeping = other.keeping ∙ one.keeping;
     synced = other.synced ∙ one.synced;
     unwritten = λ honest. other.unwritten (subst IsTrue (sym one.honesty) honest) ∙ one.unwritten honest;
+    crash = λ keeps. passes_then d.may_leave d.left_since Same Same Same a.disk b.disk c.disk (λ _ _ same. same) (λ _ _ _ first then. then ∙ first)
+        (one.crash keeps) (other.crash (subst IsTrue (sym one.keeping) keeps));
     most_clean = other.most_clean ∙ one.most_clean;
   }

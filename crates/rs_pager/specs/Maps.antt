@@ -2,14 +2,15 @@
 use Rattle.std.specs.Prelude.{◌≡◌, ◌<◌, ◌≤◌, ◌+◌, ◌*◌, ℕ, false, IsTrue, Option, Some, None, List, if◌then◌else◌}
 use Rattle.std.specs.Option.{unwrap_or}
 use Rattle.rs_disk.specs.Content.{Content}
+use Rattle.rs_disk.specs.Crash.{Same, Passes}
 use Rattle.rs_disk.specs.declared.disk.Disk as disk
 use Rattle.rs_page.specs.declared.page.TheConstants.{PAGE_SIZE}
 use Rattle.rs_page.specs.FileHeader.{IsFileHeader}
+use Rattle.rs_page.specs.declared.file_header.TheConstants.{FLAG_OFFSET}
 use Rattle.rs_pages.specs.Held.{nothing_held, held_change}
 use Rattle.rs_pages.specs.PageMap.{PageMap, SamePages, is_page}
 use Rattle.rs_pages.specs.Store.{Store}
 use Rattle.rs_page_cache.specs.Clean.{AreClean, AreAfterHeader}
-use Rattle.rs_pager.specs.Stored.{KeepsMasked}
 use Rattle.rs_page_cache.specs.Stored.{disk_page}
 use Rattle.rs_pager.specs.Paged.{Paged, held}
 
@@ -67,7 +68,8 @@ module _ {D : Type 0} (d : disk.Ghosts D) where
         → (held p number).committed ≡ None → PAGE_SIZE * number + PAGE_SIZE ≤ (d.seen p.disk).size
     pub header : p.is_header_changed ≡ false → IsFileHeader (disk_page (d.seen p.disk) 0) p.committed_fields
 
-  -- the committed pages stay, what is held of them stays, and nothing is written to the disk; as many clean pages may be held
+  -- The committed pages stay, what is held of them stays, and nothing is written to the disk: a crash leaves what it left before. As
+  -- many clean pages may be held.
   pub record KeepsBelow (old new : Paged D) : Type 0 where
     pub tied : IsTied old → IsTied new
     pub committed : IsTied old → SamePages (committed new) (committed old)
@@ -75,8 +77,10 @@ module _ {D : Type 0} (d : disk.Ghosts D) where
     pub changed : (number : ℕ) → (held new number).committed ≡ (held old number).committed
     pub lacks : new.is_header_changed ≡ old.is_header_changed
     pub honesty : d.is_honest new.disk ≡ d.is_honest old.disk
+    pub keeping : d.keeps_crashes new.disk ≡ d.keeps_crashes old.disk
     pub synced : d.is_synced new.disk ≡ d.is_synced old.disk
     pub unwritten : IsTrue (d.is_honest old.disk) → d.seen new.disk ≡ d.seen old.disk
+    pub crash : IsTrue (d.keeps_crashes old.disk) → Passes d.may_leave d.left_since Same old.disk new.disk
     pub most_clean : new.most_clean ≡ old.most_clean
 
   -- both maps of pages stay, and so do the limit, the count of full refusals and how many clean pages may be held, whatever
@@ -94,6 +98,6 @@ module _ {D : Type 0} (d : disk.Ghosts D) where
     pub least : 2 ≤ new.committed_fields.pages
     pub within : new.committed_fields.pages ≤ new.limit
 
-  -- the bytes of page 0 that no map has stay on an honest disk
-  abbrev pub KeepsDiskMasked : Paged D → Paged D → Type 0
-  KeepsDiskMasked old new = IsTrue (d.is_honest old.disk) → KeepsMasked (d.seen old.disk) (d.seen new.disk)
+  -- where the disk has all that is committed, its open flag says that the file is closed
+  pub record IsShut (p : Paged D) : Type 0 where
+    pub closed : HoldsNoChange p → (d.seen p.disk).byte FLAG_OFFSET ≡ 0

@@ -1,5 +1,5 @@
 -- What a pager is once it was made, opened, written out, or its changes ended.
-use Rattle.std.specs.Prelude.{◌≡◌, ◌≢◌, ◌≤◌, ◌*◌, ℕ, Bool, max, false, [], ◌↔◌, Result, OnOk, if◌then◌else◌}
+use Rattle.std.specs.Prelude.{◌≡◌, ◌≢◌, ◌≤◌, ◌*◌, ℕ, max, false, [], ◌↔◌}
 use Rattle.rs_refusal.specs.declared.refusal.Refusal.{Refusal}
 use Rattle.rs_refusal.specs.declared.refusal.Refusal.TheVariants as refusal
 use Rattle.rs_disk.specs.Content.{Content}
@@ -97,9 +97,3 @@ module _ {D : Type 0} (d : disk.Ghosts D) where
     pub changes : WritesOut old.changes old.is_header_changed (d.seen old.disk) (d.seen new.disk)
     pub past : (number : ℕ) → old.committed_fields.pages ≤ number → disk_page (d.seen new.disk) number ≡ disk_page (d.seen old.disk) number
     pub no_longer : (d.seen new.disk).size ≤ max (d.seen old.disk).size (PAGE_SIZE * old.committed_fields.pages)
-
--- the byte of the open flag is 0 or 1 as asked, any after a fault, and nothing else has changed
-pub record SetsFlag {T E : Type 0} (result : Result T E) (is_open : Bool) (old new : Content) : Type 0 where
-  pub flag : OnOk result (new.byte FLAG_OFFSET ≡ (if is_open then 1 else 0))
-  pub others : (place : ℕ) → place ≢ FLAG_OFFSET → new.byte place ≡ old.byte place
-  pub size : PAGE_SIZE ≤ old.size → new.size ≡ old.size

@@ -1,9 +1,10 @@
 -- What the writes of a flush make of a disk's content.
-use Rattle.std.specs.Prelude.{◌≡◌, ◌≢◌, ◌≤◌, ◌<◌, ◌+◌, ◌*◌, ℕ, Bool, true, false, max, None, Some, List}
+use Rattle.std.specs.Prelude.{◌≡◌, ◌≢◌, ◌≤◌, ◌<◌, ◌+◌, ◌*◌, ℕ, Bool, true, false, max, None, Some, List, OnOk, Result, if◌then◌else◌}
 use Rattle.rs_disk.specs.Content.{Content}
 use Rattle.rs_page.specs.declared.page.TheConstants.{PAGE_SIZE}
 use Rattle.rs_page.specs.FileHeader.{IsFileHeader}
 use Rattle.rs_page.specs.declared.file_header.FileHeader.{FileHeader}
+use Rattle.rs_page.specs.declared.file_header.TheConstants.{FLAG_OFFSET}
 use Rattle.rs_pages.specs.Held.{HeldPage}
 use Rattle.rs_page_cache.specs.Changes.{Changes, held_at}
 use Rattle.rs_page_cache.specs.Stored.{disk_page}
@@ -49,12 +50,11 @@ pub record WritesHeader (old new : Content) : Type 0 where
   pub no_shorter : old.size ≤ new.size
   pub no_longer : new.size ≤ max old.size PAGE_SIZE
 
--- each page after page 0 that isn't changed is as it was, and so is page 0 where its fields aren't; of page 0 the bytes
--- that no map has are as they were in any case; the content grows to the end of a changed page at most
+-- each page after page 0 that isn't changed is as it was, and page 0 says the fields that it said where they aren't changed; the content
+-- grows to the end of a changed page at most
 pub record WritesOut (changes : Changes) (is_header_changed : Bool) (old new : Content) : Type 0 where
   pub others : (number : ℕ) → 0 < number → (held_at changes number).committed ≡ None → disk_page new number ≡ disk_page old number
-  pub header : is_header_changed ≡ false → disk_page new 0 ≡ disk_page old 0
-  pub masked : KeepsMasked old new
+  pub header : is_header_changed ≡ false → (fields : FileHeader) → IsFileHeader (disk_page old 0) fields → IsFileHeader (disk_page new 0) fields
   pub no_shorter : old.size ≤ new.size
   pub no_longer : (bound : ℕ) → 0 < bound → AreBelow changes bound → new.size ≤ max old.size (PAGE_SIZE * bound)
 
@@ -62,3 +62,10 @@ pub record WritesOut (changes : Changes) (is_header_changed : Bool) (old new : C
 pub record HasAll (changes : Changes) (fields : FileHeader) (is_header_changed : Bool) (content : Content) : Type 0 where
   pub pages : HasChanges changes content
   pub header : is_header_changed ≡ true → IsFileHeader (disk_page content 0) fields
+
+-- the byte of the open flag is 0 or 1 as asked, any after a fault, and nothing else has changed
+pub record SetsFlag {T E : Type 0} (result : Result T E) (is_open : Bool) (old new : Content) : Type 0 where
+  pub flag : OnOk result (new.byte FLAG_OFFSET ≡ (if is_open then 1 else 0))
+  pub others : (place : ℕ) → place ≢ FLAG_OFFSET → new.byte place ≡ old.byte place
+  pub no_shorter : old.size ≤ new.size
+  pub no_longer : new.size ≤ max old.size PAGE_SIZE

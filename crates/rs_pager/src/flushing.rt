@@ -1,16 +1,18 @@
 //! How what is committed reaches the disk.
 //!
-//! The changed pages are written, page 0 where its fields are changed, and the disk is synced. The clean pages are dropped
-//! first, since after a failed write they may be other than the disk's.
+//! The changed pages are written, page 0 where its fields are changed, and the disk is synced. While they are written the open flag is 1,
+//! so that a file whose pages are written in part is told from a whole one; it is 0 before and after. The clean pages are dropped first,
+//! since after a failed write they may be other than the disk's.
 
 ghost use Rattle.std.specs.Prelude.{◌≡◌, ◌≤◌, ◌<◌, ◌*◌, ℕ, List, Some, IsTrue, OnOk, OnErr, IsOkUnless, true, false, None, length, []};
 ghost use Rattle.rs_disk.specs.Content.{Holds, KeepsOthers};
 ghost use Rattle.rs_disk.specs.Counts.{Counts};
 ghost use Rattle.rs_page.specs.FileHeader.{IsFileHeader};
+ghost use Rattle.rs_page.specs.declared.file_header.TheConstants.{FLAG_OFFSET};
 ghost use Rattle.rs_page_cache.specs.Changes.{held_at};
 ghost use Rattle.rs_page_cache.specs.Stored.{disk_page};
-ghost use Rattle.rs_pager.specs.Writing.{AreBelow, HasPage, WritesPage, WritesSlot, WritesChanges, HasChanges, WritesHeader, WritesOut, HasAll};
-ghost use Rattle.rs_pager.specs.Maps.{KeepsChanges, KeepsMaps, KeepsDiskMasked, HoldsNoChange, IsTied};
+ghost use Rattle.rs_pager.specs.Writing.{AreBelow, HasPage, WritesPage, WritesSlot, WritesChanges, HasChanges, WritesHeader, WritesOut, HasAll, SetsFlag};
+ghost use Rattle.rs_pager.specs.Maps.{KeepsChanges, KeepsMaps, HoldsNoChange, IsShut, IsTied};
 ghost use Rattle.rs_pager.specs.Opened.{WritesAll, WritesAtMost};
 
 use crate::pager::Pager;
@@ -22,12 +24,13 @@ use rs_refusal::Refusal;
 use std::collections::BTreeMap;
 
 impl<D: Disk> Pager<D> {
-    /// Writes the committed pages that the disk lacks, and waits until they are on the medium. The bytes of page 0 that no
-    /// map has are not written. After a fault (91) what was held as changed is held still.
+    /// Writes the committed pages that the disk lacks, and waits until they are on the medium. The open flag is 1 meanwhile, and 0 once
+    /// that is done. Where the disk lacks nothing, it is synced, and nothing is written. After a fault (91) what was held as changed is
+    /// held still, and the flag of a disk that lacks some of it may be any.
     pub fn flush(&mut self) -> Result<(), Refusal>
         requires { self.old.is_begun ≡ false }
         ensures keeps { KeepsMaps D.Disk self.old self.new }
-        ensures masked { KeepsDiskMasked D.Disk self.old self.new }
+        ensures closed { IsTrue (D.is_honest self.old.disk) → IsShut D.Disk self.old → IsShut D.Disk self.new }
         ensures others { IsTrue (D.is_honest self.old.disk) → WritesAtMost D.Disk self.old self.new }
         ensures written { IsTied D.Disk self.old → OnOk result (WritesAll D.Disk self.old self.new) }
         ensures no_change { OnOk result (HoldsNoChange self.new) }
@@ -39,7 +42,7 @@ impl<D: Disk> Pager<D> {
         ensures count { Counts result (D.failures self.old.disk) (D.failures self.new.disk) }
     {
         self.clean.clear();
-        write_out(
+        write_lacking(
             &mut self.disk,
             self.changes.slots(),
             &self.committed_fields,
@@ -49,6 +52,92 @@ impl<D: Disk> Pager<D> {
         self.is_header_changed = false;
         Ok(())
     }
+}
+
+/// Writes the committed pages among the changed ones, page 0 too where its fields are changed, and syncs. Where there are none, it only
+/// syncs.
+fn write_lacking<D: Disk>(
+    disk: &mut D,
+    slots: &BTreeMap<u32, Slot>,
+    fields: &FileHeader,
+    is_header_changed: bool,
+) -> Result<(), Refusal>
+    requires below { AreBelow slots.now.entries GREATEST_LIMIT }
+    requires header { (held_at slots.now.entries 0).committed ≡ None }
+    ensures written { IsTrue (D.is_honest disk.old)
+        → OnOk result (HasAll slots.now.entries fields.now is_header_changed (D.seen disk.new)) }
+    ensures others { IsTrue (D.is_honest disk.old)
+        → WritesOut slots.now.entries is_header_changed (D.seen disk.old) (D.seen disk.new) }
+    ensures untouched { IsTrue (D.is_honest disk.old) → slots.now.entries ≡ [] → is_header_changed ≡ false
+        → D.seen disk.new ≡ D.seen disk.old }
+    ensures closed { IsTrue (D.is_honest disk.old) → OnOk result
+        ((slots.now.entries ≡ [] → is_header_changed ≡ false → (D.seen disk.old).byte FLAG_OFFSET ≡ 0)
+        → (D.seen disk.new).byte FLAG_OFFSET ≡ 0) }
+    ensures honesty { D.is_honest disk.new ≡ D.is_honest disk.old }
+    ensures synced { OnOk result (D.is_synced disk.new ≡ true) }
+    ensures refused { IsOkUnless result Refusal.Disk }
+    ensures count { Counts result (D.failures disk.old) (D.failures disk.new) }
+{
+    if slots.is_empty() && !is_header_changed {
+        return disk.sync().map_err(|_| Refusal::Disk);
+    }
+    write_marked(disk, slots, fields, is_header_changed)
+}
+
+/// Writes the committed pages among the changed ones, page 0 too where its fields are changed, and syncs, with the open flag at 1
+/// meanwhile and at 0 after it.
+fn write_marked<D: Disk>(
+    disk: &mut D,
+    slots: &BTreeMap<u32, Slot>,
+    fields: &FileHeader,
+    is_header_changed: bool,
+) -> Result<(), Refusal>
+    requires below { AreBelow slots.now.entries GREATEST_LIMIT }
+    requires header { (held_at slots.now.entries 0).committed ≡ None }
+    ensures written { IsTrue (D.is_honest disk.old)
+        → OnOk result (HasAll slots.now.entries fields.now is_header_changed (D.seen disk.new)) }
+    ensures others { IsTrue (D.is_honest disk.old)
+        → WritesOut slots.now.entries is_header_changed (D.seen disk.old) (D.seen disk.new) }
+    ensures closed { IsTrue (D.is_honest disk.old) → OnOk result ((D.seen disk.new).byte FLAG_OFFSET ≡ 0) }
+    ensures honesty { D.is_honest disk.new ≡ D.is_honest disk.old }
+    ensures synced { OnOk result (D.is_synced disk.new ≡ true) }
+    ensures refused { IsOkUnless result Refusal.Disk }
+    ensures count { Counts result (D.failures disk.old) (D.failures disk.new) }
+{
+    set_flag(disk)?;
+    write_out(disk, slots, fields, is_header_changed)?;
+    write_flag(disk, false)
+}
+
+/// Makes the open flag 1, and waits until that is on the medium. A flag that is 1 already is not written again, since a byte that is
+/// written may be any other after a fault or a crash, and pages may be written in part for which it stands.
+fn set_flag<D: Disk>(disk: &mut D) -> Result<(), Refusal>
+    ensures flag { IsTrue (D.is_honest disk.old) → SetsFlag result true (D.seen disk.old) (D.seen disk.new) }
+    ensures untouched { IsTrue (D.is_honest disk.old) → (D.seen disk.old).byte FLAG_OFFSET ≡ 1 → D.seen disk.new ≡ D.seen disk.old }
+    ensures honesty { D.is_honest disk.new ≡ D.is_honest disk.old }
+    ensures synced { OnOk result (D.is_synced disk.new ≡ true) }
+    ensures refused { IsOkUnless result Refusal.Disk }
+    ensures count { Counts result (D.failures disk.old) (D.failures disk.new) }
+{
+    let mut flag = [0];
+    disk.read(FLAG_OFFSET as u64, &mut flag)
+        .map_err(|_| Refusal::Disk)?;
+    if flag[0] == 1 {
+        return disk.sync().map_err(|_| Refusal::Disk);
+    }
+    write_flag(disk, true)
+}
+
+/// Writes the byte of the open flag alone, 1 for an open file and 0 for a closed one, and waits until it is on the medium.
+fn write_flag<D: Disk>(disk: &mut D, is_open: bool) -> Result<(), Refusal>
+    ensures flag { IsTrue (D.is_honest disk.old) → SetsFlag result is_open (D.seen disk.old) (D.seen disk.new) }
+    ensures honesty { D.is_honest disk.new ≡ D.is_honest disk.old }
+    ensures synced { OnOk result (D.is_synced disk.new ≡ true) }
+    ensures refused { IsOkUnless result Refusal.Disk }
+    ensures count { Counts result (D.failures disk.old) (D.failures disk.new) }
+{
+    write_at(disk, FLAG_OFFSET as u64, &[u8::from(is_open)])?;
+    disk.sync().map_err(|_| Refusal::Disk)
 }
 
 /// Writes the committed pages among the changed ones, page 0 too where its fields are changed, and syncs.

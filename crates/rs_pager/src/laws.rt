@@ -3,9 +3,8 @@
 //! It is one at the most. So a flush that answered Ok, and an `open` that answered Ok of the disk that is handed back, have
 //! the same pages; and such a disk is not refused as damaged.
 
-ghost use Rattle.std.specs.Prelude.{◌≡◌, ◌≤◌, ℕ, false};
+ghost use Rattle.std.specs.Prelude.{◌≤◌, ℕ};
 ghost use Rattle.rs_disk.specs.Content.{Content};
-ghost use Rattle.rs_page.specs.FileHeader.{is_masked};
 ghost use Rattle.rs_pages.specs.PageMap.{PageMap, SamePages};
 ghost use Rattle.rs_pager.specs.Maps.{committed, KeepsMaps, HoldsNoChange, IsTied};
 ghost use Rattle.rs_pager.specs.Opened.{WritesAll};
@@ -18,12 +17,6 @@ use rs_disk::Disk;
 pub fn disk_stands_for_one_map()
     ensures { (content : Content) (one other : PageMap)
         → Stores content one → Stores content other → SamePages one other }
-{}
-
-/// The bytes of page 0 that no map has are no part of what a disk stands for.
-pub fn masked_bytes_are_in_no_map()
-    ensures { (one other : Content) (map : PageMap) → one.size ≡ other.size
-        → ((place : ℕ) → is_masked place ≡ false → one.byte place ≡ other.byte place) → Stores one map → Stores other map }
 {}
 
 /// A tied pager that holds no change has its committed pages on the disk.

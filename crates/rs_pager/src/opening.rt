@@ -1,5 +1,4 @@
-//! How a pager comes to be: over an empty disk, and over one that holds pages; how it reads page 0 anew; and the flag that says
-//! whether a file is open.
+//! How a pager comes to be: over an empty disk, and over one that holds pages; how it reads page 0 anew, and the open flag.
 //!
 //! A refusal hands the disk back.
 
@@ -11,9 +10,9 @@ ghost use Rattle.rs_page_cache.specs.declared.clean.TheConstants.{MOST_CLEAN};
 ghost use Rattle.rs_pages.specs.PageMap.{SamePages};
 ghost use Rattle.rs_pager.specs.Stored.{IsNoFile};
 ghost use Rattle.rs_pager.specs.Maps.{committed, working, HoldsNoChange, IsTied, KeepsChanges, KeepsMaps};
-ghost use Rattle.rs_pager.specs.Opened.{IsFresh, HasEmptyFile, IsCreated, IsOpened, SetsFlag, CountsFault};
+ghost use Rattle.rs_pager.specs.Opened.{IsFresh, HasEmptyFile, IsCreated, IsOpened, CountsFault};
 
-use crate::flushing::{write_at, write_file_header, write_page};
+use crate::flushing::{write_file_header, write_page};
 use crate::pager::Pager;
 use rs_disk::Disk;
 use rs_page::{FLAG_OFFSET, FileHeader, PAGE_SIZE, Page, PageKind, PageNumber};
@@ -127,33 +126,6 @@ impl<D: Disk> Pager<D> {
             .map_err(|_| Refusal::Disk)?;
         Ok(flag[0])
     }
-
-    /// Writes the byte that says whether the file is open, and waits until it is on the medium. Nothing else is written.
-    /// It is refused with 91 alone, after which any byte may be there.
-    pub fn set_open_flag(&mut self, is_open: bool) -> Result<(), Refusal>
-        ensures flag { IsTrue (D.is_honest self.old.disk)
-            → SetsFlag result is_open (D.seen self.old.disk) (D.seen self.new.disk) }
-        ensures keeps { KeepsMaps D.Disk self.old self.new }
-        ensures changes { KeepsChanges self.old self.new }
-        ensures begun { self.new.is_begun ≡ self.old.is_begun }
-        ensures synced { OnOk result (D.is_synced self.new.disk ≡ true) }
-        ensures refusal { IsOkUnless result Refusal.Disk }
-        ensures count { Counts result (D.failures self.old.disk) (D.failures self.new.disk) }
-    {
-        write_flag(&mut self.disk, is_open)
-    }
-}
-
-/// Writes the byte of the open flag alone, and syncs.
-fn write_flag<D: Disk>(disk: &mut D, is_open: bool) -> Result<(), Refusal>
-    ensures flag { IsTrue (D.is_honest disk.old) → SetsFlag result is_open (D.seen disk.old) (D.seen disk.new) }
-    ensures honesty { D.is_honest disk.new ≡ D.is_honest disk.old }
-    ensures synced { OnOk result (D.is_synced disk.new ≡ true) }
-    ensures refused { IsOkUnless result Refusal.Disk }
-    ensures count { Counts result (D.failures disk.old) (D.failures disk.new) }
-{
-    write_at(disk, FLAG_OFFSET as u64, &[u8::from(is_open)])?;
-    disk.sync().map_err(|_| Refusal::Disk)
 }
 
 /// The pager over a disk that has all the pages of these fields.

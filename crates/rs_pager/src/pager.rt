@@ -9,7 +9,7 @@ ghost use Rattle.rs_disk.specs.Counts.{Counts};
 ghost use Rattle.rs_pages.specs.PageMap.{SamePages};
 ghost use Rattle.rs_page_cache.specs.Changes.{ListsHeld};
 ghost use Rattle.rs_pager.specs.Paged.{held};
-ghost use Rattle.rs_pager.specs.Maps.{committed, working, KeepsChanges, KeepsMaps, KeepsDiskMasked, HoldsNoChange, IsTied};
+ghost use Rattle.rs_pager.specs.Maps.{committed, working, KeepsChanges, KeepsMaps, HoldsNoChange, IsShut, IsTied};
 ghost use Rattle.rs_pager.specs.Opened.{Commits, Abandons, WritesAll, WritesAtMost};
 
 use rs_disk::Disk;
@@ -18,7 +18,7 @@ use rs_page_cache::{Changes, CleanPages, MOST_CLEAN, MOST_WHILE_OPENING};
 use rs_refusal::Refusal;
 use std::marker::Model;
 
-/// The greatest number of changed pages that are held after changes were begun.
+/// The greatest number of changed pages that are held once room was made for changes.
 pub const MOST_CHANGED: usize = 1_024;
 
 /// Pages over a disk. Changed pages are held until they are written, and clean ones while there is room.
@@ -58,32 +58,41 @@ impl<D: Disk> Model for Pager<D> {
 }
 
 impl<D: Disk> Pager<D> {
-    /// Begins changes. Where more than `MOST_CHANGED` pages are held as changes, all that is committed is written to
-    /// the disk first. After a refusal (91) nothing is begun and what was held as changed is held still.
-    pub fn begin(&mut self) -> Result<(), Refusal>
+    /// Makes room for changes: where more than `MOST_CHANGED` pages are held as changes, all that is committed is written to the disk.
+    /// After a refusal (91) what was held as changed is held still.
+    pub fn make_room(&mut self) -> Result<(), Refusal>
         requires { self.old.is_begun ≡ false }
         ensures keeps { KeepsMaps D.Disk self.old self.new }
-        ensures masked { KeepsDiskMasked D.Disk self.old self.new }
+        ensures closed { IsTrue (D.is_honest self.old.disk) → IsShut D.Disk self.old → IsShut D.Disk self.new }
         ensures others { IsTrue (D.is_honest self.old.disk) → WritesAtMost D.Disk self.old self.new }
         ensures same { SamePages (working D.Disk self.new) (committed D.Disk self.new) }
-        ensures few { length self.old.changes ≤ MOST_CHANGED
-            → IsOk result × (self.new ≡ record self.old { is_begun = true }) }
+        ensures few { length self.old.changes ≤ MOST_CHANGED → IsOk result × (self.new ≡ self.old) }
         ensures many { MOST_CHANGED < length self.old.changes
             → OnOk result (HoldsNoChange self.new × (self.new.changes ≡ []) × (D.is_synced self.new.disk ≡ true)) }
         ensures written { MOST_CHANGED < length self.old.changes → IsTied D.Disk self.old
             → OnOk result (WritesAll D.Disk self.old self.new) }
-        ensures begun { OnOk result (self.new.is_begun ≡ true) }
+        ensures shut { self.new.is_begun ≡ false }
         ensures bound { OnOk result (length self.new.changes ≤ MOST_CHANGED) }
         ensures copies { (number : ℕ) → (held self.new number).copy ≡ None }
-        ensures refused { OnErr result (KeepsChanges self.old self.new × (self.new.is_begun ≡ false)) }
+        ensures refused { OnErr result (KeepsChanges self.old self.new) }
         ensures refusal { IsOkUnless result Refusal.Disk }
         ensures count { Counts result (D.failures self.old.disk) (D.failures self.new.disk) }
     {
         if self.changes.len() > MOST_CHANGED {
             self.flush()?;
         }
-        self.is_begun = true;
         Ok(())
+    }
+
+    /// Begins changes, for which there is room. It takes no memory and touches no disk.
+    pub fn begin(&mut self)
+        requires shut { self.old.is_begun ≡ false }
+        requires few { length self.old.changes ≤ MOST_CHANGED }
+        ensures begins { self.new ≡ record self.old { is_begun = true } }
+        ensures keeps { KeepsMaps D.Disk self.old self.new }
+        ensures same { SamePages (working D.Disk self.new) (committed D.Disk self.new) }
+    {
+        self.is_begun = true;
     }
 
     /// The working pages become the committed ones. It takes no memory and touches no disk.

@@ -14,7 +14,7 @@ use Rattle.rs_refusal.specs.declared.refusal.Refusal.TheVariants as refusal
 use Rattle.rs_server.specs.declared.report.Failure.{Failure}
 use Rattle.rs_server.specs.declared.report.Failure.TheVariants.{Refused, Stream}
 use Rattle.rs_store.specs.Standing.{Stands}
-use Rattle.rs_store.specs.Calls.{IsLeftOpen, IsNoFileOfAny, StaysFile, WantsCreating, WantsOpening}
+use Rattle.rs_store.specs.Calls.{IsLeftOpen, IsNoFileOfAny, WantsCreating, WantsOpening}
 
 -- ---- failures
 
@@ -71,8 +71,8 @@ module _ {D : Type 0} (d : disk.Ghosts D) where
     pub stood : Stands limit content first.state
     pub serves : ServesAndCloses limit first result unread unread_now before after
 
-  -- The disk was not opened, and is handed back: it is a file of no state, or one that was not closed, or memory or the disk gave out.
-  -- But after a failure of the disk it is as it was, and after that one it is a file of what it was. Nothing was read or written.
+  -- The disk was not opened, and is handed back as it was: it is a file of no state, or one that was not closed, or memory or the disk
+  -- gave out. Nothing of the streams was read or written.
   pub record RefusesFile (limit : ℕ) (old : D) (result : Result D (Option D × Failure)) (unread unread_now before after : Option (List ℕ)) : Type 0 where
     pub disk : D
     pub why : Refusal
@@ -80,8 +80,7 @@ module _ {D : Type 0} (d : disk.Ghosts D) where
     pub wants : WantsOpening why
     pub damaged : why ≡ refusal.DamagedFile → IsNoFileOfAny limit (d.seen old)
     pub left_open : why ≡ refusal.FileNotClosed → IsLeftOpen limit (d.seen old)
-    pub seen : why ≢ refusal.Disk → d.seen disk ≡ d.seen old
-    pub stays : StaysFile limit (d.seen old) (d.seen disk)
+    pub seen : d.seen disk ≡ d.seen old
     pub input : Keeps unread unread_now
     pub output : Keeps before after
 

@@ -1,84 +1,46 @@
--- How changes are begun: the disk is marked as open, and then the pager begins.
-use Rattle.std.specs.Prelude.{IsOkUnless, OnErr, OnOk}
-use Rattle.std.proofs.Common.{◌≡◌, ◌≤◌, ◌<◌, ◌∙◌, ℕ, Bool, None, Result, Ok, Err, [], length, true, false, ap, refl}
+-- How a change is begun: room is made for it, and then the pager begins.
+use Rattle.std.proofs.Common.{◌≡◌, ◌≤◌, ◌<◌, ◌∙◌, ℕ, None, Ok, Err, IsTrue, [], length, true, ap, refl, subst, sym}
 use Rattle.rs_catalog.specs.Definitions.{Definitions, Numbered}
 use Rattle.rs_catalog.specs.Referents.{HeldReferents}
-use Rattle.rs_disk.specs.Counts.{Counts}
 use Rattle.rs_disk.specs.declared.disk.Disk as disk
 use Rattle.rs_file.specs.declared.opened.OpenedFile.{OpenedFile}
-use Rattle.rs_page.specs.declared.file_header.TheConstants.{FLAG_OFFSET}
-use Rattle.rs_pager.specs.Maps.{HoldsNoChange, IsTied, KeepsChanges, KeepsDiskMasked, KeepsMaps, committed, working}
+use Rattle.rs_pager.specs.Maps.{HoldsNoChange, IsShut, KeepsChanges, KeepsMaps, committed, working}
 use Rattle.rs_pager.specs.Paged.{Paged, held}
 use Rattle.rs_pager.specs.declared.pager.TheConstants.{MOST_CHANGED}
 use Rattle.rs_pages.specs.PageMap.{SamePages}
 use Rattle.rs_refusal.specs.Counts.{counted_on}
 use Rattle.rs_refusal.specs.declared.refusal.Refusal.{Refusal}
 use Rattle.rs_refusal.specs.declared.refusal.Refusal.TheVariants as refusal
-use Rattle.rs_store.specs.Bracket.{BeginsChange, Marks}
+use Rattle.rs_store.specs.Bracket.{BeginsChange}
 use Rattle.rs_store.specs.Calls.{KeepsStore}
-use Rattle.rs_store.proofs.HeldChanges.{begins_after, begins_with, changes-refl, changes-trans}
-use Rattle.rs_store.proofs.Keeping.{flag_of, keeps_by_maps, keeps_store-refl, keeps_store-trans, store_over}
+use Rattle.rs_store.proofs.HeldChanges.{begins_with}
+use Rattle.rs_store.proofs.Keeping.{keeps_by_maps, keeps_store-trans, store_over}
 
-module _ {D : Type 0} (d : disk.Ghosts D) where
-  -- the disk was marked before
-  pub marked_before : (p : Paged D) (is_marked : Bool) → is_marked ≡ true → Marks d (Ok tt) p p is_marked is_marked
-  marked_before p is_marked is = record {
-    keeps = λ file catalog referents. keeps_store-refl d (store_over d p file catalog referents is_marked);
-    changes = changes-refl p;
-    marked = is;
+module _ {D : Type 0} (d : disk.Ghosts D) (was room : Paged D) (keeps : KeepsMaps d was room)
+    (closed : IsTrue (d.is_honest was.disk) → IsShut d was → IsShut d room) where
+  room_kept : (file : OpenedFile) (catalog : Definitions) (referents : Numbered HeldReferents)
+      → KeepsStore d (store_over d was file catalog referents) (store_over d room file catalog referents)
+  room_kept file catalog referents = keeps_by_maps d was room file catalog referents keeps (λ tied shut. closed tied.honest shut)
+
+  -- the disk failed, and nothing is begun
+  pub begins_none : (why : Refusal) → KeepsChanges was room → why ≡ refusal.Disk → d.failures room.disk ≡ counted_on (d.failures was.disk)
+      → BeginsChange d (Err why) was room
+  begins_none why changes refused count = record { keeps = room_kept; begins = tt; unbegun = changes; refused = refused; count = count }
+
+  -- there is room, and the change is begun
+  pub begins_made : {X : Type 0} (now : Paged D) → now ≡ record room { is_begun = true } → KeepsMaps d room now
+      → (length was.changes ≤ MOST_CHANGED → X × (room ≡ was))
+      → (MOST_CHANGED < length was.changes → HoldsNoChange room × (room.changes ≡ []) × (d.is_synced room.disk ≡ true))
+      → ((number : ℕ) → (held room number).copy ≡ None) → SamePages (working d room) (committed d room)
+      → d.failures room.disk ≡ d.failures was.disk → BeginsChange d (Ok tt) was now
+  begins_made now begun maps few many copies same count = subst (λ (p : Paged D). BeginsChange d (Ok tt) was p) (sym begun) (record {
+    keeps = λ file catalog referents.
+        keeps_store-trans d (store_over d was file catalog referents) (store_over d room file catalog referents)
+        (store_over d (record room { is_begun = true }) file catalog referents) (room_kept file catalog referents)
+        (keeps_by_maps d room (record room { is_begun = true }) file catalog referents (subst (λ (p : Paged D). KeepsMaps d room p) begun maps)
+        (λ tied shut. record { closed = λ holds. shut.closed (record { none = holds.none; lacks = holds.lacks }) }));
+    begins = begins_with d was room few many copies same keeps;
+    unbegun = tt;
     refused = tt;
-    count = refl;
-  }
-
-  -- the mark was written, or the disk failed
-  pub marks_now : (result : Result (Unit {0}) Refusal) (was now : Paged D) (was_marked is_marked : Bool) → KeepsMaps d was now → KeepsChanges was now
-      → OnOk result (is_marked ≡ true) → (IsTied d was → (was_marked ≡ true → flag_of d was ≡ 1) → is_marked ≡ true → flag_of d now ≡ 1)
-      → IsOkUnless result refusal.Disk → Counts result (d.failures was.disk) (d.failures now.disk) → Marks d result was now was_marked is_marked
-  marks_now result was now was_marked is_marked keeps changes marked flag refused count = record {
-    keeps = λ file catalog referents. keeps_by_maps d was now file catalog referents was_marked is_marked keeps flag;
-    changes = changes;
-    marked = marked;
-    refused = refused;
     count = count;
-  }
-
-  -- where the mark can't be written nothing is begun
-  pub begins_none : (why : Refusal) (was now : Paged D) (was_marked is_marked : Bool) → Marks d (Err why) was now was_marked is_marked
-      → BeginsChange d (Err why) was now was_marked is_marked
-  begins_none why was now was_marked is_marked marks = record {
-    keeps = marks.keeps;
-    begins = tt;
-    unbegun = marks.changes;
-    refused = marks.refused;
-    count = marks.count;
-  }
-
-  module _ (first between last : Paged D) (was_marked is_marked : Bool) (marks : Marks d (Ok tt) first between was_marked is_marked)
-      (keeps : KeepsMaps d between last) (masked : KeepsDiskMasked d between last) where
-    still_kept : (file : OpenedFile) (catalog : Definitions) (referents : Numbered HeldReferents)
-        → KeepsStore d (store_over d first file catalog referents was_marked) (store_over d last file catalog referents is_marked)
-    still_kept file catalog referents =
-        keeps_store-trans d (store_over d first file catalog referents was_marked) (store_over d between file catalog referents is_marked) (store_over d last file catalog referents is_marked)
-        (marks.keeps file catalog referents)
-        (keeps_by_maps d between last file catalog referents is_marked is_marked keeps (λ tied before is. (masked tied.honest).bytes FLAG_OFFSET refl ∙ before is))
-
-    -- once it is written the pager begins, or the disk fails and nothing is begun
-    pub begins_marked : {X : Type 0} (result : Result (Unit {0}) Refusal) → (length between.changes ≤ MOST_CHANGED → X × (last ≡ record between { is_begun = true }))
-        → (MOST_CHANGED < length between.changes → OnOk result (HoldsNoChange last × (last.changes ≡ []) × (d.is_synced last.disk ≡ true)))
-        → ((number : ℕ) → (held last number).copy ≡ None) → SamePages (working d last) (committed d last)
-        → OnErr result (KeepsChanges between last × (last.is_begun ≡ false)) → IsOkUnless result refusal.Disk
-        → Counts result (d.failures between.disk) (d.failures last.disk) → BeginsChange d result first last was_marked is_marked
-    begins_marked (Ok answer) few many copies same unbegun refused count = record {
-      keeps = still_kept;
-      begins = begins_after d first between last marks.changes (begins_with d between last few many copies same keeps);
-      unbegun = tt;
-      refused = tt;
-      count = count ∙ marks.count;
-    }
-    begins_marked (Err why) few many copies same unbegun refused count = record {
-      keeps = still_kept;
-      begins = tt;
-      unbegun = changes-trans first between last marks.changes unbegun.0;
-      refused = refused;
-      count = count ∙ ap counted_on marks.count;
-    }
+  })

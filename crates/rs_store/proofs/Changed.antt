@@ -27,23 +27,23 @@ use Rattle.rs_store.proofs.Keeping.{store_over}
 use Rattle.rs_store.proofs.Rows.{KeptGives, by_part}
 use Rattle.rs_store.proofs.Settled.{left_made, left_refused, no_file_refuted, rests_made, rests_refused}
 
-module _ {D : Type 0} (d : disk.Ghosts D) (was : StoreState D) (first between last : Paged D) (changed settled : OpenedFile) (is_marked : Bool)
-    (begun : HasBegun d was (store_over d first was.file was.catalog was.referents is_marked)) where
+module _ {D : Type 0} (d : disk.Ghosts D) (was : StoreState D) (first between last : Paged D) (changed settled : OpenedFile)
+    (begun : HasBegun d was (store_over d first was.file was.catalog was.referents)) where
   -- ---- definitions that came or went
 
   pub redefined_left : {may : State → Type 0} (oldest : ℕ) (change : Contents → Contents → Type 0) (next : Definitions) (result : Result (Unit {0}) Refusal) (now : Definitions)
       (held : Numbered HeldReferents) → Redefines (IsTied d) (pager_store d) (KeepsBelow d) oldest change next result first between was.file changed was.catalog now
       → Settles d result between last changed settled → OnErr result ((route : ℕ) → referents_on held route ≡ referents_on was.referents route) → IsCommitted was.file
       → (result ≡ Err refusal.DamagedFile → (from : ℕ) (state : State) → StandsIn d from was state → may state → CanBeKept (listing_of next))
-      → LeavesStore d may result was (store_over d last settled now held is_marked)
+      → LeavesStore d may result was (store_over d last settled now held)
   redefined_left oldest change next (Ok answer) now held redefines settles alike whole kept =
-      left_made d was first between last was.file changed settled was.catalog was.referents is_marked begun redefines.rewrites.below
+      left_made d was first between last was.file changed settled was.catalog was.referents begun redefines.rewrites.below
       {damaged = CanBeKept (listing_of next) → IsTied d first → HoldsNoFile (working d first) was.file} answer now held
       redefines.rewrites.stores redefines.rewrites.next.accepted settles
   redefined_left {may = may} oldest change next (Err why) now held redefines settles alike whole kept =
-      left_refused d was first between last was.file changed settled was.catalog was.referents is_marked begun redefines.rewrites.below
+      left_refused d was first between last was.file changed settled was.catalog was.referents begun redefines.rewrites.below
       {may = may} {damaged = CanBeKept (listing_of next) → IsTied d first → HoldsNoFile (working d first) was.file} why now held redefines.rewrites.stores
-      (λ from state stands allowed is none. no_file_refuted d was first between last was.file changed settled was.catalog was.referents is_marked begun redefines.rewrites.below from state stands
+      (λ from state stands allowed is none. no_file_refuted d was first between last was.file changed settled was.catalog was.referents begun redefines.rewrites.below from state stands
       (none (kept (ap Err is) from state stands allowed)))
       redefines.rewrites.stays whole settles redefines.back alike
 
@@ -70,11 +70,11 @@ module _ {D : Type 0} (d : disk.Ghosts D) (was : StoreState D) (first between la
       → Settles d result between last changed settled → KeptGives d → was.file.accepted < CHANGES
       → (from : ℕ) (state after : State) (stands : StandsIn d from was state) → from ≤ oldest → oldest ≤ was.file.accepted + 1
       → ((result ≡ Err refusal.OutOfMemory → ⊥) → OnOk result ((part : Contents) → change stands.contents part → GivesState oldest stands.contents part next held after)) → AreViewsMeant after
-      → OnOk result (HasBecome d oldest stands.contents (store_over d last settled now held is_marked) after)
+      → OnOk result (HasBecome d oldest stands.contents (store_over d last settled now held) after)
   redefined_becomes oldest change next (Ok answer) now held redefines settles kept_gives room from state after stands low high gives views =
       let tied = (begun.keeps.contents stands.contents stands.keeps).tied in
-      subst (λ (n : Definitions). HasBecome d oldest stands.contents (store_over d last settled n held is_marked) after) (sym redefines.made)
-      (by_part d was first between last was.file changed settled was.catalog was.referents is_marked begun redefines.rewrites.below kept_gives from oldest state stands low high room
+      subst (λ (n : Definitions). HasBecome d oldest stands.contents (store_over d last settled n held) after) (sym redefines.made)
+      (by_part d was first between last was.file changed settled was.catalog was.referents begun redefines.rewrites.below kept_gives from oldest state stands low high room
       next held after change (redefines.rewrites.changes tied) (gives (λ e. absurd cc)) views settles)
   redefined_becomes oldest change next (Err why) now held redefines settles kept_gives room from state after stands low high gives views = tt
 

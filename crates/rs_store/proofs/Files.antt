@@ -1,6 +1,6 @@
 -- A disk as it was opened.
 use Rattle.std.proofs.Common.{◌≡◌, ◌∙◌, ℕ, Bool, Ok, Err, true, ap, inl, inr, subst, sym, arith}
-use Rattle.std.specs.Prelude.{◌≢◌, ◌⊎◌}
+use Rattle.std.specs.Prelude.{IfOk, Result}
 use Rattle.rs_catalog.specs.Definitions.{Definitions, Numbered}
 use Rattle.rs_catalog.specs.Referents.{HeldReferents}
 use Rattle.rs_file.specs.Contents.{Contents}
@@ -10,7 +10,7 @@ use Rattle.rs_disk.specs.declared.disk.Disk as disk
 use Rattle.rs_file.proofs.Loaded.{same_map}
 use Rattle.rs_machine.specs.State.{State, fresh}
 use Rattle.rs_page.specs.declared.file_header.TheConstants.{FLAG_OFFSET}
-use Rattle.rs_pager.specs.Maps.{committed, working}
+use Rattle.rs_pager.specs.Maps.{IsShut, committed, working}
 use Rattle.rs_pager.specs.Opened.{IsFresh, IsOpened}
 use Rattle.rs_pager.specs.Paged.{Paged}
 use Rattle.rs_pager.specs.Stored.{IsNoFile, Stores}
@@ -21,12 +21,13 @@ use Rattle.rs_file_meaning.specs.Meant.{IsMeant}
 use Rattle.rs_file_meaning.specs.Standing.{StandsFor}
 use Rattle.rs_refusal.specs.declared.refusal.Refusal.TheVariants as refusal
 use Rattle.rs_store.specs.Standing.{IsFileOf}
-use Rattle.rs_store.specs.Calls.{IsClosedFile, IsLeftOpen, IsNoFileOfAny, LeavesAllButFlag, Looks, Opens, OpensState, SameButFlag}
+use Rattle.rs_store.specs.Calls.{IsLeftOpen, IsNoFileOfAny, LeavesDisk, Opens, OpensState}
 use Rattle.rs_store.specs.Kept.{StoreState}
 use Rattle.rs_store.specs.Loading.{LoadsState, StandsForNone, StandsForSome}
+use Rattle.rs_store.specs.declared.loading.Loaded.{Loaded}
 use Rattle.rs_store.specs.Making.{HasFresh, IsFreshFile}
-use Rattle.rs_store.proofs.Beside.{MaskedInNoMap, no_file_of_any, stays_beside_flag}
-use Rattle.rs_store.proofs.Keeping.{flag_of, keeps_loaded, pages_back, store_over}
+use Rattle.rs_store.proofs.NoFile.{no_file_of_any}
+use Rattle.rs_store.proofs.Keeping.{keeps_loaded, pages_back, store_over}
 use Rattle.rs_store.proofs.Loaded.{stands_for}
 use Rattle.rs_store.proofs.Same.{FileHoldsOne, SameMeant, SameSays, SameState, meant_moves, state_moves}
 
@@ -49,9 +50,6 @@ module _ {D : Type 0} (d : disk.Ghosts D) (limit : ℕ) (content : Content) (p :
   pub left_open : StandsForSome (working d p) → (content.byte FLAG_OFFSET ≡ 0 → ⊥) → IsLeftOpen limit content
   left_open some isnt = record { state = some.state; file = file_of some.contents some.state some.stands; not_closed = isnt }
 
-  pub closed_file : StandsForSome (working d p) → content.byte FLAG_OFFSET ≡ 0 → IsClosedFile limit content
-  closed_file some closed = record { state = some.state; stands = record { file = file_of some.contents some.state some.stands; closed = closed } }
-
   -- pages that stand for none are no file
   pub no_file : DiskHasOneMap → StandsForNone (working d p) → IsNoFileOfAny limit content
   no_file one_map none = record {
@@ -61,11 +59,11 @@ module _ {D : Type 0} (d : disk.Ghosts D) (limit : ℕ) (content : Content) (p :
         none.none is.contents state (subst (λ (m : PageMap). StandsFor m is.contents state) pages is.stands);
   }
 
-  -- the store that was opened, whether it knows its disk to be marked or not
-  pub opens_state : (now : Paged D) (file : OpenedFile) (catalog : Definitions) (referents : Numbered HeldReferents) (is_marked : Bool) → LeavesAllButFlag d p now
-      → LoadsState (working d p) file catalog referents → content.byte FLAG_OFFSET ≡ 0 → (is_marked ≡ true → flag_of d now ≡ 1)
-      → OpensState d limit content (store_over d now file catalog referents is_marked)
-  opens_state now file catalog referents is_marked leaves loads closed marked =
+  -- the store that was opened
+  pub opens_state : (now : Paged D) (file : OpenedFile) (catalog : Definitions) (referents : Numbered HeldReferents) → LeavesDisk d p now
+      → LoadsState (working d p) file catalog referents → content.byte FLAG_OFFSET ≡ 0 → d.seen now.disk ≡ content
+      → OpensState d limit content (store_over d now file catalog referents)
+  opens_state now file catalog referents leaves loads closed seen =
       let work = same_map (working d now) (working d p) (leaves.working opened.tied) in
       let at : LoadsState (working d now) file catalog referents = subst (λ (m : PageMap). LoadsState m file catalog referents) (sym work) loads in
       let alike : SamePages (working d now) (committed d now) =
@@ -79,7 +77,8 @@ module _ {D : Type 0} (d : disk.Ghosts D) (limit : ℕ) (content : Content) (p :
         };
         stands = record {
           contents = at.contents;
-          keeps = keeps_loaded d p now file catalog referents is_marked (leaves.tied opened.tied) alike at marked;
+          keeps = keeps_loaded d p now file catalog referents (leaves.tied opened.tied) alike at
+              (record { closed = λ _. ap (λ (c : Content). c.byte FLAG_OFFSET) seen ∙ closed });
           live = omega (arith, at.opened.accepted);
           meant = subst (λ (level : ℕ). IsMeant level at.contents) at.opened.accepted at.brings.meant;
           is = at.brings.is;
@@ -90,8 +89,8 @@ module _ {D : Type 0} (d : disk.Ghosts D) (limit : ℕ) (content : Content) (p :
 -- ---- answers of opening
 
 module _ {D : Type 0} (d : disk.Ghosts D) (limit : ℕ) (old : D) where
-  pub opens_ok : (store : StoreState D) → OpensState d limit (d.seen old) store → Opens d limit old (Ok store)
-  opens_ok store opens = record { opens = opens; damaged = tt; left_open = tt; seen = tt; before = tt; stays = tt }
+  pub opens_ok : (store : StoreState D) → OpensState d limit (d.seen old) store → d.seen store.pager.disk ≡ d.seen old → Opens d limit old (Ok store)
+  opens_ok store opens same = record { opens = opens; damaged = tt; left_open = tt; seen = same }
 
   -- a disk that has no pages
   pub opens_none : (back : D) (why : Refusal) → d.seen back ≡ d.seen old → (why ≡ refusal.FileNotClosed → ⊥) → (why ≡ refusal.DamagedFile → IsNoFile (d.seen old) limit)
@@ -100,57 +99,15 @@ module _ {D : Type 0} (d : disk.Ghosts D) (limit : ℕ) (old : D) where
     opens = tt;
     damaged = λ is. no_file_of_any (d.seen old) limit (damaged is);
     left_open = λ is. absurd (closed is);
-    seen = λ isnt. same;
-    before = inl same;
-    stays = record { each = λ state is. subst (λ (content : Content). IsFileOf limit content state) (sym same) is };
-  }
-
-  -- a disk whose pages were looked at
-  pub opens_err : (masked : MaskedInNoMap) (one_map : DiskHasOneMap) (p now : Paged D) (back : D) (why : Refusal) → IsFresh limit p → SamePages (working d p) (committed d p)
-      → IsOpened d (d.seen old) p → d.seen p.disk ≡ d.seen old → back ≡ now.disk → LeavesAllButFlag d p now
-      → (why ≡ refusal.DamagedFile → StandsForNone (working d p)) → (why ≡ refusal.FileNotClosed → StandsForSome (working d p) × ((d.seen p.disk).byte FLAG_OFFSET ≡ 0 → ⊥))
-      → (why ≢ refusal.Disk → d.seen now.disk ≡ d.seen p.disk)
-      → (d.seen now.disk ≡ d.seen p.disk) ⊎ (StandsForSome (working d p) × ((d.seen p.disk).byte FLAG_OFFSET ≡ 0)) → Opens d limit old (Err (back, why))
-  opens_err masked one_map p now back why first same opened seen given leaves damaged unclosed kept before =
-      let after : d.seen back ≡ d.seen now.disk = ap d.seen given in
-      record {
-        opens = tt;
-        damaged = λ is. no_file d limit (d.seen old) p first same opened one_map (damaged is);
-        left_open = λ is. left_open d limit (d.seen old) p first same opened (unclosed is).0
-            (subst (λ (content : Content). content.byte FLAG_OFFSET ≡ 0 → ⊥) seen (unclosed is).1);
-        seen = λ isnt. after ∙ kept isnt ∙ seen;
-        before = elim before [
-          | inl untouched ↦ inl (after ∙ untouched ∙ seen)
-          | inr sound ↦ inr (closed_file d limit (d.seen old) p first same opened sound.0
-              (subst (λ (content : Content). content.byte FLAG_OFFSET ≡ 0) seen sound.1))
-        ];
-        stays = stays_beside_flag masked limit (d.seen old) (d.seen back)
-            (subst (λ (content : Content). SameButFlag content (d.seen back)) seen
-            (subst (λ (content : Content). SameButFlag (d.seen p.disk) content) (sym after) (leaves.disk opened.tied.honest)));
-      }
-
--- ---- answers of looking
-
-module _ {D : Type 0} (d : disk.Ghosts D) (limit : ℕ) (old : D) where
-  pub looks_ok : (store : StoreState D) → OpensState d limit (d.seen old) store → d.seen store.pager.disk ≡ d.seen old → Looks d limit old (Ok store)
-  looks_ok store opens same = record { opens = opens; damaged = tt; left_open = tt; seen = same }
-
-  -- a disk that has no pages
-  pub looks_none : (back : D) (why : Refusal) → d.seen back ≡ d.seen old → (why ≡ refusal.FileNotClosed → ⊥) → (why ≡ refusal.DamagedFile → IsNoFile (d.seen old) limit)
-      → Looks d limit old (Err (back, why))
-  looks_none back why same closed damaged = record {
-    opens = tt;
-    damaged = λ is. no_file_of_any (d.seen old) limit (damaged is);
-    left_open = λ is. absurd (closed is);
     seen = same;
   }
 
   -- a disk whose pages were looked at
-  pub looks_err : (one_map : DiskHasOneMap) (p : Paged D) (back : D) (why : Refusal) → IsFresh limit p → SamePages (working d p) (committed d p)
+  pub opens_err : (one_map : DiskHasOneMap) (p : Paged D) (back : D) (why : Refusal) → IsFresh limit p → SamePages (working d p) (committed d p)
       → IsOpened d (d.seen old) p → d.seen p.disk ≡ d.seen old → d.seen back ≡ d.seen p.disk
       → (why ≡ refusal.DamagedFile → StandsForNone (working d p)) → (why ≡ refusal.FileNotClosed → StandsForSome (working d p) × ((d.seen p.disk).byte FLAG_OFFSET ≡ 0 → ⊥))
-      → Looks d limit old (Err (back, why))
-  looks_err one_map p back why first same opened seen kept damaged unclosed = record {
+      → Opens d limit old (Err (back, why))
+  opens_err one_map p back why first same opened seen kept damaged unclosed = record {
     opens = tt;
     damaged = λ is. no_file d limit (d.seen old) p first same opened one_map (damaged is);
     left_open = λ is. left_open d limit (d.seen old) p first same opened (unclosed is).0
@@ -161,9 +118,9 @@ module _ {D : Type 0} (d : disk.Ghosts D) (limit : ℕ) (old : D) where
 -- ---- a file that was made
 
 module _ {D : Type 0} (d : disk.Ghosts D) (one_thing : FileHoldsOne) (says : SameSays) (meant_alike : SameMeant) (state_alike : SameState) (p : Paged D) (made : IsFreshFile d p) where
-  pub has_fresh : (now : Paged D) (file : OpenedFile) (catalog : Definitions) (referents : Numbered HeldReferents) → LeavesAllButFlag d p now
-      → LoadsState (working d p) file catalog referents → flag_of d now ≡ 1 → HasFresh d now file catalog referents
-  has_fresh now file catalog referents leaves loads marked =
+  pub has_fresh : (now : Paged D) (file : OpenedFile) (catalog : Definitions) (referents : Numbered HeldReferents) → LeavesDisk d p now
+      → LoadsState (working d p) file catalog referents → IsShut d now → HasFresh d now file catalog referents
+  has_fresh now file catalog referents leaves loads shut =
       let work = same_map (working d now) (working d p) (leaves.working made.tied) in
       let at : LoadsState (working d now) file catalog referents = subst (λ (m : PageMap). LoadsState m file catalog referents) (sym work) loads in
       let alike : SamePages (working d now) (committed d now) =
@@ -174,13 +131,19 @@ module _ {D : Type 0} (d : disk.Ghosts D) (one_thing : FileHoldsOne) (says : Sam
       record {
         stands = record {
           contents = at.contents;
-          keeps = keeps_loaded d p now file catalog referents true (leaves.tied made.tied) alike at (λ is. marked);
+          keeps = keeps_loaded d p now file catalog referents (leaves.tied made.tied) alike at shut;
           live = omega arith;
           meant = subst (λ (level : ℕ). IsMeant level at.contents) made.first (meant_moves says meant_alike made.contents.directory.accepted made.contents at.contents same stood.meant);
           is = state_moves says state_alike made.contents at.contents fresh same stood.is;
           views = stood.views;
         };
       }
+
+  pub fresh_loaded : (now : Paged D) (r : Result Loaded Refusal) → LeavesDisk d p now
+      → IfOk r (λ loaded. LoadsState (working d p) loaded.file loaded.catalog loaded.referents) → IsShut d now
+      → IfOk r (λ loaded. HasFresh d now loaded.file loaded.catalog loaded.referents)
+  fresh_loaded now (Ok loaded) leaves loads shut = has_fresh now loaded.file loaded.catalog loaded.referents leaves loads shut
+  fresh_loaded now (Err why) leaves loads shut = tt
 
   -- it isn't found damaged
   pub fresh_is_found : StandsForNone (working d p) → ⊥

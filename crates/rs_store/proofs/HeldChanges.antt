@@ -1,11 +1,13 @@
 -- The changes that a pager holds, as others are begun and taken back, and what is open as it is.
 use Rattle.std.proofs.Common.{◌≡◌, ◌≤◌, ◌<◌, ◌∙◌, ◌∷◌, ℕ, List, Option, None, Result, Ok, Err, [], true, ap, inl, inr, length, refl, subst, sym}
 use Rattle.std.proofs.lemmas.Bool.{cases_lt}
+use Rattle.rs_disk.specs.Content.{Content}
 use Rattle.rs_disk.specs.declared.disk.Disk as disk
 use Rattle.rs_file.specs.declared.opened.OpenedFile.{OpenedFile}
 use Rattle.rs_file.specs.declared.opened.OpenedTable.{OpenedTable}
 use Rattle.rs_file_parts.specs.Parts.{IsAsItWas, SameOpened}
-use Rattle.rs_pager.specs.Maps.{HoldsNoChange, IsTied, KeepsBelow, KeepsChanges, KeepsMaps, committed, pager_store, working}
+use Rattle.rs_page.specs.declared.file_header.TheConstants.{FLAG_OFFSET}
+use Rattle.rs_pager.specs.Maps.{HoldsNoChange, IsShut, IsTied, KeepsBelow, KeepsChanges, KeepsMaps, committed, pager_store, working}
 use Rattle.rs_pager.specs.Opened.{Abandons}
 use Rattle.rs_pager.specs.Paged.{Paged, held}
 use Rattle.rs_pager.specs.declared.pager.TheConstants.{MOST_CHANGED}
@@ -56,6 +58,13 @@ module _ {D : Type 0} (d : disk.Ghosts D) where
   none_later : (old new : Paged D) → KeepsChanges old new → HoldsNoChange old → HoldsNoChange new
   none_later old new keeps none = record { none = λ number. keeps.held number ∙ none.none number; lacks = keeps.lacks ∙ none.lacks }
 
+  -- where the same is held, and the disk gives the same bytes, the open flag says the same
+  pub shut_later : (was now : Paged D) → KeepsChanges was now → d.seen now.disk ≡ d.seen was.disk → IsShut d was → IsShut d now
+  shut_later was now keeps seen shut = record {
+    closed = λ holds. ap (λ (content : Content). content.byte FLAG_OFFSET) seen
+        ∙ shut.closed (record { none = λ number. sym (keeps.held number) ∙ holds.none number; lacks = sym keeps.lacks ∙ holds.lacks });
+  }
+
   -- what was held still is, or was written, where the same is held from then on and the disk is as synced as it was
   pub still_later : (a b c : Paged D) → StillHolds d a b → KeepsChanges b c → d.is_synced c.disk ≡ d.is_synced b.disk → StillHolds d a c
   still_later a b c holds keeps synced = record {
@@ -80,25 +89,27 @@ module _ {D : Type 0} (d : disk.Ghosts D) where
   -- ---- changes that were begun
 
   -- where few pages were held, they are held still; else all were written
-  pub begins_with : {X : Type 0} (was now : Paged D) → (length was.changes ≤ MOST_CHANGED → X × (now ≡ record was { is_begun = true }))
-      → (MOST_CHANGED < length was.changes → HoldsNoChange now × (now.changes ≡ []) × (d.is_synced now.disk ≡ true))
-      → ((number : ℕ) → (held now number).copy ≡ None) → SamePages (working d now) (committed d now) → KeepsMaps d was now → BeginsWith d was now
-  begins_with was now few many copies same maps = record {
+  pub begins_with : {X : Type 0} (was room : Paged D) → (length was.changes ≤ MOST_CHANGED → X × (room ≡ was))
+      → (MOST_CHANGED < length was.changes → HoldsNoChange room × (room.changes ≡ []) × (d.is_synced room.disk ≡ true))
+      → ((number : ℕ) → (held room number).copy ≡ None) → SamePages (working d room) (committed d room) → KeepsMaps d was room
+      → BeginsWith d was (record room { is_begun = true })
+  begins_with was room few many copies same maps = record {
     holds = record {
       committed_fields = maps.committed_fields;
       working_fields = maps.working_fields;
       changes = elim (cases_lt MOST_CHANGED (length was.changes)) [
-        | inl above ↦ let written = many above in inr (record { none = written.0; synced = written.2 })
-        | inr within ↦ inl (subst (λ (p : Paged D). KeepsChanges was p) (sym (few within).1)
-            (record { held = λ number. refl; lacks = refl; committed_fields = refl; working_fields = refl }))
+        | inl above ↦ let written = many above in inr (record { none = record { none = written.0.none; lacks = written.0.lacks }; synced = written.2 })
+        | inr within ↦ let is = (few within).1 in inl (record {
+          held = λ number. ap (λ (p : Paged D). held p number) is;
+          lacks = ap (λ (p : Paged D). p.is_header_changed) is;
+          committed_fields = maps.committed_fields;
+          working_fields = maps.working_fields;
+        })
       ];
     };
     copies = copies;
     fields = same.fields;
   }
-
-  pub begins_after : (a b c : Paged D) → KeepsChanges a b → BeginsWith d b c → BeginsWith d a c
-  begins_after a b c keeps begins = record { holds = still_after a b c keeps begins.holds; copies = begins.copies; fields = begins.fields }
 
   -- changes that were begun and taken back leave what was held
   taken_back : (first between last : Paged D) → BeginsWith d first first → KeepsBelow d first between → Abandons between last → KeepsChanges first last

@@ -1,5 +1,5 @@
 -- What a store keeps while its pager is called, and once it was read anew.
-use Rattle.std.specs.Prelude.{OnErr}
+use Rattle.std.specs.Prelude.{OnErr, OnOk}
 use Rattle.std.proofs.Common.{◌≡◌, ◌≤◌, ◌∙◌, ℕ, Bool, IsTrue, Result, Ok, Err, true, subst, sym, refl, arith}
 use Rattle.rs_catalog.specs.Definitions.{Definitions, Numbered}
 use Rattle.rs_catalog.specs.Referents.{HeldReferents}
@@ -9,9 +9,8 @@ use Rattle.rs_disk.specs.Content.{Content}
 use Rattle.rs_disk.specs.declared.disk.Disk as disk
 use Rattle.rs_file.proofs.Loaded.{same_map}
 use Rattle.rs_machine.specs.State.{State}
-use Rattle.rs_page.specs.declared.file_header.TheConstants.{FLAG_OFFSET}
-use Rattle.rs_pager.specs.Maps.{IsTied, KeepsBelow, KeepsChanges, KeepsMaps, committed, pager_store, working}
-use Rattle.rs_pager.specs.Opened.{SetsFlag}
+use Rattle.rs_pager.specs.Maps.{HoldsNoChange, IsShut, IsTied, KeepsBelow, KeepsChanges, KeepsMaps, committed, pager_store, working}
+use Rattle.rs_pager.specs.Opened.{WritesAll}
 use Rattle.rs_pager.specs.Paged.{Paged}
 use Rattle.rs_pager.specs.Stored.{Stores}
 use Rattle.rs_pages.specs.PageMap.{PageMap, SamePages}
@@ -20,27 +19,22 @@ use Rattle.rs_pages.proofs.Stores.{SamePages-trans}
 use Rattle.rs_refusal.specs.declared.refusal.Refusal.{Refusal}
 use Rattle.rs_file_meaning.specs.Standing.{StandsFor}
 use Rattle.rs_refusal.specs.declared.refusal.Refusal.TheVariants as refusal
-use Rattle.rs_store.specs.Standing.{IsFileOf}
-use Rattle.rs_store.specs.Calls.{KeepsSame, KeepsStore, LeavesAllButFlag, Reopens, Saves}
+use Rattle.rs_store.specs.Standing.{IsFileOf, Stands}
+use Rattle.rs_store.specs.Calls.{KeepsSame, KeepsStore, LeavesDisk, Reopens, Saves}
 use Rattle.rs_store.specs.Changing.{StillHolds}
 use Rattle.rs_store.specs.Kept.{Keeps, StandsIn, StoreState}
 use Rattle.rs_store.specs.Loading.{LoadsState, StandsForNone}
 use Rattle.rs_store.proofs.HeldChanges.{still_later}
 use Rattle.rs_store.proofs.Results.{err_with, ok_always}
-use Rattle.rs_store.proofs.Beside.{same_but_flag-is, same_but_flag-set, same_but_flag-trans}
 use Rattle.rs_store.proofs.Same.{FileHoldsOne, SameMeant, SameSays, SameState, fewer_meant, meant_moves, same_accepted, state_moves}
 
 pub pages_back : (one other : PageMap) → SamePages one other → SamePages other one
 pages_back one other same = record { fields = sym same.fields; pages = λ n. sym (same.pages n) }
 
 module _ {D : Type 0} (d : disk.Ghosts D) where
-  -- the byte of the flag, as the disk has it
-  abbrev pub flag_of : Paged D → ℕ
-  flag_of p = (d.seen p.disk).byte FLAG_OFFSET
+  -- ---- pages that are only read
 
-  -- ---- all but the flag
-
-  pub leaves-trans : (a b c : Paged D) → LeavesAllButFlag d a b → LeavesAllButFlag d b c → LeavesAllButFlag d a c
+  pub leaves-trans : (a b c : Paged D) → LeavesDisk d a b → LeavesDisk d b c → LeavesDisk d a c
   leaves-trans a b c one other = record {
     tied = λ tied. other.tied (one.tied tied);
     committed = λ tied. SamePages-trans _ _ _ (other.committed (one.tied tied)) (one.committed tied);
@@ -48,10 +42,10 @@ module _ {D : Type 0} (d : disk.Ghosts D) where
     honesty = other.honesty ∙ one.honesty;
     limit = other.limit ∙ one.limit;
     begun = other.begun ∙ one.begun;
-    disk = λ honest. same_but_flag-trans (d.seen a.disk) (d.seen b.disk) (d.seen c.disk) (one.disk honest) (other.disk (subst IsTrue (sym one.honesty) honest));
+    seen = λ honest. other.seen (subst IsTrue (sym one.honesty) honest) ∙ one.seen honest;
   }
 
-  pub leaves_by_reading : {T : Type 0} (r : Result T Refusal) (was now : Paged D) → RestsAfter (IsTied d) (pager_store d) (KeepsBelow d) r was now → LeavesAllButFlag d was now
+  pub leaves_by_reading : {T : Type 0} (r : Result T Refusal) (was now : Paged D) → RestsAfter (IsTied d) (pager_store d) (KeepsBelow d) r was now → LeavesDisk d was now
   leaves_by_reading r was now rests = record {
     tied = rests.below.tied;
     committed = rests.below.committed;
@@ -59,25 +53,13 @@ module _ {D : Type 0} (d : disk.Ghosts D) where
     honesty = rests.below.honesty;
     limit = rests.rests.counts.limit;
     begun = rests.rests.counts.begun;
-    disk = λ honest. same_but_flag-is (d.seen was.disk) (d.seen now.disk) (rests.below.unwritten honest);
-  }
-
-  pub leaves_by_flag : {T E : Type 0} (r : Result T E) (is_open : Bool) (was now : Paged D) → KeepsMaps d was now → now.is_begun ≡ was.is_begun
-      → (IsTrue (d.is_honest was.disk) → SetsFlag r is_open (d.seen was.disk) (d.seen now.disk)) → LeavesAllButFlag d was now
-  leaves_by_flag r is_open was now keeps begun sets = record {
-    tied = keeps.tied;
-    committed = keeps.committed;
-    working = keeps.working;
-    honesty = keeps.honesty;
-    limit = keeps.limit;
-    begun = begun;
-    disk = λ honest. same_but_flag-set r is_open (d.seen was.disk) (d.seen now.disk) (sets honest);
+    seen = rests.below.unwritten;
   }
 
   -- ---- a store whose pager was called
 
-  abbrev pub store_over : Paged D → OpenedFile → Definitions → Numbered HeldReferents → Bool → StoreState D
-  store_over p file catalog referents is_marked = record { pager = p; file = file; catalog = catalog; referents = referents; is_marked = is_marked }
+  abbrev pub store_over : Paged D → OpenedFile → Definitions → Numbered HeldReferents → StoreState D
+  store_over p file catalog referents = record { pager = p; file = file; catalog = catalog; referents = referents }
 
   pub keeps_store-refl : (store : StoreState D) → KeepsStore d store store
   keeps_store-refl store = record { contents = λ contents keeps. keeps; file = refl; catalog = refl; referents = refl; honesty = refl; limit = refl; full = refl }
@@ -137,17 +119,17 @@ module _ {D : Type 0} (d : disk.Ghosts D) where
   still_same was now moves tied same =
       SamePages-trans _ _ _ (moves.working_pages tied) (SamePages-trans _ _ _ same (pages_back _ _ (moves.committed_pages tied)))
 
-  module _ (was now : Paged D) (file : OpenedFile) (catalog : Definitions) (referents : Numbered HeldReferents) (old_marked new_marked : Bool) where
-    pub keeps_by_moves : Moves was now → (IsTied d was → (old_marked ≡ true → flag_of was ≡ 1) → new_marked ≡ true → flag_of now ≡ 1)
-        → KeepsStore d (store_over was file catalog referents old_marked) (store_over now file catalog referents new_marked)
-    keeps_by_moves moves marks = record {
+  module _ (was now : Paged D) (file : OpenedFile) (catalog : Definitions) (referents : Numbered HeldReferents) where
+    pub keeps_by_moves : Moves was now → (IsTied d was → IsShut d was → IsShut d now)
+        → KeepsStore d (store_over was file catalog referents) (store_over now file catalog referents)
+    keeps_by_moves moves shuts = record {
       contents = λ contents kept. record {
         tied = moves.tied kept.tied;
         same = still_same was now moves kept.tied kept.same;
         holds = subst (λ (m : PageMap). HoldsAll m contents) (sym (same_map (committed d now) (committed d was) (moves.committed_pages kept.tied))) kept.holds;
         opened = kept.opened;
         memory = kept.memory;
-        marked = marks kept.tied kept.marked;
+        shut = shuts kept.tied kept.shut;
       };
       file = refl;
       catalog = refl;
@@ -157,8 +139,8 @@ module _ {D : Type 0} (d : disk.Ghosts D) where
       full = moves.full;
     }
 
-    pub keeps_by_maps : KeepsMaps d was now → (IsTied d was → (old_marked ≡ true → flag_of was ≡ 1) → new_marked ≡ true → flag_of now ≡ 1)
-        → KeepsStore d (store_over was file catalog referents old_marked) (store_over now file catalog referents new_marked)
+    pub keeps_by_maps : KeepsMaps d was now → (IsTied d was → IsShut d was → IsShut d now)
+        → KeepsStore d (store_over was file catalog referents) (store_over now file catalog referents)
     keeps_by_maps keeps = keeps_by_moves (moves_by_maps was now keeps)
 
   pub stands_kept : (oldest : ℕ) (old new : StoreState D) (state : State) → KeepsStore d old new → StandsIn d oldest old state → StandsIn d oldest new state
@@ -189,31 +171,41 @@ module _ {D : Type 0} (d : disk.Ghosts D) where
     };
   }
 
+  -- once all was written, the disk stands for the state
+  pub flushed_stands : {E : Type 0} (oldest : ℕ) (store : StoreState D) (state : State) → StandsIn d oldest store state → (now : Paged D) (r : Result (Unit {0}) E)
+      → KeepsMaps d store.pager now → (IsTrue (d.is_honest store.pager.disk) → IsShut d store.pager → IsShut d now)
+      → OnOk r (WritesAll d store.pager now) → OnOk r (HoldsNoChange now) → OnOk r (Stands now.limit (d.seen now.disk) state)
+  flushed_stands oldest store state stands now (Ok answer) keeps closed writes none = record {
+    file = file_of_state oldest store state stands now (keeps.committed stands.keeps.tied) writes.stores keeps.within;
+    closed = (closed stands.keeps.tied.honest stands.keeps.shut).closed none;
+  }
+  flushed_stands oldest store state stands now (Err why) keeps closed writes none = tt
+
   -- ---- a store that was read anew
 
-  module _ (was now : Paged D) (file : OpenedFile) (catalog : Definitions) (referents : Numbered HeldReferents) (is_marked : Bool) where
+  module _ (was now : Paged D) (file : OpenedFile) (catalog : Definitions) (referents : Numbered HeldReferents) where
     -- the store over pages that were read, whatever was kept before
     pub keeps_loaded : (tied : IsTied d now) (same : SamePages (working d now) (committed d now)) (loads : LoadsState (working d now) file catalog referents)
-        → (is_marked ≡ true → flag_of now ≡ 1) → Keeps d (store_over now file catalog referents is_marked) loads.contents
-    keeps_loaded tied same loads marked = record {
+        → IsShut d now → Keeps d (store_over now file catalog referents) loads.contents
+    keeps_loaded tied same loads shut = record {
       tied = tied;
       same = same;
       holds = subst (λ (m : PageMap). HoldsAll m loads.contents) (same_map (working d now) (committed d now) same) loads.holds;
       opened = loads.opened;
       memory = loads.brings.memory;
-      marked = marked;
+      shut = shut;
     }
 
-    module _ (one_thing : FileHoldsOne) (moves : Moves was now) (flag : IsTied d was → flag_of now ≡ flag_of was) (first : OpenedFile) (before : Definitions) (held : Numbered HeldReferents) where
-      pub keeps_anew : (contents : Contents) → Keeps d (store_over was first before held is_marked) contents → LoadsState (working d was) file catalog referents
-          → KeepsSame d contents (store_over now file catalog referents is_marked)
+    module _ (one_thing : FileHoldsOne) (moves : Moves was now) (shuts : IsTied d was → IsShut d was → IsShut d now) (first : OpenedFile) (before : Definitions) (held : Numbered HeldReferents) where
+      pub keeps_anew : (contents : Contents) → Keeps d (store_over was first before held) contents → LoadsState (working d was) file catalog referents
+          → KeepsSame d contents (store_over now file catalog referents)
       keeps_anew contents kept loads =
           let work = same_map (working d now) (working d was) (moves.working_pages kept.tied) in
           let at : LoadsState (working d now) file catalog referents = subst (λ (m : PageMap). LoadsState m file catalog referents) (sym work) loads in
           let same = still_same was now moves kept.tied kept.same in
           record {
             now = at.contents;
-            keeps = keeps_loaded (moves.tied kept.tied) same at (λ is. flag kept.tied ∙ kept.marked is);
+            keeps = keeps_loaded (moves.tied kept.tied) same at (shuts kept.tied kept.shut);
             same = one_thing (working d now) contents at.contents
                 (subst (λ (m : PageMap). HoldsAll m contents) (sym (work ∙ same_map (working d was) (committed d was) kept.same)) kept.holds) at.holds;
           }
@@ -278,12 +270,10 @@ module _ {D : Type 0} (d : disk.Ghosts D) where
 
   -- a disk that is only read from then on stays saved
   pub saves_after : {E F : Type 0} (r : Result (Unit {0}) F) (a b c : StoreState D) → KeepsStore d a b → Saves d {E = E} (Ok tt) a b
-      → (IsTrue (d.is_honest b.pager.disk) → d.seen c.pager.disk ≡ d.seen b.pager.disk) → c.pager.limit ≡ b.pager.limit → d.is_synced c.pager.disk ≡ d.is_synced b.pager.disk
-      → c.is_marked ≡ b.is_marked → Saves d r a c
-  saves_after r a b c keeps saves seen limit synced marked = record {
-    file = λ oldest state stands.
-        ok_always r (subst (λ (content : Content). IsFileOf c.pager.limit content state) (sym (seen (stands_kept oldest a b state keeps stands).keeps.tied.honest))
-        (subst (λ (most : ℕ). IsFileOf most (d.seen b.pager.disk) state) (sym limit) (saves.file oldest state stands)));
+      → (IsTrue (d.is_honest b.pager.disk) → d.seen c.pager.disk ≡ d.seen b.pager.disk) → c.pager.limit ≡ b.pager.limit → d.is_synced c.pager.disk ≡ d.is_synced b.pager.disk → Saves d r a c
+  saves_after r a b c keeps saves seen limit synced = record {
+    stands = λ oldest state stands.
+        ok_always r (subst (λ (content : Content). Stands c.pager.limit content state) (sym (seen (stands_kept oldest a b state keeps stands).keeps.tied.honest))
+        (subst (λ (most : ℕ). Stands most (d.seen b.pager.disk) state) (sym limit) (saves.stands oldest state stands)));
     synced = ok_always r (synced ∙ saves.synced);
-    marked = ok_always r (marked ∙ saves.marked);
   }

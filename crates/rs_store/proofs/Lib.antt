@@ -1,5 +1,5 @@
 pub mod Begun
-pub mod Beside
+pub mod NoFile
 pub mod Brought
 pub mod Changed
 pub mod Erased

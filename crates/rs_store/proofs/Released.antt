@@ -32,7 +32,7 @@ use Rattle.rs_store.specs.Settling.{HasBegun, IsKept, Settles}
 use Rattle.rs_store.proofs.HeldChanges.{still_as_it_was, still_by_changes}
 use Rattle.rs_store.proofs.Keeping.{pages_back, store_over}
 use Rattle.rs_store.proofs.Same.{SameMeant, SameSays, SameState, meant_moves, same_accepted, state_moves}
-use Rattle.rs_store.proofs.Settled.{EventsStay, LiveByRecords, LiveJoined, ReferentsStay, clears_table, flag_stays, holds_same, left_refused, live_same, may_next, memory_same, no_file_refuted, parts_of, records_same, rests_refused, stands_at_first}
+use Rattle.rs_store.proofs.Settled.{EventsStay, LiveByRecords, LiveJoined, ReferentsStay, clears_table, holds_same, left_refused, live_same, may_next, memory_same, no_file_refuted, parts_of, records_same, rests_refused, shut_kept, stands_at_first}
 use Rattle.rs_versioned.specs.Referents.{ReferentRecord}
 
 -- what the law of a file from which records are cleared says
@@ -80,9 +80,9 @@ rests_released d (Err why) between last file changed settled catalog rests keeps
 
 module _ {D : Type 0} (d : disk.Ghosts D) where
   -- nothing was begun, since the disk failed
-  pub unreleased : {T : Type 0} (why : Refusal) (was : StoreState D) (first : Paged D) (is_marked : Bool) → BeginsChange d (Err why) was.pager first was.is_marked is_marked
-      → LeavesReleased d {T = T} (Err why) was (store_over d first was.file was.catalog was.referents is_marked)
-  unreleased why was first is_marked begins =
+  pub unreleased : {T : Type 0} (why : Refusal) (was : StoreState D) (first : Paged D) → BeginsChange d (Err why) was.pager first
+      → LeavesReleased d {T = T} (Err why) was (store_over d first was.file was.catalog was.referents)
+  unreleased why was first begins =
       let keeps = begins.keeps was.file was.catalog was.referents in
       record {
         stays = keeps.contents;
@@ -99,10 +99,10 @@ module _ {D : Type 0} (d : disk.Ghosts D) where
         limit = keeps.limit;
       }
 
-  module _ (old : StoreState D) (first between last : Paged D) (file changed settled : OpenedFile) (catalog : Definitions) (referents : Numbered HeldReferents) (is_marked : Bool)
-      (begun : HasBegun d old (store_over d first file catalog referents is_marked)) (below : KeepsBelow d first between) where
+  module _ (old : StoreState D) (first between last : Paged D) (file changed settled : OpenedFile) (catalog : Definitions) (referents : Numbered HeldReferents)
+      (begun : HasBegun d old (store_over d first file catalog referents)) (below : KeepsBelow d first between) where
     abbrev after : StoreState D
-    after = store_over d last settled catalog referents is_marked
+    after = store_over d last settled catalog referents
 
     -- what is left, whether records were cleared or that was refused
     pub left_released : {T : Type 0} (result : Result T Refusal) → StoresAfter {T = T} (IsTied d first → HoldsNoFile (working d first) file) result (pager_store d first) (pager_store d between)
@@ -122,8 +122,8 @@ module _ {D : Type 0} (d : disk.Ghosts D) where
       limit = kept.commits.limit ∙ stores.counts.limit ∙ begun.keeps.limit;
     }
     left_released {T = T} (Err why) stores keeps whole room back =
-        let left = left_refused d old first between last file changed settled catalog referents is_marked begun below {may = Always} {T = T} why catalog referents stores
-        (λ from state stands allowed is none. no_file_refuted d old first between last file changed settled catalog referents is_marked begun below from state stands none)
+        let left = left_refused d old first between last file changed settled catalog referents begun below {may = Always} {T = T} why catalog referents stores
+        (λ from state stands allowed is none. no_file_refuted d old first between last file changed settled catalog referents begun below from state stands none)
         keeps whole back refl (λ route. refl) in
         record {
           stays = left.stays;
@@ -175,7 +175,7 @@ module _ {D : Type 0} (d : disk.Ghosts D) where
                   accepted = sym level ∙ fewer.stands.opened.accepted ∙ sym kept.file.accepted;
                 };
                 memory = memory_same catalog referents one other same fewer.stands.memory;
-                marked = flag_stays d old first between last file changed settled catalog referents is_marked begun below before keeps kept.commits.disk;
+                shut = shut_kept d old first between last file changed settled catalog referents begun below before keeps kept.commits;
               };
               live = omega (arith, fewer.stands.live, level);
               meant = meant_moves says meant_alike oldest one other same fewer.stands.meant;
@@ -190,7 +190,7 @@ module _ {D : Type 0} (d : disk.Ghosts D) where
           → IfOk result (λ gone. ClearsFile oldest 64 gone (working d first) (working d between) file changed) → Settles d result between last changed settled
           → IfOk result (λ gone. HasReleased d oldest gone stands.contents after state)
       released (Ok gone) from oldest state stands low high clears kept =
-          let at = stands_at_first d old first between last file changed settled catalog referents is_marked begun below from state stands in
+          let at = stands_at_first d old first between last file changed settled catalog referents begun below from state stands in
           let level : stands.contents.directory.accepted ≡ old.file.accepted = stands.keeps.opened.accepted in
           released_kept kept oldest gone stands.contents state stands.keeps
           (cleared_stands from oldest 64 gone (working d first) (working d between) file changed catalog referents state at low (omega (arith, high, level))

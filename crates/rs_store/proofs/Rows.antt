@@ -49,11 +49,11 @@ made_both d P Q (Err why) between last changed settled made held settles gives =
 
 -- what the law of a change that was kept says
 abbrev pub KeptGives : {D : Type 0} → disk.Ghosts D → Type 0
-KeptGives {D} d = (old : StoreState D) (first between last : Paged D) (file changed settled : OpenedFile) (catalog now : Definitions) (referents held : Numbered HeldReferents) (is_marked : Bool)
-    → HasBegun d old (store_over d first file catalog referents is_marked) → KeepsBelow d first between → IsKept d between last changed settled
+KeptGives {D} d = (old : StoreState D) (first between last : Paged D) (file changed settled : OpenedFile) (catalog now : Definitions) (referents held : Numbered HeldReferents)
+    → HasBegun d old (store_over d first file catalog referents) → KeepsBelow d first between → IsKept d between last changed settled
     → (from oldest : ℕ) (state next : State) (stands : StandsIn d from old state) → from ≤ oldest → oldest ≤ old.file.accepted + 1
     → (part : Contents) → Completes oldest stands.contents part (working d between) changed → GivesState oldest stands.contents part now held next → AreViewsMeant next
-    → HasBecome d oldest stands.contents (store_over d last settled now held is_marked) next
+    → HasBecome d oldest stands.contents (store_over d last settled now held) next
 
 abbrev pub RowPutGives : Type 0
 RowPutGives = (from oldest : ℕ) (map : PageMap) (file : OpenedFile) (definitions : Definitions) (held : Numbered HeldReferents) (state : State)
@@ -79,7 +79,7 @@ RowsTakenGive = (from oldest : ℕ) (map : PageMap) (file : OpenedFile) (definit
     × (count ≡ removed_facts there.facts route lo hi (goes_by goes))
 
 module _ {D : Type 0} (d : disk.Ghosts D) (old : StoreState D) (first between last : Paged D) (file changed settled : OpenedFile) (catalog : Definitions) (referents : Numbered HeldReferents)
-    (is_marked : Bool) (begun : HasBegun d old (store_over d first file catalog referents is_marked)) (below : KeepsBelow d first between) (kept_gives : KeptGives d)
+    (begun : HasBegun d old (store_over d first file catalog referents)) (below : KeepsBelow d first between) (kept_gives : KeptGives d)
     (from oldest : ℕ) (state : State) (stands : StandsIn d from old state) (low : from ≤ oldest) (high : oldest ≤ old.file.accepted + 1) (room : old.file.accepted < CHANGES) where
   -- the next version is one that a record can live to see
   pub next_below : stands.contents.directory.accepted + 1 < LIVING
@@ -94,11 +94,11 @@ module _ {D : Type 0} (d : disk.Ghosts D) (old : StoreState D) (first between la
   -- a part of the file that gives a state gives it to the store
   pub by_part : (now : Definitions) (held : Numbered HeldReferents) (next : State) (change : Contents → Contents → Type 0)
       → ChangesFile oldest (working d first) (working d between) file changed change → ((part : Contents) → change stands.contents part → GivesState oldest stands.contents part now held next)
-      → AreViewsMeant next → IsKept d between last changed settled → HasBecome d oldest stands.contents (store_over d last settled now held is_marked) next
+      → AreViewsMeant next → IsKept d between last changed settled → HasBecome d oldest stands.contents (store_over d last settled now held) next
   by_part now held next change changes gives views kept =
-      let at = stands_at_first d old first between last file changed settled catalog referents is_marked begun below from state stands in
+      let at = stands_at_first d old first between last file changed settled catalog referents begun below from state stands in
       let has = changes.each stands.contents at.holds at.opened in
-      kept_gives old first between last file changed settled catalog now referents held is_marked begun below kept from oldest state next stands low high has.between has.completes
+      kept_gives old first between last file changed settled catalog now referents held begun below kept from oldest state next stands low high has.between has.completes
       (gives has.between has.changed) views
 
   -- a row that was put is there in the next version
@@ -107,14 +107,14 @@ module _ {D : Type 0} (d : disk.Ghosts D) (old : StoreState D) (first between la
       → on.ends.start ≤ span.lo → span.hi ≤ behind table.kind on.ends → (there : Table) → names.get state.tables name ≡ Some there
       → IsLawful (with_table state name (with_facts_along there route span.lo span.hi span.row)) → (count : ℕ)
       → ChangesFile oldest (working d first) (working d between) file changed (InsertsRow place table.kind on.number span count) → IsKept d between last changed settled
-      → HasBecome d oldest stands.contents (store_over d last settled catalog referents is_marked) (with_table state name (with_facts_along there route span.lo span.hi span.row))
+      → HasBecome d oldest stands.contents (store_over d last settled catalog referents) (with_table state name (with_facts_along there route span.lo span.hi span.row))
       × (count ≡ new_facts there.facts route span.lo span.hi span.row)
   row_put put_gives name route table on place span table_there route_there numbered start end there is lawful count changes kept =
-      let at = stands_at_first d old first between last file changed settled catalog referents is_marked begun below from state stands in
+      let at = stands_at_first d old first between last file changed settled catalog referents begun below from state stands in
       let has = changes.each stands.contents at.holds at.opened in
       let gives = put_gives from oldest (working d first) file catalog referents state at low next_below name route table on place span count has.between table_there route_there
       (number_at place table.number numbered) start end has.changed there is in (
-        kept_gives old first between last file changed settled catalog catalog referents referents is_marked begun below kept from oldest state
+        kept_gives old first between last file changed settled catalog catalog referents referents begun below kept from oldest state
             (with_table state name (with_facts_along there route span.lo span.hi span.row)) stands low high has.between has.completes gives.0 lawful.views,
         gives.1,
       )
@@ -124,14 +124,14 @@ module _ {D : Type 0} (d : disk.Ghosts D) (old : StoreState D) (first between la
       → names.get catalog.routes route ≡ Some on → slice_get (table_numbers (said_catalogue file.definitions)) place ≡ Some table.number
       → (there : Table) → names.get state.tables name ≡ Some there → IsLawful (with_table state name (without_facts there route lo hi (goes_by goes))) → (count : ℕ)
       → ChangesFile oldest (working d first) (working d between) file changed (RemovesRows place on.number lo hi goes count) → IsKept d between last changed settled
-      → HasBecome d oldest stands.contents (store_over d last settled catalog referents is_marked) (with_table state name (without_facts there route lo hi (goes_by goes)))
+      → HasBecome d oldest stands.contents (store_over d last settled catalog referents) (with_table state name (without_facts there route lo hi (goes_by goes)))
       × (count ≡ removed_facts there.facts route lo hi (goes_by goes))
   rows_taken taken_give name route table on place lo hi goes table_there route_there numbered there is lawful count changes kept =
-      let at = stands_at_first d old first between last file changed settled catalog referents is_marked begun below from state stands in
+      let at = stands_at_first d old first between last file changed settled catalog referents begun below from state stands in
       let has = changes.each stands.contents at.holds at.opened in
       let gives = taken_give from oldest (working d first) file catalog referents state at low next_below name route table on place lo hi goes count has.between table_there route_there
       (number_at place table.number numbered) has.changed there is in (
-        kept_gives old first between last file changed settled catalog catalog referents referents is_marked begun below kept from oldest state
+        kept_gives old first between last file changed settled catalog catalog referents referents begun below kept from oldest state
             (with_table state name (without_facts there route lo hi (goes_by goes))) stands low high has.between has.completes gives.0 lawful.views,
         gives.1,
       )

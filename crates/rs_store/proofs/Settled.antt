@@ -1,5 +1,5 @@
 -- A change that was made or refused, as a store has it once its pages are kept or taken back.
-use Rattle.std.proofs.Common.{◌≡◌, ◌≤◌, ◌+◌, ◌∙◌, ℕ, Bool, List, [], ◌∷◌, Result, Ok, Err, Some, length, true, ap, inl, inr, refl, subst, sym, arith}
+use Rattle.std.proofs.Common.{◌≡◌, ◌≤◌, ◌+◌, ◌∙◌, ℕ, Bool, List, [], ◌∷◌, Result, Ok, Err, Some, length, true, ap, inl, inr, refl, subst, sym, arith, Option, None, false}
 use Rattle.std.proofs.lemmas.List.Sums.{sum_by-cons}
 use Rattle.std.specs.FinMap as names
 use Rattle.std.specs.List.{AllByRecursion, AllZip, sum_by}
@@ -31,8 +31,11 @@ use Rattle.rs_machine.specs.Lawful.{AreViewsMeant}
 use Rattle.rs_machine.specs.State.{State}
 use Rattle.rs_machine.specs.declared.limits.TheConstants.{CHANGES}
 use Rattle.rs_page.specs.declared.file_header.TheConstants.{FLAG_OFFSET}
-use Rattle.rs_pager.specs.Maps.{IsTied, KeepsBelow, committed, pager_store, working}
-use Rattle.rs_pager.specs.Paged.{Paged}
+use Rattle.rs_pager.proofs.Flushed.{page_or-none}
+use Rattle.rs_pager.specs.Maps.{HoldsNoChange, IsShut, IsTied, KeepsBelow, committed, pager_store, working}
+use Rattle.rs_pager.specs.Opened.{Abandons, Commits}
+use Rattle.rs_pager.specs.Paged.{Paged, held}
+use Rattle.rs_pages.specs.Held.{HeldPage, nothing_held}
 use Rattle.rs_pages.specs.PageMap.{PageMap}
 use Rattle.rs_pages.proofs.Stores.{SamePages-trans}
 use Rattle.rs_refusal.specs.Counts.{counted_on}
@@ -48,7 +51,7 @@ use Rattle.rs_store.specs.Changing.{HasBecome, LeavesStore}
 use Rattle.rs_store.specs.Kept.{IsAtRest, Keeps, StandsIn, StoreState}
 use Rattle.rs_store.specs.Settling.{HasBegun, IsFileKept, IsFileTakenBack, IsKept, IsTakenBack, Settles}
 use Rattle.rs_store.proofs.HeldChanges.{still_as_it_was, still_by_changes, still_taken_back}
-use Rattle.rs_store.proofs.Keeping.{flag_of, pages_back, store_over}
+use Rattle.rs_store.proofs.Keeping.{pages_back, store_over}
 use Rattle.rs_store.proofs.Same.{SameMeant, SameSays, SameState, meant_moves, same_accepted, state_moves}
 use Rattle.rs_value.specs.declared.column.ColumnType.{ColumnType}
 use Rattle.rs_versioned.specs.Events.{Event, event_width, kept_events}
@@ -209,22 +212,27 @@ as_it_was was is contents same opened =
     let still = still_opened was is contents same (parts_of was contents opened) in
     record { definitions = still.definitions; pages = still.pages; tables = still.tables; referents = still.referents; accepted = opened.accepted ∙ sym same.accepted }
 
+-- what is held of a page, where there is neither a committed page nor a copy
+both_none : (h : HeldPage) → h.committed ≡ None → h.copy ≡ None → h ≡ nothing_held
+both_none h committed copy =
+    ap (λ (page : Option (List ℕ)). record h { committed = page }) committed ∙ ap (λ (page : Option (List ℕ)). record nothing_held { copy = page }) copy
+
 -- ---- a store whose changes were begun
 
 module _ {D : Type 0} (d : disk.Ghosts D) where
   -- changes that were begun, over what was open and in memory
-  pub has_begun : (was : StoreState D) (first : Paged D) (is_marked : Bool) → BeginsChange d (Ok tt) was.pager first was.is_marked is_marked
-      → HasBegun d was (store_over d first was.file was.catalog was.referents is_marked)
-  has_begun was first is_marked begins = record {
+  pub has_begun : (was : StoreState D) (first : Paged D) → BeginsChange d (Ok tt) was.pager first
+      → HasBegun d was (store_over d first was.file was.catalog was.referents)
+  has_begun was first begins = record {
     keeps = begins.keeps was.file was.catalog was.referents;
     begins = begins.begins;
     failures = begins.count;
   }
 
   -- no change was begun, since the disk failed
-  pub left_unbegun : {may : State → Type 0} {T : Type 0} (why : Refusal) (was : StoreState D) (first : Paged D) (is_marked : Bool)
-      → BeginsChange d (Err why) was.pager first was.is_marked is_marked → LeavesStore d may {T = T} (Err why) was (store_over d first was.file was.catalog was.referents is_marked)
-  left_unbegun why was first is_marked begins =
+  pub left_unbegun : {may : State → Type 0} {T : Type 0} (why : Refusal) (was : StoreState D) (first : Paged D)
+      → BeginsChange d (Err why) was.pager first → LeavesStore d may {T = T} (Err why) was (store_over d first was.file was.catalog was.referents)
+  left_unbegun why was first begins =
       let keeps = begins.keeps was.file was.catalog was.referents in
       record {
         stays = keeps.contents;
@@ -241,11 +249,11 @@ module _ {D : Type 0} (d : disk.Ghosts D) where
         limit = keeps.limit;
       }
 
-  module _ (old : StoreState D) (first between last : Paged D) (file changed settled : OpenedFile) (catalog : Definitions) (referents : Numbered HeldReferents) (is_marked : Bool)
-      (begun : HasBegun d old (store_over d first file catalog referents is_marked)) (below : KeepsBelow d first between) where
+  module _ (old : StoreState D) (first between last : Paged D) (file changed settled : OpenedFile) (catalog : Definitions) (referents : Numbered HeldReferents)
+      (begun : HasBegun d old (store_over d first file catalog referents)) (below : KeepsBelow d first between) where
     -- the store once the change is kept or taken back
     abbrev pub after : Definitions → Numbered HeldReferents → StoreState D
-    after now held = store_over d last settled now held is_marked
+    after now held = store_over d last settled now held
 
     -- what the pages held as changes began
     pub at_first : (contents : Contents) → Keeps d old contents → HoldsAll (working d first) contents
@@ -253,10 +261,29 @@ module _ {D : Type 0} (d : disk.Ghosts D) where
         let at = begun.keeps.contents contents kept in
         subst (λ (m : PageMap). HoldsAll m contents) (sym (same_map (working d first) (committed d first) at.same)) at.holds
 
-    pub flag_stays : (contents : Contents) → Keeps d old contents → last.disk ≡ between.disk → is_marked ≡ true → flag_of d last ≡ 1
-    flag_stays contents kept same is =
+    -- where the disk has all that is committed afterwards, it had all before, and nothing was written
+    shut_after : (contents : Contents) → Keeps d old contents → last.disk ≡ between.disk
+        → (HoldsNoChange last → (number : ℕ) → (held between number).committed ≡ None) → (HoldsNoChange last → between.is_header_changed ≡ false) → IsShut d last
+    shut_after contents kept same none lacks =
         let at = begun.keeps.contents contents kept in
-        ap (λ (disk : D). (d.seen disk).byte FLAG_OFFSET) same ∙ ap (λ (content : Content). content.byte FLAG_OFFSET) (below.unwritten at.tied.honest) ∙ at.marked is
+        record {
+          closed = λ holds. ap (λ (disk : D). (d.seen disk).byte FLAG_OFFSET) same ∙ ap (λ (content : Content). content.byte FLAG_OFFSET) (below.unwritten at.tied.honest)
+              ∙ at.shut.closed (record {
+                none = λ number. both_none (held first number) (sym (below.changed number) ∙ none holds number) (begun.begins.copies number);
+                lacks = sym below.lacks ∙ lacks holds;
+              });
+        }
+
+    pub shut_kept : (contents : Contents) → Keeps d old contents → Commits between last → IsShut d last
+    shut_kept contents kept commits = shut_after contents kept commits.disk
+        (λ holds number. page_or-none (held between number).copy (held between number).committed
+        (ap (λ (h : HeldPage). h.committed) (sym (commits.held number) ∙ holds.none number)))
+        (λ holds. (commits.lacks.0 holds.lacks).0)
+
+    shut_taken_back : (contents : Contents) → Keeps d old contents → Abandons between last → IsShut d last
+    shut_taken_back contents kept back = shut_after contents kept back.disk
+        (λ holds number. ap (λ (h : HeldPage). h.committed) (sym (back.held number) ∙ holds.none number))
+        (λ holds. sym back.lacks ∙ holds.lacks)
 
     keeps_taken_back : (contents : Contents) (now : Definitions) (held : Numbered HeldReferents) → Keeps d old contents → KeepsCommitted file changed → IsCommitted file
         → IsTakenBack d between last changed settled → now ≡ catalog → ((route : ℕ) → referents_on held route ≡ referents_on referents route) → Keeps d (after now held) contents
@@ -272,7 +299,7 @@ module _ {D : Type 0} (d : disk.Ghosts D) where
             catalog = subst (λ (definitions : Definitions). AreDefinitionsAt contents.directory.accepted contents.definitions definitions) (sym same) at.memory.catalog;
             referents = λ route. alike route ∙ at.memory.referents route;
           };
-          marked = flag_stays contents kept back.abandons.disk;
+          shut = shut_taken_back contents kept back.abandons;
         }
 
     -- a store that stands in a state has begun its changes in pages that hold a file
@@ -403,7 +430,7 @@ module _ {D : Type 0} (d : disk.Ghosts D) where
                   accepted = sym level ∙ becomes.stands.opened.accepted ∙ sym kept.file.accepted;
                 };
                 memory = memory_same now held one other same becomes.stands.memory;
-                marked = flag_stays before keeps kept.commits.disk;
+                shut = shut_kept before keeps kept.commits;
               };
               live = omega (arith, becomes.stands.live, level);
               meant = meant_moves says meant_alike oldest one other same becomes.stands.meant;

@@ -32,7 +32,6 @@ use Rattle.rs_facts.specs.Runs.{Stretch}
 use Rattle.rs_facts.specs.Spans.{seen}
 use Rattle.rs_facts.specs.declared.fact.Span.{Span}
 use Rattle.rs_machine.specs.Checks.{column_types}
-use Rattle.rs_page.specs.declared.file_header.TheConstants.{FLAG_OFFSET}
 use Rattle.rs_page_owners.specs.Counts.{times}
 use Rattle.rs_pager.specs.Maps.{IsTied, KeepsBelow, committed, pager_store, working}
 use Rattle.rs_pager.specs.Paged.{Paged}
@@ -51,6 +50,7 @@ use Rattle.rs_store.specs.Kept.{IsAtRest, Keeps, StoreState}
 use Rattle.rs_store.specs.Placing.{HasNoNumber, IsNumberedAt}
 use Rattle.rs_store.specs.Reading.{GivesValue, HasNoIndex, HasRead, HasReadIndex, IsIndexAt, IsTableNumbered, ReadsStore, ReadsTable, lives}
 use Rattle.rs_store.specs.declared.reading.IndexKey.{IndexKey}
+use Rattle.rs_store.proofs.HeldChanges.{changes_by_reading, shut_later}
 use Rattle.rs_store.proofs.Keeping.{keeps_by_moves, moves_by_reading, store_over}
 use Rattle.rs_store.proofs.Numbered.{lies_at, none_lie}
 use Rattle.rs_store.proofs.Placed.{goes_with, place_of_number}
@@ -179,13 +179,12 @@ module _ {D : Type 0} (d : disk.Ghosts D) where
     | inr (inr damaged) ↦ omega (arith, rests.count.other (λ is. cc (is, damaged)))
   ]
 
-  pub reads_by_reading : {T : Type 0} (r : Result T Refusal) (was now : Paged D) (file : OpenedFile) (catalog : Definitions) (referents : Numbered HeldReferents) (is_marked : Bool)
+  pub reads_by_reading : {T : Type 0} (r : Result T Refusal) (was now : Paged D) (file : OpenedFile) (catalog : Definitions) (referents : Numbered HeldReferents)
       → RefusesToLoad r → RestsAfter (IsTied d) (pager_store d) (KeepsBelow d) r was now
-      → ReadsStore d (store_over d was file catalog referents is_marked) (store_over d now file catalog referents is_marked)
-  reads_by_reading r was now file catalog referents is_marked refused rests = record {
-    keeps = keeps_by_moves d was now file catalog referents is_marked is_marked (moves_by_reading d r was now rests)
-        (λ tied before is. ap (λ (content : Content). content.byte FLAG_OFFSET) (rests.below.unwritten tied.honest) ∙ before is);
-    marked = refl;
+      → ReadsStore d (store_over d was file catalog referents) (store_over d now file catalog referents)
+  reads_by_reading r was now file catalog referents refused rests = record {
+    keeps = keeps_by_moves d was now file catalog referents (moves_by_reading d r was now rests)
+        (λ tied shut. shut_later d was now (changes_by_reading d r was now rests) (rests.below.unwritten tied.honest) shut);
     tied = rests.below.tied;
     committed_pages = rests.below.committed;
     working_pages = rests.rests.keeps.pages;

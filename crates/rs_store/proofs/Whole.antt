@@ -36,8 +36,10 @@ module _ {D : Type 0} (d : disk.Ghosts D) {T : Type 0} (r : Result T Refusal) (p
       changed = after.below.changed;
       lacks = after.below.lacks;
       honesty = after.below.honesty;
+      keeping = after.below.keeping;
       synced = after.below.synced;
       unwritten = after.below.unwritten;
+      crash = after.below.crash;
       most_clean = sym narrow;
     };
     count = after.count;

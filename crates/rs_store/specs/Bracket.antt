@@ -34,21 +34,11 @@ pub record ComesToRest (was is : OpenedFile) (now : Definitions) : Type 0 where
 module _ {D : Type 0} (d : disk.Ghosts D) where
   -- ---- its beginning
 
-  -- The disk says that the file is open. Over these pages a store keeps what it kept, whatever is open and in memory.
-  pub record Marks (result : Result (Unit {0}) Refusal) (old new : Paged D) (was_marked is_marked : Bool) : Type 0 where
-    pub keeps : (file : OpenedFile) (catalog : Definitions) (referents : Numbered HeldReferents)
-        → KeepsStore d (record { pager = old; file = file; catalog = catalog; referents = referents; is_marked = was_marked })
-        (record { pager = new; file = file; catalog = catalog; referents = referents; is_marked = is_marked })
-    pub changes : KeepsChanges old new
-    pub marked : OnOk result (is_marked ≡ true)
-    pub refused : IsOkUnless result refusal.Disk
-    pub count : Counts result (d.failures old.disk) (d.failures new.disk)
-
   -- Changes are begun in pages over which a store keeps what it kept, whatever is open and in memory; or the disk failed, and none are.
-  pub record BeginsChange (result : Result (Unit {0}) Refusal) (old new : Paged D) (was_marked is_marked : Bool) : Type 0 where
+  pub record BeginsChange (result : Result (Unit {0}) Refusal) (old new : Paged D) : Type 0 where
     pub keeps : (file : OpenedFile) (catalog : Definitions) (referents : Numbered HeldReferents)
-        → KeepsStore d (record { pager = old; file = file; catalog = catalog; referents = referents; is_marked = was_marked })
-        (record { pager = new; file = file; catalog = catalog; referents = referents; is_marked = is_marked })
+        → KeepsStore d (record { pager = old; file = file; catalog = catalog; referents = referents })
+        (record { pager = new; file = file; catalog = catalog; referents = referents })
     pub begins : OnOk result (BeginsWith d old new)
     pub unbegun : OnErr result (KeepsChanges old new)
     pub refused : IsOkUnless result refusal.Disk

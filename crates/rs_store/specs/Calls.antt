@@ -18,25 +18,11 @@ use Rattle.rs_store.specs.Kept.{Keeps, StandsIn, StoreState}
 
 -- ---- disks
 
--- all bytes but that of the open flag are as they were
-pub record SameButFlag (old new : Content) : Type 0 where
-  pub others : (place : ℕ) → place ≢ FLAG_OFFSET → new.byte place ≡ old.byte place
-  pub size : PAGE_SIZE ≤ old.size → new.size ≡ old.size
-
 -- the disk is a file of some state, and was not closed
 pub record IsLeftOpen (limit : ℕ) (content : Content) : Type 0 where
   pub state : State
   pub file : IsFileOf limit content state
   pub not_closed : content.byte FLAG_OFFSET ≢ 0
-
--- it is a file of each state that it was a file of
-pub record StaysFile (limit : ℕ) (old new : Content) : Type 0 where
-  pub each : (state : State) → IsFileOf limit old state → IsFileOf limit new state
-
--- it stands for some state: it is a file of it, and closed
-pub record IsClosedFile (limit : ℕ) (content : Content) : Type 0 where
-  pub state : State
-  pub stands : Stands limit content state
 
 -- it is a file of no state, closed or not
 pub record IsNoFileOfAny (limit : ℕ) (content : Content) : Type 0 where
@@ -53,15 +39,15 @@ abbrev pub WantsCreating : Refusal → Type 0
 WantsCreating why = (why ≡ refusal.OutOfMemory) ⊎ (why ≡ refusal.Disk) ⊎ (why ≡ refusal.FileFull) ⊎ (why ≡ refusal.DamagedFile)
 
 module _ {D : Type 0} (d : disk.Ghosts D) where
-  -- both maps of pages stay, the limit and what is begun, and the disk but for the byte of its flag
-  pub record LeavesAllButFlag (old new : Paged D) : Type 0 where
+  -- both maps of pages stay, the limit and what is begun, and nothing is written to the disk
+  pub record LeavesDisk (old new : Paged D) : Type 0 where
     pub tied : IsTied d old → IsTied d new
     pub committed : IsTied d old → SamePages (committed d new) (committed d old)
     pub working : IsTied d old → SamePages (working d new) (working d old)
     pub honesty : d.is_honest new.disk ≡ d.is_honest old.disk
     pub limit : new.limit ≡ old.limit
     pub begun : new.is_begun ≡ old.is_begun
-    pub disk : IsTrue (d.is_honest old.disk) → SameButFlag (d.seen old.disk) (d.seen new.disk)
+    pub seen : IsTrue (d.is_honest old.disk) → d.seen new.disk ≡ d.seen old.disk
 
   -- ---- a store that comes to be
 
@@ -70,16 +56,6 @@ module _ {D : Type 0} (d : disk.Ghosts D) where
     pub honesty : MatchResult result (λ store. d.is_honest store.pager.disk ≡ d.is_honest old) (λ refused. d.is_honest refused.0 ≡ d.is_honest old)
     pub count : MatchResult result (λ store. d.failures store.pager.disk ≡ d.failures old) (λ refused. CountsFault refused.1 (d.failures old) (d.failures refused.0))
     pub limit : IfOk result (λ store. store.pager.limit ≡ most)
-    pub synced : IfOk result (λ store. d.is_synced store.pager.disk ≡ true)
-    pub marked : IfOk result (λ store. store.is_marked ≡ true)
-
-  -- Whatever a disk is that is only to be read, it is lent to the store, which does not know it to be marked as open, or handed back. 91
-  -- comes exactly where its failures rose, by one.
-  pub record HandsUnmarked (most : ℕ) (old : D) (result : Result (StoreState D) (D × Refusal)) : Type 0 where
-    pub honesty : MatchResult result (λ store. d.is_honest store.pager.disk ≡ d.is_honest old) (λ refused. d.is_honest refused.0 ≡ d.is_honest old)
-    pub count : MatchResult result (λ store. d.failures store.pager.disk ≡ d.failures old) (λ refused. CountsFault refused.1 (d.failures old) (d.failures refused.0))
-    pub limit : IfOk result (λ store. store.pager.limit ≡ most)
-    pub unmarked : IfOk result (λ store. store.is_marked ≡ false)
 
   -- the disk stood for a state, in which the store stands; its versions begin with the one that was accepted last
   pub record OpensState (limit : ℕ) (content : Content) (store : StoreState D) : Type 0 where
@@ -87,18 +63,8 @@ module _ {D : Type 0} (d : disk.Ghosts D) where
     pub stood : Stands limit content state
     pub stands : StandsIn d store.file.accepted store state
 
-  -- What an honest disk is opened as. After all refusals but 91 it is as it was, and after 91 too unless it stood for a state, of
-  -- which it is a file then, though its flag may be any.
+  -- What an honest disk is opened as. It is as it was, whatever is answered.
   pub record Opens (limit : ℕ) (old : D) (result : Result (StoreState D) (D × Refusal)) : Type 0 where
-    pub opens : IfOk result (OpensState limit (d.seen old))
-    pub damaged : IfErr result (λ refused. refused.1 ≡ refusal.DamagedFile → IsNoFileOfAny limit (d.seen old))
-    pub left_open : IfErr result (λ refused. refused.1 ≡ refusal.FileNotClosed → IsLeftOpen limit (d.seen old))
-    pub seen : IfErr result (λ refused. refused.1 ≢ refusal.Disk → d.seen refused.0 ≡ d.seen old)
-    pub before : IfErr result (λ refused. (d.seen refused.0 ≡ d.seen old) ⊎ IsClosedFile limit (d.seen old))
-    pub stays : IfErr result (λ refused. StaysFile limit (d.seen old) (d.seen refused.0))
-
-  -- What an honest disk is opened as to be read alone. It is as it was, whatever is answered.
-  pub record Looks (limit : ℕ) (old : D) (result : Result (StoreState D) (D × Refusal)) : Type 0 where
     pub opens : IfOk result (OpensState limit (d.seen old))
     pub damaged : IfErr result (λ refused. refused.1 ≡ refusal.DamagedFile → IsNoFileOfAny limit (d.seen old))
     pub left_open : IfErr result (λ refused. refused.1 ≡ refusal.FileNotClosed → IsLeftOpen limit (d.seen old))
@@ -121,11 +87,10 @@ module _ {D : Type 0} (d : disk.Ghosts D) where
     pub limit : new.pager.limit ≡ old.pager.limit
     pub full : new.pager.full_refusals ≡ old.pager.full_refusals
 
-  -- the disk is synced and marked as open, and a file of the state in which the store stands
+  -- the disk is synced, and stands for the state in which the store stands
   pub record Saves {E : Type 0} (result : Result (Unit {0}) E) (old new : StoreState D) : Type 0 where
-    pub file : (oldest : ℕ) (state : State) → StandsIn d oldest old state → OnOk result (IsFileOf new.pager.limit (d.seen new.pager.disk) state)
+    pub stands : (oldest : ℕ) (state : State) → StandsIn d oldest old state → OnOk result (Stands new.pager.limit (d.seen new.pager.disk) state)
     pub synced : OnOk result (d.is_synced new.pager.disk ≡ true)
-    pub marked : OnOk result (new.is_marked ≡ true)
 
   -- the same contents are kept, in the same pages
   pub record KeepsSame (contents : Contents) (store : StoreState D) : Type 0 where
@@ -151,14 +116,12 @@ module _ {D : Type 0} (d : disk.Ghosts D) where
 
   -- ---- a store that is put away
 
-  -- the disk stands for the state in which the store stood, and is synced; a store that is handed back keeps what it kept, and
-  -- marks its disk as open before it writes again
+  -- the disk stands for the state in which the store stood, and is synced; a store that is handed back keeps what it kept
   pub record Closes (old : StoreState D) (result : Result D (StoreState D × Refusal)) : Type 0 where
     pub stands : (oldest : ℕ) (state : State) → StandsIn d oldest old state → IfOk result (λ disk. Stands old.pager.limit (d.seen disk) state)
     pub synced : IfOk result (λ disk. d.is_synced disk ≡ true)
     pub honesty : IfOk result (λ disk. d.is_honest disk ≡ d.is_honest old.pager.disk)
     pub keeps : IfErr result (λ refused. KeepsStore old refused.0)
-    pub unmarked : IfErr result (λ refused. refused.0.is_marked ≡ false)
 
   -- a disk that is not closed is refused with 91 alone, where its failures rose, by one
   pub record CountsClosing (old : StoreState D) (result : Result D (StoreState D × Refusal)) : Type 0 where

@@ -1,5 +1,5 @@
 -- What a store is, what it keeps, and in which state it stands.
-use Rattle.std.specs.Prelude.{◌≡◌, ◌≤◌, ℕ, Bool, true, false}
+use Rattle.std.specs.Prelude.{◌≡◌, ◌≤◌, ℕ, Bool, false}
 use Rattle.std.specs.List.{AllByRecursion}
 use Rattle.rs_catalog.specs.Definitions.{Definitions, Numbered}
 use Rattle.rs_catalog.specs.Referents.{HeldReferents}
@@ -16,21 +16,18 @@ use Rattle.rs_file_parts.specs.Parts.{IsCommitted}
 use Rattle.rs_machine.specs.Lawful.{AreColumnsOfTable, AreViewsMeant, Each}
 use Rattle.rs_machine.specs.State.{State}
 use Rattle.rs_machine.specs.declared.limits.TheConstants.{CHANGES}
-use Rattle.rs_page.specs.declared.file_header.TheConstants.{FLAG_OFFSET}
 use Rattle.rs_page_cache.specs.declared.clean.TheConstants.{MOST_CLEAN}
-use Rattle.rs_pager.specs.Maps.{IsTied, committed, working}
+use Rattle.rs_pager.specs.Maps.{IsShut, IsTied, committed, working}
 use Rattle.rs_pager.specs.Paged.{Paged}
 use Rattle.rs_pages.specs.PageMap.{SamePages}
 use Rattle.rs_stored_catalog.specs.Listing.{listing_of}
 
--- the pages over the disk, what is open of the file, the definitions and the referents in memory, and whether the disk says that
--- the file is open
+-- the pages over the disk, what is open of the file, and the definitions and the referents in memory
 pub record StoreState (D : Type 0) : Type 0 where
   pub pager : Paged D
   pub file : OpenedFile
   pub catalog : Definitions
   pub referents : Numbered HeldReferents
-  pub is_marked : Bool
 
 -- What is open can be changed, and nothing of it has changed since the last commit. The catalogue in memory lists its very definitions,
 -- whose routes were born by the version that was accepted last, and each table has columns that a table may have.
@@ -51,14 +48,14 @@ pub record IsSound (is_begun : Bool) (most_clean : ℕ) (file : OpenedFile) (cat
 
 module _ {D : Type 0} (d : disk.Ghosts D) where
   -- The store keeps these contents: its committed pages hold them, and nothing has changed in them since. What is open is theirs,
-  -- and so is what is in memory. Where the store says that the disk is marked as open, it is.
+  -- and so is what is in memory. Where the disk has all of it, its open flag says that the file is closed.
   pub record Keeps (store : StoreState D) (contents : Contents) : Type 0 where
     pub tied : IsTied d store.pager
     pub same : SamePages (working d store.pager) (committed d store.pager)
     pub holds : HoldsAll (committed d store.pager) contents
     pub opened : IsOpenedFile store.file contents
     pub memory : AreInMemory store.catalog store.referents contents
-    pub marked : store.is_marked ≡ true → (d.seen store.pager.disk).byte FLAG_OFFSET ≡ 1
+    pub shut : IsShut d store.pager
 
   -- the store keeps contents which are meant from the oldest version on, and have this state
   pub record StandsIn (oldest : ℕ) (store : StoreState D) (state : State) : Type 0 where

@@ -116,7 +116,6 @@ module _ {D : Type 0} (d : disk.Ghosts D) where
   -- changes stay, and nothing is written to the disk, whose failures may rise.
   pub record ReadsStore (old new : StoreState D) : Type 0 where
     pub keeps : KeepsStore d old new
-    pub marked : new.is_marked ≡ old.is_marked
     pub tied : IsTied d old.pager → IsTied d new.pager
     pub committed_pages : IsTied d old.pager → SamePages (committed d new.pager) (committed d old.pager)
     pub working_pages : IsTied d old.pager → SamePages (working d new.pager) (working d old.pager)

@@ -15,7 +15,6 @@ ghost use Rattle.rs_store.specs.Changing.{HasBecome};
 ghost use Rattle.rs_store.specs.Kept.{StandsIn, StoreState};
 ghost use Rattle.rs_store.specs.Settling.{HasBegun, IsKept, Settles};
 
-use crate::marking::mark;
 use rs_change_laws::completing::completed_change_has_its_state;
 use rs_disk::Disk;
 use rs_file::OpenedFile;
@@ -28,19 +27,17 @@ use rs_file_parts::{keep, take_back};
 use rs_pager::Pager;
 use rs_refusal::Refusal;
 
-/// Marks the disk as open where it isn't, and begins changes. It is refused with 91 alone; then none are begun.
-pub(crate) fn begin_change<D: Disk>(
-    pager: &mut Pager<D>,
-    is_marked: &mut bool,
-) -> Result<(), Refusal>
+/// Makes room for a change, and begins it. It is refused with 91 alone; then none is begun.
+pub(crate) fn begin_change<D: Disk>(pager: &mut Pager<D>) -> Result<(), Refusal>
     requires { pager.old.is_begun ≡ false }
-    ensures begins { BeginsChange D.Disk result pager.old pager.new is_marked.old is_marked.new }
+    ensures begins { BeginsChange D.Disk result pager.old pager.new }
     ensures begun { OnOk result (pager.new.is_begun ≡ true) }
     ensures shut { OnErr result (pager.new.is_begun ≡ false) }
     ensures most_clean { pager.new.most_clean ≡ pager.old.most_clean }
 {
-    mark(pager, is_marked)?;
-    pager.begin()
+    pager.make_room()?;
+    pager.begin();
+    Ok(())
 }
 
 /// Keeps the change in its pages and in what is open where it was made, and takes it back where it was refused. It hands on the answer.
@@ -71,12 +68,12 @@ pub(crate) fn settle<D: Disk, T>(
 
 /// Where the part of a change was completed in pages that were kept, and that gives a state, a store over these pages has become so.
 pub(crate) fn kept_change_gives_its_state<D: Disk>()
-    ensures { (old : StoreState D) (first between last : Paged D) (file changed settled : OpenedFile) (catalog now : Definitions) (referents held : Numbered HeldReferents) (is_marked : Bool)
-        → HasBegun D.Disk old (record { pager = first; file = file; catalog = catalog; referents = referents; is_marked = is_marked })
+    ensures { (old : StoreState D) (first between last : Paged D) (file changed settled : OpenedFile) (catalog now : Definitions) (referents held : Numbered HeldReferents)
+        → HasBegun D.Disk old (record { pager = first; file = file; catalog = catalog; referents = referents })
         → KeepsBelow D.Disk first between → IsKept D.Disk between last changed settled
         → (from oldest : ℕ) (state next : State) (stands : StandsIn D.Disk from old state) → from ≤ oldest → oldest ≤ old.file.accepted + 1
         → (part : Contents) → Completes oldest stands.contents part (working D.Disk between) changed → GivesState oldest stands.contents part now held next → AreViewsMeant next
-        → HasBecome D.Disk oldest stands.contents (record { pager = last; file = settled; catalog = now; referents = held; is_marked = is_marked }) next }
+        → HasBecome D.Disk oldest stands.contents (record { pager = last; file = settled; catalog = now; referents = held }) next }
 {
     meant_contents_stay_meant();
     contents_have_one_state();

@@ -63,7 +63,7 @@ impl<D: Disk> Store<D> {
         kept_change_gives_its_state::<D>();
         row_put_gives_its_state();
         let insertion = insertion_of(&self.file, &self.catalog, table, route, span);
-        begin_change(&mut self.pager, &mut self.is_marked)?;
+        begin_change(&mut self.pager)?;
         let made = rs_changes::insert(alloc, &mut self.pager, &mut self.file, oldest, &insertion);
         settle(&mut self.pager, &mut self.file, made)
     }
@@ -98,7 +98,7 @@ impl<D: Disk> Store<D> {
             hi: section.hi,
             goes,
         };
-        begin_change(&mut self.pager, &mut self.is_marked)?;
+        begin_change(&mut self.pager)?;
         let made = rs_changes::remove(alloc, &mut self.pager, &mut self.file, oldest, &removal);
         settle(&mut self.pager, &mut self.file, made)
     }

@@ -6,25 +6,22 @@ ghost use Rattle.rs_disk.specs.Counts.{Counts};
 ghost use Rattle.rs_machine.specs.State.{State};
 ghost use Rattle.rs_pager.specs.Maps.{HoldsNoChange, KeepsChanges};
 ghost use Rattle.rs_pager.specs.Opened.{CountsFault};
-ghost use Rattle.rs_store.specs.Standing.{Stands};
 ghost use Rattle.rs_store.specs.Calls.{Closes, CountsClosing, KeepsStore, Reopens, Saves};
 ghost use Rattle.rs_store.specs.Changing.{StillHolds};
 ghost use Rattle.rs_store.specs.Kept.{StandsIn};
 
 use crate::loading::{Loaded, load_whole};
-use crate::marking::mark;
 use crate::store::Store;
 use rs_disk::Disk;
 use rs_file::laws::file_holds_one_thing;
 use rs_file_meaning::changes::meant_contents_stay_meant;
 use rs_file_meaning::standing::contents_have_one_state;
-use rs_pager::laws::masked_bytes_are_in_no_map;
 use rs_refusal::Refusal;
 use std::alloc::Global;
 
 impl<D: Disk> Store<D> {
-    /// Writes all that the disk lacks, and waits until it is on the medium; the disk is marked as open first where it isn't. The store
-    /// keeps what it kept, whatever is answered, and after a refusal it holds the same changes. It is refused with 91 alone.
+    /// Writes all that the disk lacks, and waits until it is on the medium; the file is a closed one then, as it was before. The store keeps
+    /// what it kept, whatever is answered, and after a refusal it holds the same changes. It is refused with 91 alone.
     pub fn save(&mut self) -> Result<(), Refusal>
         ensures keeps { KeepsStore D.Disk self.old self.new }
         ensures changes { StillHolds D.Disk self.old.pager self.new.pager }
@@ -33,7 +30,6 @@ impl<D: Disk> Store<D> {
         ensures refused { IsOkUnless result Refusal.Disk }
         ensures count { Counts result (D.failures self.old.pager.disk) (D.failures self.new.pager.disk) }
     {
-        mark(&mut self.pager, &mut self.is_marked)?;
         self.pager.flush()
     }
 
@@ -52,14 +48,13 @@ impl<D: Disk> Store<D> {
         self.read_anew(alloc)
     }
 
-    /// Saves, marks the disk as closed, waits until that is on the medium, and gives the disk back. A refusal (91) hands back the
-    /// store, which keeps what it kept; before it writes again it marks the disk as open.
+    /// Saves, and gives the disk back. A refusal (91) hands back the store, which keeps what it kept.
     pub fn close(self) -> Result<D, (Store<D>, Refusal)>
         ensures closes { Closes D.Disk self result }
         ensures count { CountsClosing D.Disk self result }
     {
         let mut store = self;
-        match store.put_away() {
+        match store.save() {
             Ok(()) => Ok(store.into_disk()),
             Err(refusal) => Err((store, refusal)),
         }
@@ -71,7 +66,6 @@ impl<D: Disk> Store<D> {
         requires written { HoldsNoChange self.old.pager }
         ensures keeps { KeepsStore D.Disk self.old self.new }
         ensures changes { KeepsChanges self.old.pager self.new.pager }
-        ensures marked { self.new.is_marked ≡ self.old.is_marked }
         ensures synced { D.is_synced self.new.pager.disk ≡ D.is_synced self.old.pager.disk }
         ensures seen { IsTrue (D.is_honest self.old.pager.disk) → D.seen self.new.pager.disk ≡ D.seen self.old.pager.disk }
         ensures sound { (oldest : ℕ) (state : State) → StandsIn D.Disk oldest self.old state → result ≢ Err Refusal.DamagedFile }
@@ -87,7 +81,6 @@ impl<D: Disk> Store<D> {
     fn read_anew(&mut self, alloc: Global) -> Result<(), Refusal>
         ensures reopens { Reopens D.Disk result self.old self.new }
         ensures changes { OnErr result (KeepsChanges self.old.pager self.new.pager) }
-        ensures marked { self.new.is_marked ≡ self.old.is_marked }
         ensures synced { D.is_synced self.new.pager.disk ≡ D.is_synced self.old.pager.disk }
         ensures seen { IsTrue (D.is_honest self.old.pager.disk) → D.seen self.new.pager.disk ≡ D.seen self.old.pager.disk }
         ensures refused { RefusesToLoad result }
@@ -109,25 +102,7 @@ impl<D: Disk> Store<D> {
         Ok(())
     }
 
-    /// Saves, and marks the disk as closed. It is refused with 91 alone. From then on the store does not know that the disk says that
-    /// it is open.
-    fn put_away(&mut self) -> Result<(), Refusal>
-        ensures keeps { KeepsStore D.Disk self.old self.new }
-        ensures stands { (oldest : ℕ) (state : State) → StandsIn D.Disk oldest self.old state
-            → OnOk result (Stands self.new.pager.limit (D.seen self.new.pager.disk) state) }
-        ensures synced { OnOk result (D.is_synced self.new.pager.disk ≡ true) }
-        ensures unmarked { self.new.is_marked ≡ false }
-        ensures refused { IsOkUnless result Refusal.Disk }
-        ensures count { Counts result (D.failures self.old.pager.disk) (D.failures self.new.pager.disk) }
-    {
-        masked_bytes_are_in_no_map();
-        let saved = self.save();
-        self.is_marked = false;
-        saved?;
-        self.pager.set_open_flag(false)
-    }
-
-    /// Gives the disk back, and writes nothing, not even what is held of changes: for a store that was only looked at.
+    /// Gives the disk back, and writes nothing, not even what is held of changes: for a store that was only read.
     pub fn into_disk(self) -> D
         ensures { result ≡ self.pager.disk }
     {
@@ -136,7 +111,6 @@ impl<D: Disk> Store<D> {
             file,
             catalog,
             referents,
-            is_marked: _,
         } = self;
         drop(file);
         drop(catalog);

@@ -20,8 +20,8 @@ use rs_refusal::Refusal;
 use std::alloc::Global;
 
 impl<D: Disk> Store<D> {
-    /// Writes a file in which nothing is defined in place of all that the disk holds, and marks it as open. `limit` is the greatest
-    /// number of pages. It is refused with 90 and 91; with 92 never, though no clause says so, since three pages have room within each
+    /// Writes a file in which nothing is defined in place of all that the disk holds, and syncs it. `limit` is the greatest number of
+    /// pages. It is refused with 90 and 91; with 92 never, though no clause says so, since three pages have room within each
     /// limit; and with 94 only where the disk does not give back what was written. A refusal hands the disk back, with any part of this
     /// done.
     pub fn create(alloc: Global, disk: D, limit: u32) -> Result<Store<D>, (D, Refusal)>
@@ -29,17 +29,18 @@ impl<D: Disk> Store<D> {
         requires greatest { limit ≤ GREATEST_LIMIT }
         ensures creates { IsTrue (D.is_honest disk) → Creates D.Disk result }
         ensures hands { HandsOver D.Disk limit disk result }
+        ensures synced { IfOk result (λ store. D.is_synced store.pager.disk ≡ true) }
         ensures refused { IfErr result (λ refused. WantsCreating refused.1) }
     {
         let mut pager = Pager::create(alloc, disk, limit)?;
         match create_pages(alloc, &mut pager) {
-            Ok(loaded) => Ok(store_of(pager, loaded, true)),
+            Ok(loaded) => Ok(store_of(pager, loaded)),
             Err(refusal) => Err((pager.into_disk(), refusal)),
         }
     }
 }
 
-/// Writes the file, reads it back, and marks the disk as open. It is refused with 90, with 91 and with 92; with 94 only on a disk that
+/// Writes the file, and reads it back. It is refused with 90, with 91 and with 92; with 94 only on a disk that
 /// isn't honest.
 fn create_pages<D: Disk>(alloc: Global, pager: &mut Pager<D>) -> Result<Loaded, Refusal>
     requires shut { pager.old.is_begun ≡ false }
@@ -61,9 +62,7 @@ fn create_pages<D: Disk>(alloc: Global, pager: &mut Pager<D>) -> Result<Loaded, 
     contents_have_one_state();
     meant_contents_stay_meant();
     write_nothing(alloc, pager)?;
-    let loaded = load_state(alloc, pager)?;
-    pager.set_open_flag(true)?;
-    Ok(loaded)
+    load_state(alloc, pager)
 }
 
 /// Writes that nothing is defined, in a file of page 0 and an empty directory.
@@ -76,11 +75,12 @@ fn write_nothing<D: Disk>(alloc: Global, pager: &mut Pager<D>) -> Result<(), Ref
     ensures limit { pager.new.limit ≡ pager.old.limit }
     ensures most_clean { pager.new.most_clean ≡ pager.old.most_clean }
     ensures honesty { D.is_honest pager.new.disk ≡ D.is_honest pager.old.disk }
+    ensures synced { OnOk result (D.is_synced pager.new.disk ≡ true) }
     ensures refused { IfErr result WantsCreating }
     ensures count { MatchResult result (λ _. D.failures pager.new.disk ≡ D.failures pager.old.disk)
         (λ why. CountsFault why (D.failures pager.old.disk) (D.failures pager.new.disk)) }
 {
-    pager.begin()?;
+    pager.begin();
     if let Err(refusal) = rs_file::create(alloc, pager) {
         pager.abandon();
         return Err(refusal);

@@ -54,7 +54,7 @@ impl<D: Disk> Store<D> {
         kept_change_gives_its_state::<D>();
         shortest_line_defines_the_view();
         view_listed_gives_its_state();
-        begin_change(&mut self.pager, &mut self.is_marked)?;
+        begin_change(&mut self.pager)?;
         let made = define_view_in_both(
             alloc,
             &mut self.pager,
@@ -76,7 +76,7 @@ impl<D: Disk> Store<D> {
         kept_change_gives_its_state::<D>();
         shortest_line_defines_the_view();
         view_listed_gives_its_state();
-        begin_change(&mut self.pager, &mut self.is_marked)?;
+        begin_change(&mut self.pager)?;
         let made = drop_view_from_both(
             alloc,
             &mut self.pager,

@@ -64,7 +64,7 @@ impl<D: Disk> Store<D> {
         shortest_line_defines_the_view();
         self.catalog.stand();
         let place = table_place(&self.file, &self.catalog, &table);
-        begin_change(&mut self.pager, &mut self.is_marked)?;
+        begin_change(&mut self.pager)?;
         let made = define_index_in_both(
             alloc,
             &mut self.pager,
@@ -93,7 +93,7 @@ impl<D: Disk> Store<D> {
         index_listed_gives_its_state();
         shortest_line_defines_the_view();
         self.catalog.stand();
-        begin_change(&mut self.pager, &mut self.is_marked)?;
+        begin_change(&mut self.pager)?;
         let made = drop_index_from_both(
             alloc,
             &mut self.pager,

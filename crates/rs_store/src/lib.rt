@@ -11,7 +11,6 @@ mod indexing;
 pub mod laws;
 mod listing;
 mod loading;
-mod marking;
 mod opening;
 mod placing;
 pub mod reading;

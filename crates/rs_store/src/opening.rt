@@ -1,11 +1,11 @@
-//! This module opens the file that a disk holds, as a store: to change it, or only to read it.
+//! This module opens the file that a disk holds, as a store. Nothing is written.
 
-ghost use Rattle.std.specs.Prelude.{◌≡◌, ◌≢◌, ◌≤◌, ◌⊎◌, true, false, Err, IfErr, IfOk, IsTrue, MatchResult, OnErr, OnOk};
+ghost use Rattle.std.specs.Prelude.{◌≡◌, ◌≢◌, ◌≤◌, ◌⊎◌, false, Err, IfErr, IfOk, IsTrue, MatchResult, OnOk};
 ghost use Rattle.rs_page.specs.declared.file_header.TheConstants.{FLAG_OFFSET};
 ghost use Rattle.rs_page_cache.specs.declared.clean.TheConstants.{MOST_CLEAN};
 ghost use Rattle.rs_pager.specs.Maps.{IsTied, working};
 ghost use Rattle.rs_pager.specs.Opened.{CountsFault};
-ghost use Rattle.rs_store.specs.Calls.{HandsOver, HandsUnmarked, LeavesAllButFlag, Looks, Opens, WantsOpening};
+ghost use Rattle.rs_store.specs.Calls.{HandsOver, LeavesDisk, Opens, WantsOpening};
 ghost use Rattle.rs_store.specs.Kept.{IsAtRest};
 ghost use Rattle.rs_store.specs.Loading.{LoadsState, StandsForNone, StandsForSome};
 
@@ -13,16 +13,15 @@ use crate::loading::{Loaded, load_whole};
 use crate::store::Store;
 use rs_disk::Disk;
 use rs_pager::Pager;
-use rs_pager::laws::{disk_stands_for_one_map, masked_bytes_are_in_no_map};
+use rs_pager::laws::disk_stands_for_one_map;
 use rs_pages::{GREATEST_LIMIT, LEAST_LIMIT};
 use rs_refusal::Refusal;
 use std::alloc::Global;
 
 impl<D: Disk> Store<D> {
-    /// Opens the file that the disk holds, checks it as a whole, and marks the disk as open. `limit` is the greatest number of pages.
-    /// It is refused with 94 only where the disk is a file of no state, closed or not, and with 95 only where it is one and was
-    /// not closed; it may be refused with 90 or 91 instead. A refusal hands the disk back as it was, but that after 91 the
-    /// open flag of a disk that stood for a state may be any.
+    /// Opens the file that the disk holds, and checks it as a whole. Nothing is written: the disk stays as it was, whatever is answered.
+    /// `limit` is the greatest number of pages. It is refused with 94 only where the disk is a file of no state, closed or not, and with 95
+    /// only where it is one and was not closed; it may be refused with 90 or 91 instead. A refusal hands the disk back.
     pub fn open(alloc: Global, disk: D, limit: u32) -> Result<Store<D>, (D, Refusal)>
         requires least { LEAST_LIMIT ≤ limit }
         requires greatest { limit ≤ GREATEST_LIMIT }
@@ -30,41 +29,21 @@ impl<D: Disk> Store<D> {
         ensures hands { HandsOver D.Disk limit disk result }
         ensures refused { IfErr result (λ refused. WantsOpening refused.1) }
     {
-        masked_bytes_are_in_no_map();
         disk_stands_for_one_map();
         let mut pager = Pager::open(alloc, disk, limit)?;
         match open_pages(alloc, &mut pager) {
-            Ok(loaded) => Ok(store_of(pager, loaded, true)),
-            Err(refusal) => Err((pager.into_disk(), refusal)),
-        }
-    }
-
-    /// Opens the file that the disk holds only to read it, and checks it as a whole. Nothing is written: the disk is not marked as
-    /// open, and stays as it was, whatever is answered. `limit` is the greatest number of pages. It is refused with 94 only where the
-    /// disk is a file of no state, closed or not, and with 95 only where it is one and was not closed; it may be refused with 90 or
-    /// 91 instead. A refusal hands the disk back.
-    pub fn look(alloc: Global, disk: D, limit: u32) -> Result<Store<D>, (D, Refusal)>
-        requires least { LEAST_LIMIT ≤ limit }
-        requires greatest { limit ≤ GREATEST_LIMIT }
-        ensures looks { IsTrue (D.is_honest disk) → Looks D.Disk limit disk result }
-        ensures hands { HandsUnmarked D.Disk limit disk result }
-        ensures refused { IfErr result (λ refused. WantsOpening refused.1) }
-    {
-        disk_stands_for_one_map();
-        let mut pager = Pager::open(alloc, disk, limit)?;
-        match look_at_pages(alloc, &mut pager) {
-            Ok(loaded) => Ok(store_of(pager, loaded, false)),
+            Ok(loaded) => Ok(store_of(pager, loaded)),
             Err(refusal) => Err((pager.into_disk(), refusal)),
         }
     }
 }
 
-/// The store over these pages, of which this is open and in memory. `is_marked` says whether the disk is marked as open.
-pub(crate) fn store_of<D: Disk>(pager: Pager<D>, loaded: Loaded, is_marked: bool) -> Store<D>
+/// The store over these pages, of which this is open and in memory.
+pub(crate) fn store_of<D: Disk>(pager: Pager<D>, loaded: Loaded) -> Store<D>
     requires shut { pager.is_begun ≡ false }
     requires narrow { pager.most_clean ≡ MOST_CLEAN }
     requires rests { IsAtRest loaded.file loaded.catalog }
-    ensures { result ≡ record { pager = pager; file = loaded.file; catalog = loaded.catalog; referents = loaded.referents; is_marked = is_marked } }
+    ensures { result ≡ record { pager = pager; file = loaded.file; catalog = loaded.catalog; referents = loaded.referents } }
 {
     let Loaded {
         file,
@@ -76,44 +55,15 @@ pub(crate) fn store_of<D: Disk>(pager: Pager<D>, loaded: Loaded, is_marked: bool
         file,
         catalog,
         referents,
-        is_marked,
     }
-}
-
-/// Reads and checks the file, and marks the disk as open where it was closed. It is refused with 90, with 91, with 94 only where the
-/// pages stand for no state, and with 95 only where they do and the disk was not closed. Nothing but the flag changes, and that only
-/// where the answer is Ok or 91.
-fn open_pages<D: Disk>(alloc: Global, pager: &mut Pager<D>) -> Result<Loaded, Refusal>
-    requires narrow { pager.old.most_clean ≡ MOST_CLEAN }
-    ensures leaves { LeavesAllButFlag D.Disk pager.old pager.new }
-    ensures most_clean { pager.new.most_clean ≡ pager.old.most_clean }
-    ensures seen { IsTrue (D.is_honest pager.old.disk) → IfErr result (λ why. why ≢ Refusal.Disk → D.seen pager.new.disk ≡ D.seen pager.old.disk) }
-    ensures before { IsTied D.Disk pager.old → OnErr result ((D.seen pager.new.disk ≡ D.seen pager.old.disk)
-        ⊎ (StandsForSome (working D.Disk pager.old) × ((D.seen pager.old.disk).byte FLAG_OFFSET ≡ 0))) }
-    ensures loads { IsTied D.Disk pager.old → IfOk result (λ loaded. LoadsState (working D.Disk pager.old) loaded.file loaded.catalog loaded.referents) }
-    ensures file { IfOk result (λ loaded. IsAtRest loaded.file loaded.catalog) }
-    ensures closed { IsTrue (D.is_honest pager.old.disk) → OnOk result ((D.seen pager.old.disk).byte FLAG_OFFSET ≡ 0) }
-    ensures marked { IsTrue (D.is_honest pager.old.disk) → OnOk result ((D.seen pager.new.disk).byte FLAG_OFFSET ≡ 1) }
-    ensures synced { OnOk result (D.is_synced pager.new.disk ≡ true) }
-    ensures damaged { IsTied D.Disk pager.old → result ≡ Err Refusal.DamagedFile → StandsForNone (working D.Disk pager.old) }
-    ensures left_open { IsTied D.Disk pager.old → result ≡ Err Refusal.FileNotClosed
-        → StandsForSome (working D.Disk pager.old) × ((D.seen pager.old.disk).byte FLAG_OFFSET ≢ 0) }
-    ensures refused { IfErr result WantsOpening }
-    ensures count { MatchResult result (λ _. D.failures pager.new.disk ≡ D.failures pager.old.disk)
-        (λ why. CountsFault why (D.failures pager.old.disk) (D.failures pager.new.disk)) }
-{
-    let loaded = look_at_pages(alloc, pager)?;
-    pager.set_open_flag(true)?;
-    Ok(loaded)
 }
 
 /// Reads and checks the file, and that it was closed. It is refused with 90, with 91, with 94 only where the pages stand for no state,
 /// and with 95 only where they do and the disk was not closed. Nothing is written.
-fn look_at_pages<D: Disk>(alloc: Global, pager: &mut Pager<D>) -> Result<Loaded, Refusal>
+fn open_pages<D: Disk>(alloc: Global, pager: &mut Pager<D>) -> Result<Loaded, Refusal>
     requires narrow { pager.old.most_clean ≡ MOST_CLEAN }
-    ensures leaves { LeavesAllButFlag D.Disk pager.old pager.new }
+    ensures leaves { LeavesDisk D.Disk pager.old pager.new }
     ensures most_clean { pager.new.most_clean ≡ pager.old.most_clean }
-    ensures seen { IsTrue (D.is_honest pager.old.disk) → D.seen pager.new.disk ≡ D.seen pager.old.disk }
     ensures loads { IsTied D.Disk pager.old → IfOk result (λ loaded. LoadsState (working D.Disk pager.old) loaded.file loaded.catalog loaded.referents) }
     ensures file { IfOk result (λ loaded. IsAtRest loaded.file loaded.catalog) }
     ensures closed { IsTrue (D.is_honest pager.old.disk) → OnOk result ((D.seen pager.old.disk).byte FLAG_OFFSET ≡ 0) }
@@ -131,9 +81,8 @@ fn look_at_pages<D: Disk>(alloc: Global, pager: &mut Pager<D>) -> Result<Loaded,
 
 /// Ok exactly where the disk says that the file is closed; 95 where not, and 91. Nothing changes.
 fn check_closed<D: Disk>(pager: &mut Pager<D>) -> Result<(), Refusal>
-    ensures leaves { LeavesAllButFlag D.Disk pager.old pager.new }
+    ensures leaves { LeavesDisk D.Disk pager.old pager.new }
     ensures most_clean { pager.new.most_clean ≡ pager.old.most_clean }
-    ensures seen { IsTrue (D.is_honest pager.old.disk) → D.seen pager.new.disk ≡ D.seen pager.old.disk }
     ensures closed { IsTrue (D.is_honest pager.old.disk) → OnOk result ((D.seen pager.old.disk).byte FLAG_OFFSET ≡ 0) }
     ensures open { IsTrue (D.is_honest pager.old.disk) → result ≡ Err Refusal.FileNotClosed → (D.seen pager.old.disk).byte FLAG_OFFSET ≢ 0 }
     ensures refused { IfErr result (λ why. (why ≡ Refusal.Disk) ⊎ (why ≡ Refusal.FileNotClosed)) }

@@ -53,7 +53,7 @@ impl<D: Disk> Store<D> {
         referent_ended_gives_its_state();
         self.catalog.stand();
         let number = self.catalog.route(route).unwrap().number();
-        begin_change(&mut self.pager, &mut self.is_marked)?;
+        begin_change(&mut self.pager)?;
         let made = drop_from_both(
             alloc,
             &mut self.pager,
@@ -116,7 +116,7 @@ impl<D: Disk> Store<D> {
     {
         kept_change_gives_its_state::<D>();
         referent_put_gives_its_state();
-        begin_change(&mut self.pager, &mut self.is_marked)?;
+        begin_change(&mut self.pager)?;
         let made = define_in_both(
             alloc,
             &mut self.pager,
@@ -148,7 +148,7 @@ impl<D: Disk> Store<D> {
     {
         kept_change_gives_its_state::<D>();
         referent_moved_gives_its_state();
-        begin_change(&mut self.pager, &mut self.is_marked)?;
+        begin_change(&mut self.pager)?;
         let made = move_in_both(
             alloc,
             &mut self.pager,

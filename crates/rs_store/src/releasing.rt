@@ -37,7 +37,7 @@ impl<D: Disk> Store<D> {
         if self.garbage() == 0 {
             return Ok(0);
         }
-        begin_change(&mut self.pager, &mut self.is_marked)?;
+        begin_change(&mut self.pager)?;
         let made = clear_only(alloc, &mut self.pager, &mut self.file, oldest);
         settle(&mut self.pager, &mut self.file, made)
     }

@@ -66,7 +66,7 @@ impl<D: Disk> Store<D> {
         route_defined_gives_its_state();
         shortest_line_defines_the_view();
         self.catalog.stand();
-        begin_change(&mut self.pager, &mut self.is_marked)?;
+        begin_change(&mut self.pager)?;
         let made = define_route_in_both(
             alloc,
             &mut self.pager,
@@ -98,7 +98,7 @@ impl<D: Disk> Store<D> {
         shortest_line_defines_the_view();
         store_stands_in_one_state::<D>();
         self.catalog.stand();
-        begin_change(&mut self.pager, &mut self.is_marked)?;
+        begin_change(&mut self.pager)?;
         let made = drop_route_from_all(
             alloc,
             &mut self.pager,

@@ -20,8 +20,6 @@ pub struct Store<D: Disk> {
     pub(crate) file: OpenedFile,
     pub(crate) catalog: Catalog,
     pub(crate) referents: RouteReferents,
-    /// The disk says that the file is open.
-    pub(crate) is_marked: bool,
 }
 
 impl<D: Disk> Model for Store<D> {
@@ -34,7 +32,7 @@ impl<D: Disk> Model for Store<D> {
 
     ghost coded = { Prim.hlevel (codes, definitions_code, numbered_code held_referents_code) };
 
-    ghost view = { λ s. record { pager = s.pager; file = s.file; catalog = s.catalog; referents = s.referents; is_marked = s.is_marked } };
+    ghost view = { λ s. record { pager = s.pager; file = s.file; catalog = s.catalog; referents = s.referents } };
 
     ghost invariant = { λ s. IsSound s.pager.is_begun s.pager.most_clean s.file s.catalog };
 }

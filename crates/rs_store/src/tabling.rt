@@ -63,7 +63,7 @@ impl<D: Disk> Store<D> {
         table_defined_gives_its_state();
         shortest_line_defines_the_view();
         self.catalog.stand();
-        begin_change(&mut self.pager, &mut self.is_marked)?;
+        begin_change(&mut self.pager)?;
         let made = define_table_in_both(
             alloc,
             &mut self.pager,
@@ -91,7 +91,7 @@ impl<D: Disk> Store<D> {
         table_dropped_gives_its_state();
         shortest_line_defines_the_view();
         self.catalog.stand();
-        begin_change(&mut self.pager, &mut self.is_marked)?;
+        begin_change(&mut self.pager)?;
         let made = drop_table_from_both(
             alloc,
             &mut self.pager,

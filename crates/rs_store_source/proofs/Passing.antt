@@ -37,7 +37,6 @@ module _ {D : Type 0} (d : disk.Ghosts D) where
   pub passes_refl : (store : StoreState D) → Passes d store store
   passes_refl store = record {
     keeps = keeps_store-refl d store;
-    marked = refl;
     tied = λ tied. tied;
     committed_pages = λ tied. record { fields = refl; pages = λ n. refl };
     working_pages = λ tied. record { fields = refl; pages = λ n. refl };
@@ -50,7 +49,6 @@ module _ {D : Type 0} (d : disk.Ghosts D) where
   pub passes_trans : (a b c : StoreState D) → Passes d a b → Passes d b c → Passes d a c
   passes_trans a b c one other = record {
     keeps = keeps_store-trans d a b c one.keeps other.keeps;
-    marked = other.marked ∙ one.marked;
     tied = λ tied. other.tied (one.tied tied);
     committed_pages = λ tied. SamePages-trans _ _ _ (other.committed_pages (one.tied tied)) (one.committed_pages tied);
     working_pages = λ tied. SamePages-trans _ _ _ (other.working_pages (one.tied tied)) (one.working_pages tied);

@@ -3,7 +3,7 @@
 //! It promises that the file it leaves stands for the state that it was in, without cursors, and that it opens a file as the state
 //! that the file stands for.
 
-ghost use Rattle.std.specs.Prelude.{◌≡◌, ◌≤◌, ◌-◌, ◌^◌, ℕ, IfErr, IsOkUnless, IsTrue, MatchResult, Ok, OnErr, OnOk, length, min};
+ghost use Rattle.std.specs.Prelude.{◌≡◌, ◌≤◌, ◌-◌, ◌^◌, ℕ, IfErr, IfOk, IsOkUnless, IsTrue, MatchResult, Ok, OnErr, OnOk, length, min};
 ghost use Rattle.rs_file.specs.Calls.{RefusesToLoad};
 ghost use Rattle.std.specs.FinMap as names;
 ghost use Rattle.rs_cursor.specs.Held.{held_of};
@@ -34,24 +34,25 @@ use rs_store::laws::state_of_a_disk_is_lawful;
 use std::alloc::Global;
 
 impl<D: Disk> Engine<D> {
-    /// Writes a file in which nothing is defined in place of all that the disk holds, and marks it as open, as `create_within` does
-    /// with the greatest limit.
+    /// Writes a file in which nothing is defined in place of all that the disk holds, as `create_within` does with the greatest limit.
     pub fn create(alloc: Global, disk: D) -> Result<Engine<D>, (D, Refusal)>
         ensures creates { IsTrue (D.is_honest disk) → Creates D.Disk result }
         ensures hands { HandsOver D.Disk GREATEST_LIMIT disk (stores_of result) }
+        ensures synced { IfOk result (λ engine. D.is_synced engine.store.pager.disk ≡ true) }
         ensures refused { IfErr result (λ refused. WantsCreating refused.1) }
     {
         Engine::create_within(alloc, disk, GREATEST_LIMIT)
     }
 
-    /// Writes a file in which nothing is defined in place of all that the disk holds, and marks it as open. `limit` is the greatest
-    /// number of pages. It is refused with 90, 91 and 92, and with 94 only where the disk does not give back what was written. A
+    /// Writes a file in which nothing is defined in place of all that the disk holds, and syncs it. `limit` is the greatest number of
+    /// pages. It is refused with 90, 91 and 92, and with 94 only where the disk does not give back what was written. A
     /// refusal hands the disk back, with any part of this done.
     pub fn create_within(alloc: Global, disk: D, limit: u32) -> Result<Engine<D>, (D, Refusal)>
         requires least { LEAST_LIMIT ≤ limit }
         requires greatest { limit ≤ GREATEST_LIMIT }
         ensures creates { IsTrue (D.is_honest disk) → Creates D.Disk result }
         ensures hands { HandsOver D.Disk limit disk (stores_of result) }
+        ensures synced { IfOk result (λ engine. D.is_synced engine.store.pager.disk ≡ true) }
         ensures refused { IfErr result (λ refused. WantsCreating refused.1) }
     {
         fresh_state_is_lawful();
@@ -59,8 +60,7 @@ impl<D: Disk> Engine<D> {
         Ok(engine_over(alloc, store))
     }
 
-    /// Opens the file that the disk holds, checks it as a whole, and marks the disk as open, as `open_within` does with the greatest
-    /// limit.
+    /// Opens the file that the disk holds, and checks it as a whole, as `open_within` does with the greatest limit.
     pub fn open(alloc: Global, disk: D) -> Result<Engine<D>, (D, Refusal)>
         ensures opens { IsTrue (D.is_honest disk) → Opens D.Disk GREATEST_LIMIT disk result }
         ensures hands { HandsOver D.Disk GREATEST_LIMIT disk (stores_of result) }
@@ -69,10 +69,9 @@ impl<D: Disk> Engine<D> {
         Engine::open_within(alloc, disk, GREATEST_LIMIT)
     }
 
-    /// Opens the file that the disk holds, checks it as a whole, and marks the disk as open. `limit` is the greatest number of pages.
-    /// It is refused with 94 only where the disk is a file of no state, closed or not, and with 95 only where it is one and was
-    /// not closed; it may be refused with 90 or 91 instead. A refusal hands the disk back as it was, but that after 91 the
-    /// open flag of a disk that stood for a state may be any.
+    /// Opens the file that the disk holds, and checks it as a whole. Nothing is written: the disk stays as it was, whatever is answered.
+    /// `limit` is the greatest number of pages. It is refused with 94 only where the disk is a file of no state, closed or not, and with 95
+    /// only where it is one and was not closed; it may be refused with 90 or 91 instead. A refusal hands the disk back.
     pub fn open_within(alloc: Global, disk: D, limit: u32) -> Result<Engine<D>, (D, Refusal)>
         requires least { LEAST_LIMIT ≤ limit }
         requires greatest { limit ≤ GREATEST_LIMIT }
@@ -85,8 +84,7 @@ impl<D: Disk> Engine<D> {
         Ok(engine_over(alloc, store))
     }
 
-    /// Saves, marks the disk as closed, waits until that is on the medium, and gives the disk back. Cursors are closed. A refusal (91)
-    /// hands back the engine as it was.
+    /// Saves, and gives the disk back. Cursors are closed. A refusal (91) hands back the engine as it was.
     pub fn close(self) -> Result<D, (Engine<D>, Refusal)>
         ensures closes { Closes D.Disk self result }
         ensures count { CountsClosing D.Disk self.store (stores_back result) }

@@ -28,7 +28,7 @@ impl<D: Disk + Drop> Serve for Engine<D> {
 
     ghost is = { IsOneMachine D.Disk };
 
-    /// As the trait says. Where SAVE or REOPEN is accepted, the disk is synced, and a file of the state that the engine was in. Where a
+    /// As the trait says. Where SAVE or REOPEN is accepted, the disk is synced, and stands for the state that the engine was in. Where a
     /// change or a CLOSE is accepted, 64 of the records that no version sees any more that is looked at are gone, or all where they
     /// are fewer. On a disk that lies too a refusal leaves each cursor and its place, what is open of the file, and the held changes, or
     /// they are all written and the disk is synced; and no command but OPEN, FETCH, CLOSE and REOPEN changes a cursor.

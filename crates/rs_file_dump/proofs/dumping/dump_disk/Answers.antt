@@ -20,12 +20,12 @@ pub returns-in-Ok-clause-seen : goal.returns-in-Ok-clause-seen
 returns-in-Ok-clause-seen g c = λ honest.
     let d = g.D.Disk in
     let reads = many_reads d (λ (held : HeldFile g.row.D.Denot). held.store) _ _ c.dump-ended.ensures.reads.passes in
-    ap d.seen c.into_disk.ensures ∙ reads.seen (subst IsTrue (sym c.in-Ok.ensures.hands.honesty) honest) ∙ (c.in-Ok.ensures.looks honest).seen
+    ap d.seen c.into_disk.ensures ∙ reads.seen (subst IsTrue (sym c.in-Ok.ensures.hands.honesty) honest) ∙ (c.in-Ok.ensures.opens honest).seen
 
 pub returns-in-Ok-clause-dumps : goal.returns-in-Ok-clause-dumps
 returns-in-Ok-clause-dumps g c = λ honest.
     let d = g.D.Disk in
-    let opens = (c.in-Ok.ensures.looks honest).opens in
+    let opens = (c.in-Ok.ensures.opens honest).opens in
     dumps d GREATEST_LIMIT (d.seen c.args.disk) c.in-Ok.store opens c.store_stands_in_one_state.ensures.state
     c.spans_within_hold_what_the_table_holds.ensures.placed c.spans_within_hold_what_the_table_holds.ensures.rows
     (c.state_of_a_disk_is_lawful.ensures GREATEST_LIMIT (d.seen c.args.disk) opens.state opens.stood)
@@ -35,7 +35,7 @@ returns-in-Ok-clause-dumps g c = λ honest.
 pub returns-in-Ok-clause-whole : goal.returns-in-Ok-clause-whole
 returns-in-Ok-clause-whole g c = λ honest no_table has_rows.
     let d = g.D.Disk in
-    let opens = (c.in-Ok.ensures.looks honest).opens in
+    let opens = (c.in-Ok.ensures.opens honest).opens in
     dumps_whole d GREATEST_LIMIT (d.seen c.args.disk) c.in-Ok.store opens c.store_stands_in_one_state.ensures.state
     c.spans_within_hold_what_the_table_holds.ensures.placed c.spans_within_hold_what_the_table_holds.ensures.rows
     (c.state_of_a_disk_is_lawful.ensures GREATEST_LIMIT (d.seen c.args.disk) opens.state opens.stood)
@@ -45,7 +45,7 @@ returns-in-Ok-clause-whole g c = λ honest no_table has_rows.
 pub returns-in-Ok-clause-nothing_lacks : goal.returns-in-Ok-clause-nothing_lacks
 returns-in-Ok-clause-nothing_lacks g c = λ honest no_table state stood can.
     let d = g.D.Disk in
-    let opens = (c.in-Ok.ensures.looks honest).opens in
+    let opens = (c.in-Ok.ensures.opens honest).opens in
     lacks_none d GREATEST_LIMIT (d.seen c.args.disk) c.in-Ok.store opens c.store_stands_in_one_state.ensures.state
     c.spans_within_hold_what_the_table_holds.ensures.placed c.spans_within_hold_what_the_table_holds.ensures.rows
     (c.state_of_a_disk_is_lawful.ensures GREATEST_LIMIT (d.seen c.args.disk) opens.state opens.stood)
@@ -55,7 +55,7 @@ returns-in-Ok-clause-nothing_lacks g c = λ honest no_table state stood can.
 pub returns-in-Ok-clause-passes : goal.returns-in-Ok-clause-passes
 returns-in-Ok-clause-passes g c = λ honest no_table state stood done.
     let d = g.D.Disk in
-    let opens = (c.in-Ok.ensures.looks honest).opens in
+    let opens = (c.in-Ok.ensures.opens honest).opens in
     none_passes d GREATEST_LIMIT (d.seen c.args.disk) c.in-Ok.store opens c.store_stands_in_one_state.ensures.state
     c.spans_within_hold_what_the_table_holds.ensures.placed c.spans_within_hold_what_the_table_holds.ensures.rows
     (c.state_of_a_disk_is_lawful.ensures GREATEST_LIMIT (d.seen c.args.disk) opens.state opens.stood)
@@ -65,7 +65,7 @@ returns-in-Ok-clause-passes g c = λ honest no_table state stood done.
 pub returns-in-Ok-clause-whole_state : goal.returns-in-Ok-clause-whole_state
 returns-in-Ok-clause-whole_state g c = λ honest no_table has_rows state stood can.
     let d = g.D.Disk in
-    let opens = (c.in-Ok.ensures.looks honest).opens in
+    let opens = (c.in-Ok.ensures.opens honest).opens in
     dumps_state d GREATEST_LIMIT (d.seen c.args.disk) c.in-Ok.store opens c.store_stands_in_one_state.ensures.state
     c.spans_within_hold_what_the_table_holds.ensures.placed c.spans_within_hold_what_the_table_holds.ensures.rows
     (c.state_of_a_disk_is_lawful.ensures GREATEST_LIMIT (d.seen c.args.disk) opens.state opens.stood)
@@ -86,7 +86,7 @@ returns-in-Ok-clause-failed g c = λ is.
 pub returns-in-Ok-clause-stops : goal.returns-in-Ok-clause-stops
 returns-in-Ok-clause-stops g c = λ honest.
     let d = g.D.Disk in
-    let opens = (c.in-Ok.ensures.looks honest).opens in
+    let opens = (c.in-Ok.ensures.opens honest).opens in
     in_right c.dump-ended.result _ _
     (stops_dumping d GREATEST_LIMIT (d.seen c.args.disk) c.in-Ok.store c.dump-ended.new.held.store opens c.store_stands_in_one_state.ensures.state
     c.spans_within_hold_what_the_table_holds.ensures.placed c.spans_within_hold_what_the_table_holds.ensures.rows
@@ -104,12 +104,12 @@ returns-in-Err-clause-failed g c = λ is.
 
 pub returns-in-Err-clause-stops : goal.returns-in-Err-clause-stops
 returns-in-Err-clause-stops g c = λ honest.
-    let looks = c.in-Err.ensures.looks honest in
+    let opens = c.in-Err.ensures.opens honest in
     inl (record {
       why = c.in-Err.refusal;
       is = refl;
       wants = c.in-Err.ensures.refused;
-      damaged = looks.damaged;
-      left_open = looks.left_open;
+      damaged = opens.damaged;
+      left_open = opens.left_open;
       kept = refl;
     })

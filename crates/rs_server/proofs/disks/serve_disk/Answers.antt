@@ -25,7 +25,6 @@ returns-in-Err g c = λ honest.
       damaged = refused.damaged;
       left_open = refused.left_open;
       seen = refused.seen;
-      stays = refused.stays;
       input = kept _;
       output = kept _;
     })

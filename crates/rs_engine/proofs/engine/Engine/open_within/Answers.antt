@@ -1,6 +1,7 @@
 -- The store stands in the state that the disk stood for, and there are no cursors.
-use Rattle.std.proofs.Common.{arith}
+use Rattle.std.proofs.Common.{◌∙◌, ap, arith}
 use Rattle.rs_engine.proofs.Filing.{begins_opened}
+use Rattle.rs_store.specs.Kept.{StoreState}
 use Rattle.rs_engine.proofs.engine.Engine.open_within.Goals as goal
 
 pub returns-clause-opens : goal.returns-clause-opens
@@ -9,7 +10,5 @@ returns-clause-opens g c = λ honest. record {
       c.state_of_a_disk_is_lawful.ensures (c.in_ok-store.ensures.opens honest).opens (omega (arith, c.in_ok-store.ensures.hands.limit, c.requires.greatest));
   damaged = tt;
   left_open = tt;
-  seen = tt;
-  before = tt;
-  stays = tt;
+  seen = ap (λ (store : StoreState g.row.D.Denot). g.D.Disk.seen store.pager.disk) c.engine_over.ensures.store ∙ (c.in_ok-store.ensures.opens honest).seen;
 }

@@ -11,7 +11,7 @@ use Rattle.rs_machine.specs.Served.{done, refused}
 use Rattle.rs_machine.specs.State.{State}
 use Rattle.rs_machine.specs.Step.{counted, without_cursors}
 use Rattle.rs_store.proofs.Results.{err_always}
-use Rattle.rs_store.specs.Standing.{IsFileOf}
+use Rattle.rs_store.specs.Standing.{Stands}
 use Rattle.rs_syntax.specs.Tree.{reopen}
 use Rattle.rs_engine.proofs.engine.Engine.reopen.Goals as goal
 
@@ -48,8 +48,8 @@ returns-clause-saves g c =
     let was = engine_with c.self.inside.live.store c.self.inside.live.oldest c.self.inside.cursors in
     let now = engine_with c.reopen.new.self c.accepted-self-inside.result (record { held = c.close_all.new.self; ahead = c.clear.new.self }) in
     subst (λ (e : EngineState g.row.D.Denot). Saves d (Ok tt) e now) c.self.view_is (record {
-      file = λ machine is. subst (λ (state : State). IsFileOf now.store.pager.limit (d.seen now.store.pager.disk) state) (sym (without d was machine is))
-          (c.in_ok-reopen.ensures.saves.file was.oldest is.state is.stands);
+      stands = λ machine is. subst (λ (state : State). Stands now.store.pager.limit (d.seen now.store.pager.disk) state) (sym (without d was machine is))
+          (c.in_ok-reopen.ensures.saves.stands was.oldest is.state is.stands);
       synced = c.in_ok-reopen.ensures.saves.synced;
       honesty = c.in_ok-reopen.ensures.reopens.honesty;
       limit = c.in_ok-reopen.ensures.reopens.limit;

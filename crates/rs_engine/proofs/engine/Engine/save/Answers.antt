@@ -9,7 +9,7 @@ use Rattle.rs_engine.proofs.Staying.{leaves_made, leaves_unsaved}
 use Rattle.rs_machine.specs.Served.{done, refused}
 use Rattle.rs_machine.specs.State.{State}
 use Rattle.rs_machine.specs.Step.{counted}
-use Rattle.rs_store.specs.Standing.{IsFileOf}
+use Rattle.rs_store.specs.Standing.{Stands}
 use Rattle.rs_engine.proofs.engine.Engine.save.Goals as goal
 
 pub returns-in_err-save-clause-serves : goal.returns-in_err-save-clause-serves
@@ -39,8 +39,8 @@ returns-clause-saves g c =
     let was = engine_with c.self.inside.live.store c.self.inside.live.oldest c.self.inside.cursors in
     let now = engine_with c.save.new.self c.self.inside.live.oldest c.self.inside.cursors in
     subst (λ (e : EngineState g.row.D.Denot). Saves d (Ok 0) e now) c.self.view_is (record {
-      file = λ machine is. subst (λ (state : State). IsFileOf now.store.pager.limit (d.seen now.store.pager.disk) state) (sym (without d was machine is))
-          (c.in_ok-save.ensures.saves.file was.oldest is.state is.stands);
+      stands = λ machine is. subst (λ (state : State). Stands now.store.pager.limit (d.seen now.store.pager.disk) state) (sym (without d was machine is))
+          (c.in_ok-save.ensures.saves.stands was.oldest is.state is.stands);
       synced = c.in_ok-save.ensures.saves.synced;
       honesty = c.save.ensures.keeps.honesty;
       limit = c.save.ensures.keeps.limit;

@@ -26,7 +26,9 @@ returns-clause-rests g c =
     (subst (λ (most : ℕ). RestsAfter (IsTied d) (pager_store d) (KeepsBelow d) c.load.result s (record (with_clean s c.load.new.disk c.load.new.self.pages) { most_clean = most })) (sym c.load.ensures.most)
     (clean-rests_after d c.args.number s c.load.new.disk c.load.new.self.pages pos (record {
       honesty = c.load.ensures.honesty;
+      keeping = c.load.ensures.keeping;
       synced = c.load.ensures.synced;
       same = c.load.ensures.same;
+      crash = c.load.ensures.crash;
       loads = c.load.ensures.loads;
     }) c.load.result c.load.ensures.refused c.load.ensures.count))

@@ -7,6 +7,7 @@ use Rattle.rs_pager.specs.Maps.{HoldsNoChange}
 use Rattle.rs_refusal.specs.declared.refusal.Refusal.TheVariants.{DamagedFile}
 use Rattle.rs_store.specs.Calls.{KeepsStore}
 use Rattle.rs_store.specs.Kept.{StandsIn, StoreState}
+use Rattle.rs_store.proofs.HeldChanges.{shut_later}
 use Rattle.rs_store.proofs.Keeping.{keeps_by_maps, store_over}
 use Rattle.rs_store.proofs.store.Store.check_first_page.Goals as goal
 
@@ -15,9 +16,9 @@ returns-clause-keeps g c =
     let d = g.D.Disk in
     let was = c.self.inside in
     let last = c.check_first_page.new.self in
-    subst (λ (s : StoreState g.row.D.Denot). KeepsStore d s (store_over d last was.file was.catalog was.referents was.is_marked)) c.self.view_is
-    (keeps_by_maps d was.pager last was.file was.catalog was.referents was.is_marked was.is_marked c.check_first_page.ensures.keeps
-    (λ tied before is. ap (λ (content : Content). content.byte FLAG_OFFSET) (c.check_first_page.ensures.seen tied.honest) ∙ before is))
+    subst (λ (s : StoreState g.row.D.Denot). KeepsStore d s (store_over d last was.file was.catalog was.referents)) c.self.view_is
+    (keeps_by_maps d was.pager last was.file was.catalog was.referents c.check_first_page.ensures.keeps
+    (λ tied shut. shut_later d was.pager last c.check_first_page.ensures.changes (c.check_first_page.ensures.seen tied.honest) shut))
 
 pub returns-clause-sound : goal.returns-clause-sound
 returns-clause-sound g c =

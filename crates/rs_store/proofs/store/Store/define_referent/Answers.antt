@@ -23,16 +23,16 @@ use Rattle.rs_store.proofs.store.Store.define_referent.Goals as goal
 
 module _ (g : Over) (c : goal.After-settle g) where
   abbrev was : StoreState g.row.D.Denot
-  was = store_over g.D.Disk c.self.inside.pager c.self.inside.file c.self.inside.catalog c.self.inside.referents c.self.inside.is_marked
+  was = store_over g.D.Disk c.self.inside.pager c.self.inside.file c.self.inside.catalog c.self.inside.referents
 
-  begun : HasBegun g.D.Disk was (store_over g.D.Disk c.begin_change.new.pager was.file was.catalog was.referents c.begin_change.new.is_marked)
-  begun = has_begun g.D.Disk was c.begin_change.new.pager c.begin_change.new.is_marked c.in_ok-begin_change.ensures.begins
+  begun : HasBegun g.D.Disk was (store_over g.D.Disk c.begin_change.new.pager was.file was.catalog was.referents)
+  begun = has_begun g.D.Disk was c.begin_change.new.pager c.in_ok-begin_change.ensures.begins
 
   room : was.file.accepted < CHANGES
   room = subst (λ (s : StoreState g.row.D.Denot). s.file.accepted < CHANGES) (sym c.self.view_is) c.requires.room
 
   abbrev now : StoreState g.row.D.Denot
-  now = store_over g.D.Disk c.settle.new.pager c.settle.new.file was.catalog c.define_in_both-made.new.referents c.begin_change.new.is_marked
+  now = store_over g.D.Disk c.settle.new.pager c.settle.new.file was.catalog c.define_in_both-made.new.referents
 
 pub define_in_both-made-requires-clause-may : goal.define_in_both-made-requires-clause-may
 define_in_both-made-requires-clause-may g c = record {
@@ -55,7 +55,7 @@ pub returns-clause-leaves : goal.returns-clause-leaves
 returns-clause-leaves g c =
     let made = c.define_in_both-made in
     given_so (λ r s. LeavesStore g.D.Disk Always r s (now g c)) made.result c.settle.result (was g c) c.args.self.now c.settle.ensures.same c.self.view_is
-    (left_settled g.D.Disk (was g c) c.begin_change.new.pager made.new.pages c.settle.new.pager (was g c).file made.new.file c.settle.new.file (was g c).catalog (was g c).referents c.begin_change.new.is_marked (begun g c) made.ensures.leaves.keeps
+    (left_settled g.D.Disk (was g c) c.begin_change.new.pager made.new.pages c.settle.new.pager (was g c).file made.new.file c.settle.new.file (was g c).catalog (was g c).referents (begun g c) made.ensures.leaves.keeps
     {may = Always} made.result (was g c).file.definitions made.new.referents made.ensures.leaves.stores made.ensures.opened.next made.ensures.opened.stays c.self.invariant.rests.committed
     c.settle.ensures.settles made.ensures.back)
 
@@ -76,20 +76,20 @@ returns-clause-puts g c = λ route on there numbered.
     made_both d (λ answer. ChangesFile c.args.oldest (working d first) (working d made.new.pages) was.file made.new.file (PutsReferent one.route name one.measure))
     (λ answer. HasBecome d c.args.oldest stands.contents (now g c) (next state))
     made.result made.new.pages c.settle.new.pager made.new.file c.settle.new.file (made.ensures.puts ((begun g c).keeps.contents stands.contents stands.keeps).tied) made.ensures.held c.settle.ensures.settles
-    (λ answer changes put keeps. by_part g.D.Disk was c.begin_change.new.pager made.new.pages c.settle.new.pager was.file made.new.file c.settle.new.file was.catalog was.referents c.begin_change.new.is_marked (begun g c) made.ensures.leaves.keeps
+    (λ answer changes put keeps. by_part g.D.Disk was c.begin_change.new.pager made.new.pages c.settle.new.pager was.file made.new.file c.settle.new.file was.catalog was.referents (begun g c) made.ensures.leaves.keeps
     c.kept_change_gives_its_state.ensures from c.args.oldest state stands low high (room g c) was.catalog held (next state) (PutsReferent on.number name one.measure)
     (subst (λ (n : ℕ). ChangesFile c.args.oldest (working d first) (working d made.new.pages) was.file made.new.file (PutsReferent n name one.measure)) (sym numbered) changes)
     (λ part turns. c.referent_put_gives_its_state.ensures from c.args.oldest (working d first) was.file was.catalog was.referents held state
-    (stands_at_first g.D.Disk was c.begin_change.new.pager made.new.pages c.settle.new.pager was.file made.new.file c.settle.new.file was.catalog was.referents c.begin_change.new.is_marked (begun g c) made.ensures.leaves.keeps from state stands) low
-    (next_below g.D.Disk was c.begin_change.new.pager made.new.pages c.settle.new.pager was.file made.new.file c.settle.new.file was.catalog was.referents c.begin_change.new.is_marked (begun g c) made.ensures.leaves.keeps c.kept_change_gives_its_state.ensures from c.args.oldest state stands low high (room g c))
+    (stands_at_first g.D.Disk was c.begin_change.new.pager made.new.pages c.settle.new.pager was.file made.new.file c.settle.new.file was.catalog was.referents (begun g c) made.ensures.leaves.keeps from state stands) low
+    (next_below g.D.Disk was c.begin_change.new.pager made.new.pages c.settle.new.pager was.file made.new.file c.settle.new.file was.catalog was.referents (begun g c) made.ensures.leaves.keeps c.kept_change_gives_its_state.ensures from c.args.oldest state stands low high (room g c))
     route name one.measure on part route_there allowed.0
     (subst (λ (n : ℕ). referents_on held ≡ at_number n (names.insert (referents_on was.referents n) name one.measure) (referents_on was.referents)) (sym numbered) put) turns allowed.1)
     allowed.1.views keeps))
 
 pub returns-in_err-begin_change-clause-leaves : goal.returns-in_err-begin_change-clause-leaves
 returns-in_err-begin_change-clause-leaves g c =
-    let at = store_over g.D.Disk c.self.inside.pager c.self.inside.file c.self.inside.catalog c.self.inside.referents c.self.inside.is_marked in
-    let now = store_over g.D.Disk c.begin_change.new.pager at.file at.catalog at.referents c.begin_change.new.is_marked in
+    let at = store_over g.D.Disk c.self.inside.pager c.self.inside.file c.self.inside.catalog c.self.inside.referents in
+    let now = store_over g.D.Disk c.begin_change.new.pager at.file at.catalog at.referents in
     let p = err_from_is_err_and c.from_residual.result c.from_residual.ensures.1 in
     rw (p.1, p.2) (subst (λ (s : StoreState g.row.D.Denot). LeavesStore g.D.Disk Always {T = Unit {0}} (Err c.in_err-begin_change.field-0.0) s now) c.self.view_is
-    (left_unbegun g.D.Disk {may = Always} {T = Unit {0}} c.in_err-begin_change.field-0.0 at c.begin_change.new.pager c.begin_change.new.is_marked c.in_err-begin_change.ensures.begins))
+    (left_unbegun g.D.Disk {may = Always} {T = Unit {0}} c.in_err-begin_change.field-0.0 at c.begin_change.new.pager c.in_err-begin_change.ensures.begins))

@@ -27,10 +27,10 @@ use Rattle.rs_store.proofs.store.Store.drop_alignment.Goals as goal
 
 module _ (g : Over) (c : goal.After-settle g) where
   abbrev was : StoreState g.row.D.Denot
-  was = store_over g.D.Disk c.self.inside.pager c.self.inside.file c.self.inside.catalog c.self.inside.referents c.self.inside.is_marked
+  was = store_over g.D.Disk c.self.inside.pager c.self.inside.file c.self.inside.catalog c.self.inside.referents
 
-  begun : HasBegun g.D.Disk was (store_over g.D.Disk c.begin_change.new.pager was.file was.catalog was.referents c.begin_change.new.is_marked)
-  begun = has_begun g.D.Disk was c.begin_change.new.pager c.begin_change.new.is_marked c.in_ok-begin_change.ensures.begins
+  begun : HasBegun g.D.Disk was (store_over g.D.Disk c.begin_change.new.pager was.file was.catalog was.referents)
+  begun = has_begun g.D.Disk was c.begin_change.new.pager c.in_ok-begin_change.ensures.begins
 
   room : was.file.accepted < CHANGES
   room = subst (λ (s : StoreState g.row.D.Denot). s.file.accepted < CHANGES) (sym c.self.view_is) c.requires.room
@@ -53,7 +53,7 @@ module _ (g : Over) (c : goal.After-settle g) where
       (next_lives g.D.Disk was from state stands room) c.args.name.now.bytes there.0 part there.1 changed allowed
 
   abbrev now : StoreState g.row.D.Denot
-  now = store_over g.D.Disk c.settle.new.pager c.settle.new.file c.drop_alignment_from_both-made.new.catalog was.referents c.begin_change.new.is_marked
+  now = store_over g.D.Disk c.settle.new.pager c.settle.new.file c.drop_alignment_from_both-made.new.catalog was.referents
 
 pub invariant_of-self-2 : goal.invariant_of-self-2
 invariant_of-self-2 g c =
@@ -62,7 +62,7 @@ invariant_of-self-2 g c =
     record {
       shut = c.settle.ensures.shut;
       narrow = c.settle.ensures.most_clean ∙ redefines.rewrites.below.most_clean ∙ c.begin_change.ensures.most_clean ∙ c.self.invariant.narrow;
-      rests = redefined_rests g.D.Disk (was g c) c.begin_change.new.pager made.new.pages c.settle.new.pager made.new.file c.settle.new.file c.begin_change.new.is_marked (begun g c)
+      rests = redefined_rests g.D.Disk (was g c) c.begin_change.new.pager made.new.pages c.settle.new.pager made.new.file c.settle.new.file (begun g c)
           c.args.oldest (ChangesDefinitions (listing_of (next g c))) (next g c) made.result made.new.catalog redefines c.settle.ensures.settles c.self.invariant.rests (room g c) c.self.invariant.rests.columns;
     }
 
@@ -70,7 +70,7 @@ pub returns-clause-leaves : goal.returns-clause-leaves
 returns-clause-leaves g c =
     let made = c.drop_alignment_from_both-made in
     given_so (λ r s. LeavesStore g.D.Disk (may g c) r s (now g c)) made.result c.settle.result (was g c) c.args.self.now c.settle.ensures.same c.self.view_is
-    (redefined_left g.D.Disk (was g c) c.begin_change.new.pager made.new.pages c.settle.new.pager made.new.file c.settle.new.file c.begin_change.new.is_marked (begun g c) {may = may g c}
+    (redefined_left g.D.Disk (was g c) c.begin_change.new.pager made.new.pages c.settle.new.pager made.new.file c.settle.new.file (begun g c) {may = may g c}
     c.args.oldest (ChangesDefinitions (listing_of (next g c))) (next g c) made.result made.new.catalog (was g c).referents c.drop_alignment_from_both-made.ensures c.settle.ensures.settles (err_always {P = (route : ℕ) → referents_on (was g c).referents route ≡ referents_on (was g c).referents route} made.result (λ route. refl)) c.self.invariant.rests.committed
     (λ is. given_kept g.D.Disk (was g c) c.shortest_line_defines_the_view.ensures.readable (next g c) (may g c) (after g c) (gives g c)))
 
@@ -78,7 +78,7 @@ pub returns-clause-drops : goal.returns-clause-drops
 returns-clause-drops g c =
     let made = c.drop_alignment_from_both-made in
     given_so (λ r s. StandsNext g.D.Disk c.args.oldest (may g c) (after g c) r s (now g c)) made.result c.settle.result (was g c) c.args.self.now c.settle.ensures.same c.self.view_is
-    (λ from state stands low high allowed. redefined_becomes g.D.Disk (was g c) c.begin_change.new.pager made.new.pages c.settle.new.pager made.new.file c.settle.new.file c.begin_change.new.is_marked (begun g c)
+    (λ from state stands low high allowed. redefined_becomes g.D.Disk (was g c) c.begin_change.new.pager made.new.pages c.settle.new.pager made.new.file c.settle.new.file (begun g c)
     c.args.oldest (ChangesDefinitions (listing_of (next g c))) (next g c) made.result made.new.catalog (was g c).referents c.drop_alignment_from_both-made.ensures c.settle.ensures.settles c.kept_change_gives_its_state.ensures (room g c)
     from state (after g c state) stands low high (λ some. ok_always made.result (λ part changed. gives g c from c.args.oldest state stands low allowed part changed)) allowed.views)
 
@@ -87,9 +87,9 @@ drop_alignment_from_both-made-requires-clause-room g c = subst (λ (s : StoreSta
 
 pub returns-in_err-begin_change-clause-leaves : goal.returns-in_err-begin_change-clause-leaves
 returns-in_err-begin_change-clause-leaves g c =
-    let at = store_over g.D.Disk c.self.inside.pager c.self.inside.file c.self.inside.catalog c.self.inside.referents c.self.inside.is_marked in
-    let now = store_over g.D.Disk c.begin_change.new.pager at.file at.catalog at.referents c.begin_change.new.is_marked in
+    let at = store_over g.D.Disk c.self.inside.pager c.self.inside.file c.self.inside.catalog c.self.inside.referents in
+    let now = store_over g.D.Disk c.begin_change.new.pager at.file at.catalog at.referents in
     let may : State → Type 0 = λ state. IsLawful (without_alignment state c.args.name.now.bytes) in
     let p = err_from_is_err_and c.from_residual.result c.from_residual.ensures.1 in
     rw (p.1, p.2) (subst (λ (s : StoreState g.row.D.Denot). LeavesStore g.D.Disk may {T = Unit {0}} (Err c.in_err-begin_change.field-0.0) s now) c.self.view_is
-    (left_unbegun g.D.Disk {may = may} {T = Unit {0}} c.in_err-begin_change.field-0.0 at c.begin_change.new.pager c.begin_change.new.is_marked c.in_err-begin_change.ensures.begins))
+    (left_unbegun g.D.Disk {may = may} {T = Unit {0}} c.in_err-begin_change.field-0.0 at c.begin_change.new.pager c.in_err-begin_change.ensures.begins))

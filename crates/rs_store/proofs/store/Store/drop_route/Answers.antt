@@ -26,10 +26,10 @@ use Rattle.rs_store.proofs.store.Store.drop_route.Goals as goal
 
 module _ (g : Over) (c : goal.After-settle g) where
   abbrev was : StoreState g.row.D.Denot
-  was = store_over g.D.Disk c.self.inside.pager c.self.inside.file c.self.inside.catalog c.self.inside.referents c.self.inside.is_marked
+  was = store_over g.D.Disk c.self.inside.pager c.self.inside.file c.self.inside.catalog c.self.inside.referents
 
-  begun : HasBegun g.D.Disk was (store_over g.D.Disk c.begin_change.new.pager was.file was.catalog was.referents c.begin_change.new.is_marked)
-  begun = has_begun g.D.Disk was c.begin_change.new.pager c.begin_change.new.is_marked c.in_ok-begin_change.ensures.begins
+  begun : HasBegun g.D.Disk was (store_over g.D.Disk c.begin_change.new.pager was.file was.catalog was.referents)
+  begun = has_begun g.D.Disk was c.begin_change.new.pager c.in_ok-begin_change.ensures.begins
 
   room : was.file.accepted < CHANGES
   room = subst (λ (s : StoreState g.row.D.Denot). s.file.accepted < CHANGES) (sym c.self.view_is) c.requires.room
@@ -50,7 +50,7 @@ module _ (g : Over) (c : goal.After-settle g) where
   unused = ap (λ (s : StoreState g.row.D.Denot). some_piece_on s.catalog c.args.name.now.bytes) c.self.view_is ∙ c.requires.unused
 
   abbrev now : StoreState g.row.D.Denot
-  now = store_over g.D.Disk c.settle.new.pager c.settle.new.file c.drop_route_from_all-made.new.catalog c.drop_route_from_all-made.new.referents c.begin_change.new.is_marked
+  now = store_over g.D.Disk c.settle.new.pager c.settle.new.file c.drop_route_from_all-made.new.catalog c.drop_route_from_all-made.new.referents
 
 pub invariant_of-self-2 : goal.invariant_of-self-2
 invariant_of-self-2 g c =
@@ -59,7 +59,7 @@ invariant_of-self-2 g c =
     record {
       shut = c.settle.ensures.shut;
       narrow = c.settle.ensures.most_clean ∙ redefines.rewrites.below.most_clean ∙ c.begin_change.ensures.most_clean ∙ c.self.invariant.narrow;
-      rests = redefined_rests g.D.Disk (was g c) c.begin_change.new.pager made.new.pages c.settle.new.pager made.new.file c.settle.new.file c.begin_change.new.is_marked (begun g c)
+      rests = redefined_rests g.D.Disk (was g c) c.begin_change.new.pager made.new.pages c.settle.new.pager made.new.file c.settle.new.file (begun g c)
           c.args.oldest (DropsRoute (one g c).0.number (listing_of (next g c))) (next g c) made.result made.new.catalog redefines c.settle.ensures.settles c.self.invariant.rests (room g c) c.self.invariant.rests.columns;
     }
 
@@ -67,7 +67,7 @@ pub returns-clause-leaves : goal.returns-clause-leaves
 returns-clause-leaves g c =
     let made = c.drop_route_from_all-made in
     given_so (λ r s. LeavesStore g.D.Disk (may g c) r s (now g c)) made.result c.settle.result (was g c) c.args.self.now c.settle.ensures.same c.self.view_is
-    (redefined_left g.D.Disk (was g c) c.begin_change.new.pager made.new.pages c.settle.new.pager made.new.file c.settle.new.file c.begin_change.new.is_marked (begun g c) {may = may g c}
+    (redefined_left g.D.Disk (was g c) c.begin_change.new.pager made.new.pages c.settle.new.pager made.new.file c.settle.new.file (begun g c) {may = may g c}
     c.args.oldest (DropsRoute (one g c).0.number (listing_of (next g c))) (next g c) made.result made.new.catalog c.drop_route_from_all-made.new.referents (c.drop_route_from_all-made.ensures.redefines (one g c).0 (one g c).1) c.settle.ensures.settles (err_alike made.result made.new.referents (was g c).referents made.ensures.back) c.self.invariant.rests.committed
     (λ is from state stands allowed. less_kept g.D.Disk (was g c) (room g c) c.store_stands_in_one_state.ensures.state c.args.name.now.bytes (one g c).0 c.stand.ensures (one g c).1 (unused g c)
     c.state_has_one_route_more_or_less.ensures.less c.listed_definitions_of_a_lawful_catalogue_are_meant.ensures.meant c.self.invariant.rests.listing from state stands
@@ -77,7 +77,7 @@ pub returns-clause-drops : goal.returns-clause-drops
 returns-clause-drops g c = λ past.
     let made = c.drop_route_from_all-made in
     given_so (λ r s. StandsNext g.D.Disk c.args.oldest (may g c) (after g c) r s (now g c)) made.result c.settle.result (was g c) c.args.self.now c.settle.ensures.same c.self.view_is
-    (λ from state stands low high allowed. redefined_becomes g.D.Disk (was g c) c.begin_change.new.pager made.new.pages c.settle.new.pager made.new.file c.settle.new.file c.begin_change.new.is_marked (begun g c)
+    (λ from state stands low high allowed. redefined_becomes g.D.Disk (was g c) c.begin_change.new.pager made.new.pages c.settle.new.pager made.new.file c.settle.new.file (begun g c)
     c.args.oldest (DropsRoute (one g c).0.number (listing_of (next g c))) (next g c) made.result made.new.catalog c.drop_route_from_all-made.new.referents (c.drop_route_from_all-made.ensures.redefines (one g c).0 (one g c).1) c.settle.ensures.settles c.kept_change_gives_its_state.ensures (room g c)
     from state (after g c state) stands low high (λ some. ok_of made.result (λ ended part drops. less_gives g.D.Disk (was g c) (room g c) c.store_stands_in_one_state.ensures.state c.args.name.now.bytes (one g c).0 c.stand.ensures (one g c).1 (unused g c)
     c.route_dropped_gives_its_state.ensures made.new.referents ended from c.args.oldest state stands (past ∙ ap (λ (s : StoreState g.row.D.Denot). s.file.accepted + 1) (sym c.self.view_is)) allowed part drops)
@@ -94,9 +94,9 @@ drop_route_from_all-made-requires-clause-room g c = subst (λ (s : StoreState g.
 
 pub returns-in_err-begin_change-clause-leaves : goal.returns-in_err-begin_change-clause-leaves
 returns-in_err-begin_change-clause-leaves g c =
-    let at = store_over g.D.Disk c.self.inside.pager c.self.inside.file c.self.inside.catalog c.self.inside.referents c.self.inside.is_marked in
-    let now = store_over g.D.Disk c.begin_change.new.pager at.file at.catalog at.referents c.begin_change.new.is_marked in
+    let at = store_over g.D.Disk c.self.inside.pager c.self.inside.file c.self.inside.catalog c.self.inside.referents in
+    let now = store_over g.D.Disk c.begin_change.new.pager at.file at.catalog at.referents in
     let may : State → Type 0 = λ state. HasNoFactOn c.args.name.now.bytes state × IsLawful (without_route state c.args.name.now.bytes) in
     let p = err_from_is_err_and c.from_residual.result c.from_residual.ensures.1 in
     rw (p.1, p.2) (subst (λ (s : StoreState g.row.D.Denot). LeavesStore g.D.Disk may {T = Unit {0}} (Err c.in_err-begin_change.field-0.0) s now) c.self.view_is
-    (left_unbegun g.D.Disk {may = may} {T = Unit {0}} c.in_err-begin_change.field-0.0 at c.begin_change.new.pager c.begin_change.new.is_marked c.in_err-begin_change.ensures.begins))
+    (left_unbegun g.D.Disk {may = may} {T = Unit {0}} c.in_err-begin_change.field-0.0 at c.begin_change.new.pager c.in_err-begin_change.ensures.begins))

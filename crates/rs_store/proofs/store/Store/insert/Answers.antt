@@ -29,16 +29,16 @@ use Rattle.rs_store.proofs.store.Store.insert.Goals as goal
 
 module _ (g : Over) (c : goal.After-drop-insertion-2 g) where
   abbrev was : StoreState g.row.D.Denot
-  was = store_over g.D.Disk c.self.inside.pager c.self.inside.file c.self.inside.catalog c.self.inside.referents c.self.inside.is_marked
+  was = store_over g.D.Disk c.self.inside.pager c.self.inside.file c.self.inside.catalog c.self.inside.referents
 
-  begun : HasBegun g.D.Disk was (store_over g.D.Disk c.begin_change.new.pager was.file was.catalog was.referents c.begin_change.new.is_marked)
-  begun = has_begun g.D.Disk was c.begin_change.new.pager c.begin_change.new.is_marked c.in_ok-begin_change.ensures.begins
+  begun : HasBegun g.D.Disk was (store_over g.D.Disk c.begin_change.new.pager was.file was.catalog was.referents)
+  begun = has_begun g.D.Disk was c.begin_change.new.pager c.in_ok-begin_change.ensures.begins
 
   room : was.file.accepted < CHANGES
   room = subst (λ (s : StoreState g.row.D.Denot). s.file.accepted < CHANGES) (sym c.self.view_is) c.requires.room
 
   abbrev now : StoreState g.row.D.Denot
-  now = store_over g.D.Disk c.settle.new.pager c.settle.new.file was.catalog was.referents c.begin_change.new.is_marked
+  now = store_over g.D.Disk c.settle.new.pager c.settle.new.file was.catalog was.referents
 
   lies : LiesOn was.catalog c.args.table.now.bytes c.args.route.now.bytes (seen c.args.span)
   lies = subst (λ (s : StoreState g.row.D.Denot). LiesOn s.catalog c.args.table.now.bytes c.args.route.now.bytes (seen c.args.span)) (sym c.self.view_is) c.requires.lies
@@ -64,7 +64,7 @@ pub returns-clause-leaves : goal.returns-clause-leaves
 returns-clause-leaves g c =
     let made = c.insert-made in
     given_so (λ r s. LeavesStore g.D.Disk Always r s (now g c)) made.result c.settle.result (was g c) c.args.self.now c.settle.ensures.same c.self.view_is
-    (left_settled g.D.Disk (was g c) c.begin_change.new.pager made.new.pages c.settle.new.pager (was g c).file made.new.file c.settle.new.file (was g c).catalog (was g c).referents c.begin_change.new.is_marked (begun g c) made.ensures.leaves.keeps
+    (left_settled g.D.Disk (was g c) c.begin_change.new.pager made.new.pages c.settle.new.pager (was g c).file made.new.file c.settle.new.file (was g c).catalog (was g c).referents (begun g c) made.ensures.leaves.keeps
     {may = Always} made.result (was g c).file.definitions (was g c).referents made.ensures.leaves.stores made.ensures.opened.next made.ensures.opened.stays c.self.invariant.rests.committed
     c.settle.ensures.settles (err_always {P = (route : ℕ) → referents_on (was g c).referents route ≡ referents_on (was g c).referents route} made.result (λ route. refl)))
 
@@ -89,7 +89,7 @@ returns-clause-inserts g c =
     (λ count. ChangesFile c.args.oldest (working d first) (working d made.new.pages) (was g c).file made.new.file (InsertsRow one.table one.kind one.route (seen one.span) count))
     (λ count. HasBecome d c.args.oldest stands.contents (now g c) (with_table state name (with_facts_along there route lo hi row)) × (count ≡ new_facts there.facts route lo hi row))
     made.result made.new.pages c.settle.new.pager made.new.file c.settle.new.file (made.ensures.inserts ((begun g c).keeps.contents stands.contents stands.keeps).tied) c.settle.ensures.settles
-    (λ count changes keeps. row_put g.D.Disk (was g c) c.begin_change.new.pager made.new.pages c.settle.new.pager (was g c).file made.new.file c.settle.new.file (was g c).catalog (was g c).referents c.begin_change.new.is_marked (begun g c) made.ensures.leaves.keeps
+    (λ count changes keeps. row_put g.D.Disk (was g c) c.begin_change.new.pager made.new.pages c.settle.new.pager (was g c).file made.new.file c.settle.new.file (was g c).catalog (was g c).referents (begun g c) made.ensures.leaves.keeps
     c.kept_change_gives_its_state.ensures from c.args.oldest state stands low high (room g c) c.row_put_gives_its_state.ensures name route on.table on.on one.table (seen c.args.span)
     on.table_there on.route_there (c.insertion_of-insertion.ensures.place on.table on.table_there).numbered on.from on.upto there is lawful count
     (subst (λ (s : Span). ChangesFile c.args.oldest (working d first) (working d made.new.pages) (was g c).file made.new.file (InsertsRow one.table on.table.kind on.on.number (seen s) count))
@@ -102,8 +102,8 @@ returns-clause-inserts g c =
 
 pub returns-in_err-begin_change-clause-leaves : goal.returns-in_err-begin_change-clause-leaves
 returns-in_err-begin_change-clause-leaves g c =
-    let at = store_over g.D.Disk c.self.inside.pager c.self.inside.file c.self.inside.catalog c.self.inside.referents c.self.inside.is_marked in
-    let now = store_over g.D.Disk c.begin_change.new.pager at.file at.catalog at.referents c.begin_change.new.is_marked in
+    let at = store_over g.D.Disk c.self.inside.pager c.self.inside.file c.self.inside.catalog c.self.inside.referents in
+    let now = store_over g.D.Disk c.begin_change.new.pager at.file at.catalog at.referents in
     let p = err_from_is_err_and c.from_residual.result c.from_residual.ensures.1 in
     rw (p.1, p.2) (subst (λ (s : StoreState g.row.D.Denot). LeavesStore g.D.Disk Always {T = ℕ} (Err c.in_err-begin_change.field-0.0) s now) c.self.view_is
-    (left_unbegun g.D.Disk {may = Always} {T = ℕ} c.in_err-begin_change.field-0.0 at c.begin_change.new.pager c.begin_change.new.is_marked c.in_err-begin_change.ensures.begins))
+    (left_unbegun g.D.Disk {may = Always} {T = ℕ} c.in_err-begin_change.field-0.0 at c.begin_change.new.pager c.in_err-begin_change.ensures.begins))

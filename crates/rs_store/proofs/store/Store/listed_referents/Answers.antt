@@ -16,14 +16,14 @@ returns-clause-reads g c =
     let d = g.D.Disk in
     let was = c.self.inside in
     let now = c.referents_seen.new.pages in
-    subst (λ (s : StoreState g.row.D.Denot). ReadsStore d s (store_over d now was.file was.catalog was.referents was.is_marked)) c.self.view_is
-    (reads_by_reading d c.referents_seen.result was.pager now was.file was.catalog was.referents was.is_marked c.referents_seen.ensures.refused c.referents_seen.ensures.rests)
+    subst (λ (s : StoreState g.row.D.Denot). ReadsStore d s (store_over d now was.file was.catalog was.referents)) c.self.view_is
+    (reads_by_reading d c.referents_seen.result was.pager now was.file was.catalog was.referents c.referents_seen.ensures.refused c.referents_seen.ensures.rests)
 
 pub returns-clause-lists : goal.returns-clause-lists
 returns-clause-lists g c = λ oldest state stands.
     let d = g.D.Disk in
     let was = c.self.inside in
-    let over = store_over d was.pager was.file was.catalog was.referents was.is_marked in
+    let over = store_over d was.pager was.file was.catalog was.referents in
     let kept = subst (λ (s : StoreState g.row.D.Denot). Keeps d s stands.contents) (sym c.self.view_is) stands.keeps in
     let there : StandsIn d oldest over state =
     record { contents = stands.contents; keeps = kept; live = stands.live; meant = stands.meant; is = stands.is; views = stands.views } in
@@ -35,7 +35,7 @@ pub returns-clause-sound : goal.returns-clause-sound
 returns-clause-sound g c = λ oldest state stands damaged.
     let d = g.D.Disk in
     let was = c.self.inside in
-    let over = store_over d was.pager was.file was.catalog was.referents was.is_marked in
+    let over = store_over d was.pager was.file was.catalog was.referents in
     let kept = subst (λ (s : StoreState g.row.D.Denot). Keeps d s stands.contents) (sym c.self.view_is) stands.keeps in
     let there : StandsIn d oldest over state =
     record { contents = stands.contents; keeps = kept; live = stands.live; meant = stands.meant; is = stands.is; views = stands.views } in

@@ -1,5 +1,6 @@
 -- The pager is opened, and then what its pages stand for.
-use Rattle.std.proofs.Common.{◌≡◌, Ok, Err, true, ap, inl, inr, subst, sym}
+use Rattle.std.proofs.Common.{◌≡◌, ◌∙◌, Ok, Err, false, ap, inl, inr, subst, sym}
+use Rattle.std.proofs.lemmas.Bool.{false≢true}
 use Rattle.std.proofs.lemmas.Result.{err_from_is_err_and}
 use Rattle.rs_disk.specs.Content.{Content}
 use Rattle.rs_page.specs.declared.file_header.TheConstants.{FLAG_OFFSET}
@@ -25,17 +26,19 @@ returns-in-Ok-clause-opens g c = λ honest.
     let now = c.open_pages.new.pager in
     let loaded = c.in-Ok.loaded in
     let opened = c.in_ok-pager.ensures.opened honest in
-    let state = opens_state d c.args.limit content first c.in_ok-pager.ensures.fresh c.in_ok-pager.ensures.same opened now loaded.file loaded.catalog loaded.referents true
+    let seen = c.in_ok-pager.ensures.seen honest in
+    let state = opens_state d c.args.limit content first c.in_ok-pager.ensures.fresh c.in_ok-pager.ensures.same opened now loaded.file loaded.catalog loaded.referents
     c.open_pages.ensures.leaves (c.in-Ok.ensures.loads opened.tied)
-    (subst (λ (c : Content). c.byte FLAG_OFFSET ≡ 0) (c.in_ok-pager.ensures.seen honest) (c.in-Ok.ensures.closed opened.tied.honest))
-    (λ is. c.in-Ok.ensures.marked opened.tied.honest) in
-    subst (λ (s : StoreState g.row.D.Denot). Opens d c.args.limit c.args.disk (Ok s)) (sym c.store_of.ensures) (opens_ok d c.args.limit c.args.disk _ state)
+    (subst (λ (c : Content). c.byte FLAG_OFFSET ≡ 0) seen (c.in-Ok.ensures.closed opened.tied.honest))
+    (c.open_pages.ensures.leaves.seen opened.tied.honest ∙ seen) in
+    subst (λ (s : StoreState g.row.D.Denot). Opens d c.args.limit c.args.disk (Ok s)) (sym c.store_of.ensures)
+    (opens_ok d c.args.limit c.args.disk _ state (c.open_pages.ensures.leaves.seen opened.tied.honest ∙ seen))
 
 pub returns-in-Err-clause-opens : goal.returns-in-Err-clause-opens
 returns-in-Err-clause-opens g c = λ honest.
     let d = g.D.Disk in
     let opened = c.in_ok-pager.ensures.opened honest in
-    opens_err d c.args.limit c.args.disk c.masked_bytes_are_in_no_map.ensures c.disk_stands_for_one_map.ensures c.in_ok-pager.pager c.open_pages.new.pager c.into_disk.result c.in-Err.refusal
-    c.in_ok-pager.ensures.fresh c.in_ok-pager.ensures.same opened (c.in_ok-pager.ensures.seen honest) c.into_disk.ensures c.open_pages.ensures.leaves
-    (λ is. c.in-Err.ensures.damaged opened.tied (ap Err is)) (λ is. c.in-Err.ensures.left_open opened.tied (ap Err is)) (c.in-Err.ensures.seen opened.tied.honest)
-    (c.in-Err.ensures.before opened.tied)
+    opens_err d c.args.limit c.args.disk c.disk_stands_for_one_map.ensures c.in_ok-pager.pager c.into_disk.result c.in-Err.refusal
+    c.in_ok-pager.ensures.fresh c.in_ok-pager.ensures.same opened (c.in_ok-pager.ensures.seen honest)
+    (ap d.seen c.into_disk.ensures ∙ c.open_pages.ensures.leaves.seen opened.tied.honest)
+    (λ is. c.in-Err.ensures.damaged opened.tied (ap Err is)) (λ is. c.in-Err.ensures.left_open opened.tied (ap Err is))

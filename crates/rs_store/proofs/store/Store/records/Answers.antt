@@ -24,7 +24,7 @@ pub returns-in-Some-clause-living : goal.returns-in-Some-clause-living
 returns-in-Some-clause-living g c = λ contents keeps.
     let d = g.D.Disk in
     let was = c.self.inside in
-    let over = store_over d was.pager was.file was.catalog was.referents was.is_marked in
+    let over = store_over d was.pager was.file was.catalog was.referents in
     let kept = subst (λ (s : StoreState g.row.D.Denot). Keeps d s contents) (sym c.self.view_is) keeps in
     c.living.ensures
     ∙ living_open (working d was.pager) c.in-Some.opened.now (events_of contents c.args.table)
@@ -40,6 +40,6 @@ pub returns-in-None-clause-living : goal.returns-in-None-clause-living
 returns-in-None-clause-living g c = λ contents keeps.
     let d = g.D.Disk in
     let was = c.self.inside in
-    let over = store_over d was.pager was.file was.catalog was.referents was.is_marked in
+    let over = store_over d was.pager was.file was.catalog was.referents in
     let kept = subst (λ (s : StoreState g.row.D.Denot). Keeps d s contents) (sym c.self.view_is) keeps in
     sym (ap (λ (events : List Event). count_by lives events) (no_events d over contents kept c.args.table c.in-None.ensures.none))

@@ -12,14 +12,14 @@ returns-clause-reads g c =
     let d = g.D.Disk in
     let was = c.self.inside in
     let now = c.referents_of_route.new.pages in
-    subst (λ (s : StoreState g.row.D.Denot). ReadsStore d s (store_over d now was.file was.catalog was.referents was.is_marked)) c.self.view_is
-    (reads_by_reading d c.referents_of_route.result was.pager now was.file was.catalog was.referents was.is_marked c.referents_of_route.ensures.refused c.referents_of_route.ensures.rests)
+    subst (λ (s : StoreState g.row.D.Denot). ReadsStore d s (store_over d now was.file was.catalog was.referents)) c.self.view_is
+    (reads_by_reading d c.referents_of_route.result was.pager now was.file was.catalog was.referents c.referents_of_route.ensures.refused c.referents_of_route.ensures.rests)
 
 pub returns-clause-sees : goal.returns-clause-sees
 returns-clause-sees g c = λ oldest state stands low high.
     let d = g.D.Disk in
     let was = c.self.inside in
-    let over = store_over d was.pager was.file was.catalog was.referents was.is_marked in
+    let over = store_over d was.pager was.file was.catalog was.referents in
     let kept = subst (λ (s : StoreState g.row.D.Denot). Keeps d s stands.contents) (sym c.self.view_is) stands.keeps in
     let there : StandsIn d oldest over state =
     record { contents = stands.contents; keeps = kept; live = stands.live; meant = stands.meant; is = stands.is; views = stands.views } in
@@ -30,7 +30,7 @@ pub returns-clause-sound : goal.returns-clause-sound
 returns-clause-sound g c = λ oldest state stands low high damaged.
     let d = g.D.Disk in
     let was = c.self.inside in
-    let over = store_over d was.pager was.file was.catalog was.referents was.is_marked in
+    let over = store_over d was.pager was.file was.catalog was.referents in
     let kept = subst (λ (s : StoreState g.row.D.Denot). Keeps d s stands.contents) (sym c.self.view_is) stands.keeps in
     let there : StandsIn d oldest over state =
     record { contents = stands.contents; keeps = kept; live = stands.live; meant = stands.meant; is = stands.is; views = stands.views } in

@@ -42,5 +42,5 @@ returns-clause-saves g c =
     let looked = c.check_first_page.new.self in
     saves_after d c.read_anew.result was looked c.read_anew.new.self (keeps_store-trans d was saved looked c.save.ensures.keeps c.check_first_page.ensures.keeps)
     (saves_after d {F = Refusal} (Ok tt) was saved looked c.save.ensures.keeps c.in_ok-save.ensures.saves c.check_first_page.ensures.seen c.check_first_page.ensures.keeps.limit
-    c.check_first_page.ensures.synced c.check_first_page.ensures.marked)
-    c.read_anew.ensures.seen c.read_anew.ensures.reopens.limit c.read_anew.ensures.synced c.read_anew.ensures.marked
+    c.check_first_page.ensures.synced)
+    c.read_anew.ensures.seen c.read_anew.ensures.reopens.limit c.read_anew.ensures.synced

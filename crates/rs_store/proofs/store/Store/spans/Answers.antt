@@ -16,8 +16,8 @@ pub returns-in-Some-clause-reads : goal.returns-in-Some-clause-reads
 returns-in-Some-clause-reads g c =
     let d = g.D.Disk in
     let was = c.self.inside in
-    subst (λ (s : StoreState g.row.D.Denot). ReadsStore d s (store_over d c.spans.new.pages was.file was.catalog was.referents was.is_marked)) c.self.view_is
-    (reads_by_reading d c.spans.result was.pager c.spans.new.pages was.file was.catalog was.referents was.is_marked c.spans.ensures.refused c.spans.ensures.rests)
+    subst (λ (s : StoreState g.row.D.Denot). ReadsStore d s (store_over d c.spans.new.pages was.file was.catalog was.referents)) c.self.view_is
+    (reads_by_reading d c.spans.result was.pager c.spans.new.pages was.file was.catalog was.referents c.spans.ensures.refused c.spans.ensures.rests)
 
 pub returns-in-Some-clause-rows : goal.returns-in-Some-clause-rows
 returns-in-Some-clause-rows g c = λ name item there same.
@@ -29,7 +29,7 @@ pub returns-in-Some-clause-gives : goal.returns-in-Some-clause-gives
 returns-in-Some-clause-gives g c = λ contents keeps.
     let d = g.D.Disk in
     let was = c.self.inside in
-    let over = store_over d was.pager was.file was.catalog was.referents was.is_marked in
+    let over = store_over d was.pager was.file was.catalog was.referents in
     let kept = subst (λ (s : StoreState g.row.D.Denot). Keeps d s contents) (sym c.self.view_is) keeps in
     spans_open c.args.window (working d was.pager) c.in-Some.opened.now (events_of contents c.args.table)
     (events_open d over contents kept c.args.table c.in-Some.opened.now c.in-Some.ensures.found) c.spans.result (c.spans.ensures.gives kept.tied)
@@ -38,7 +38,7 @@ pub returns-in-Some-clause-pages : goal.returns-in-Some-clause-pages
 returns-in-Some-clause-pages g c = λ tied.
     let d = g.D.Disk in
     let was = c.self.inside in
-    let over = store_over d was.pager was.file was.catalog was.referents was.is_marked in
+    let over = store_over d was.pager was.file was.catalog was.referents in
     let here = subst (λ (s : StoreState g.row.D.Denot). IsTied d s.pager) (sym c.self.view_is) tied in
     subst (λ (s : StoreState g.row.D.Denot). IfOk c.spans.result (λ found. HasRead (working d s.pager) s.file c.args.table c.args.window found.1)) c.self.view_is
     (has_read (working d was.pager) was.file c.args.table c.args.window c.spans.result
@@ -55,7 +55,7 @@ pub returns-in-Some-clause-sound : goal.returns-in-Some-clause-sound
 returns-in-Some-clause-sound g c = λ contents keeps damaged.
     let d = g.D.Disk in
     let was = c.self.inside in
-    let over = store_over d was.pager was.file was.catalog was.referents was.is_marked in
+    let over = store_over d was.pager was.file was.catalog was.referents in
     let kept = subst (λ (s : StoreState g.row.D.Denot). Keeps d s contents) (sym c.self.view_is) keeps in
     not_no_events (working d was.pager) c.in-Some.opened.now (events_of contents c.args.table)
     (events_open d over contents kept c.args.table c.in-Some.opened.now c.in-Some.ensures.found) (c.spans.ensures.damaged kept.tied damaged)
@@ -64,7 +64,7 @@ pub returns-in-None-clause-gives : goal.returns-in-None-clause-gives
 returns-in-None-clause-gives g c = λ contents keeps.
     let d = g.D.Disk in
     let was = c.self.inside in
-    let over = store_over d was.pager was.file was.catalog was.referents was.is_marked in
+    let over = store_over d was.pager was.file was.catalog was.referents in
     let kept = subst (λ (s : StoreState g.row.D.Denot). Keeps d s contents) (sym c.self.view_is) keeps in
     ap (λ (spans : List Span). map seen spans) c.new.ensures.items
     ∙ ap (spans_in c.args.window) (sym (no_events d over contents kept c.args.table c.in-None.ensures.none))

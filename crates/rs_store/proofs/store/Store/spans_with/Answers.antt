@@ -21,7 +21,7 @@ pub returns-in_default-clause-gives : goal.returns-in_default-clause-gives
 returns-in_default-clause-gives g c = λ contents keeps.
     let d = g.D.Disk in
     let was = c.self.inside in
-    let over = store_over d was.pager was.file was.catalog was.referents was.is_marked in
+    let over = store_over d was.pager was.file was.catalog was.referents in
     let kept = subst (λ (s : StoreState g.row.D.Denot). Keeps d s contents) (sym c.self.view_is) keeps in
     inl (ap (λ (spans : List Span). map seen spans) c.new.ensures.items
     ∙ ap (spans_with c.args.key.column (literal_datum c.args.value.now) c.args.window) (sym (no_events d over contents kept c.args.key.table c.in_default.ensures.none)))
@@ -32,8 +32,8 @@ pub returns-in_default-indexed_at-clause-reads : goal.returns-in_default-indexed
 returns-in_default-indexed_at-clause-reads g c =
     let d = g.D.Disk in
     let was = c.self.inside in
-    subst (λ (s : StoreState g.row.D.Denot). ReadsStore d s (store_over d c.spans.new.pages was.file was.catalog was.referents was.is_marked)) c.self.view_is
-    (reads_by_reading d c.spans.result was.pager c.spans.new.pages was.file was.catalog was.referents was.is_marked c.spans.ensures.refused c.spans.ensures.rests)
+    subst (λ (s : StoreState g.row.D.Denot). ReadsStore d s (store_over d c.spans.new.pages was.file was.catalog was.referents)) c.self.view_is
+    (reads_by_reading d c.spans.result was.pager c.spans.new.pages was.file was.catalog was.referents c.spans.ensures.refused c.spans.ensures.rests)
 
 pub returns-in_default-indexed_at-clause-count : goal.returns-in_default-indexed_at-clause-count
 returns-in_default-indexed_at-clause-count g c =
@@ -46,7 +46,7 @@ pub returns-in_default-indexed_at-clause-gives : goal.returns-in_default-indexed
 returns-in_default-indexed_at-clause-gives g c = λ contents keeps.
     let d = g.D.Disk in
     let was = c.self.inside in
-    let over = store_over d was.pager was.file was.catalog was.referents was.is_marked in
+    let over = store_over d was.pager was.file was.catalog was.referents in
     let kept = subst (λ (s : StoreState g.row.D.Denot). Keeps d s contents) (sym c.self.view_is) keeps in
     let events = events_of contents c.args.key.table in
     let datum = literal_datum c.args.value.now in
@@ -75,7 +75,7 @@ pub returns-in_default-indexed_at-clause-sound : goal.returns-in_default-indexed
 returns-in_default-indexed_at-clause-sound g c = λ contents keeps damaged.
     let d = g.D.Disk in
     let was = c.self.inside in
-    let over = store_over d was.pager was.file was.catalog was.referents was.is_marked in
+    let over = store_over d was.pager was.file was.catalog was.referents in
     let kept = subst (λ (s : StoreState g.row.D.Denot). Keeps d s contents) (sym c.self.view_is) keeps in
     not_no_events (working d was.pager) c.in-Some.opened.now (events_of contents c.args.key.table)
     (events_open d over contents kept c.args.key.table c.in-Some.opened.now c.in-Some.ensures.found) (c.spans.ensures.damaged kept.tied damaged)
@@ -86,8 +86,8 @@ pub returns-clause-reads : goal.returns-clause-reads
 returns-clause-reads g c =
     let d = g.D.Disk in
     let was = c.self.inside in
-    subst (λ (s : StoreState g.row.D.Denot). ReadsStore d s (store_over d c.spans_with.new.pages was.file was.catalog was.referents was.is_marked)) c.self.view_is
-    (reads_by_reading d c.spans_with.result was.pager c.spans_with.new.pages was.file was.catalog was.referents was.is_marked c.spans_with.ensures.refused c.spans_with.ensures.rests)
+    subst (λ (s : StoreState g.row.D.Denot). ReadsStore d s (store_over d c.spans_with.new.pages was.file was.catalog was.referents)) c.self.view_is
+    (reads_by_reading d c.spans_with.result was.pager c.spans_with.new.pages was.file was.catalog was.referents c.spans_with.ensures.refused c.spans_with.ensures.rests)
 
 pub returns-clause-count : goal.returns-clause-count
 returns-clause-count g c =
@@ -100,7 +100,7 @@ pub returns-clause-gives : goal.returns-clause-gives
 returns-clause-gives g c = λ contents keeps.
     let d = g.D.Disk in
     let was = c.self.inside in
-    let over = store_over d was.pager was.file was.catalog was.referents was.is_marked in
+    let over = store_over d was.pager was.file was.catalog was.referents in
     let kept = subst (λ (s : StoreState g.row.D.Denot). Keeps d s contents) (sym c.self.view_is) keeps in
     let events = events_of contents c.args.key.table in
     let datum = literal_datum c.args.value.now in
@@ -135,7 +135,7 @@ pub returns-clause-sound : goal.returns-clause-sound
 returns-clause-sound g c = λ contents keeps damaged.
     let d = g.D.Disk in
     let was = c.self.inside in
-    let over = store_over d was.pager was.file was.catalog was.referents was.is_marked in
+    let over = store_over d was.pager was.file was.catalog was.referents in
     let kept = subst (λ (s : StoreState g.row.D.Denot). Keeps d s contents) (sym c.self.view_is) keeps in
     let opened = c.in-Some.opened.now in
     let at = c.in-Some-indexed_at.at in

@@ -1,10 +1,10 @@
 -- The byte alone is written.
 use Rattle.std.proofs.Common.{subst, sym, rules, IsTrue}
 use Rattle.rs_disk.specs.Content.{Content}
-use Rattle.rs_pager.specs.Opened.{SetsFlag}
+use Rattle.rs_pager.specs.Writing.{SetsFlag}
+use Rattle.rs_pager.proofs.Marking.{open-byte, flag-held, sets-flag}
 use Rattle.rs_pager.proofs.Writing.{on_ok}
-use Rattle.rs_pager.proofs.Opened.{open-byte, flag-held, sets-flag}
-use Rattle.rs_pager.proofs.opening.write_flag.Goals as goal
+use Rattle.rs_pager.proofs.flushing.write_flag.Goals as goal
 
 pub returns-in_err-write_at-clause-flag : goal.returns-in_err-write_at-clause-flag
 returns-in_err-write_at-clause-flag g c = λ honest. sets-flag _ _ _ _ _ (search rules) (c.write_at.ensures.others honest) (search rules)
