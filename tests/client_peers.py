@@ -2,6 +2,7 @@
 them."""
 
 import random
+import re
 import socket
 import threading
 import time
@@ -11,6 +12,7 @@ from decimal import Decimal as D
 from client_parts import SEED, expect_error, expect_refused, roadseg
 from files_and_peers import LONGEST
 from harness import Wrong, expect
+from prepared import Prepared
 from roadseg import dbapi, diagram
 from roadseg.replies import Ending
 
@@ -202,6 +204,10 @@ PIECES += [b"99999999999999999999999", b"-1", b"\xff", b"\x00", b"\x1b[2J", b"\r
 WHOLE = [b"0 OK 0\n", b"0 OK 1\n", b"0 ERR 21 no such name\n", b"0 ROW A 0.000 1.000 'AC'\n0 OK 1\n", b"0 ROW 'x' 1.000 2.000 3.000\n0 OK 1\n"]
 
 
+MEASURE, ROUTE = re.compile(r"[0-9]{1,6}\.[0-9]{3}"), re.compile("[A-Za-z][A-Za-z0-9_]{0,31}")
+SOME_TEXTS = ["'x'", "'a b'", "'it''s'", "''", "' '", "''''", "'  ''  '", "NULL", "'é'"]
+
+
 def random_reply(chance):
     if chance.random() < 0.3:
         return chance.choice(WHOLE)
@@ -264,6 +270,88 @@ def a_row_that_is_none_ends_the_client(_program):
             expect_error(roadseg.Failed, lambda road=road: list(road.select("signs")))
         with played(rows + b"0 OK 2\n") as (_server, road):
             expect_error(roadseg.Failed, road.columns, "signs")
+
+
+def slow_parts(text):
+    """The parts of a row, read character by character; None where it is no row."""
+    parts, place = [], 0
+    while True:
+        start = place
+        if text[place : place + 1] == "'":
+            place += 1
+            while place < len(text) and (text[place] != "'" or text[place : place + 2] == "''"):
+                place += 2 if text[place] == "'" else 1
+            place += 1
+        else:
+            while text[place : place + 1] not in (" ", "'", ""):
+                place += 1
+        if place == start or place > len(text):
+            return None
+        parts.append(text[start:place])
+        if place == len(text):
+            return parts
+        if text[place] != " ":
+            return None
+        place += 1
+
+
+def slow_value(part):
+    """What a part stands for, in a list; none where it stands for nothing."""
+    if part[0] == "'":
+        return [part[1:-1].replace("''", "'")]
+    if part == "NULL":
+        return [None]
+    return [int(part)] if re.fullmatch("-?[0-9]{1,13}", part) else []
+
+
+def slow_rows(texts):
+    """The rows of texts, each read by itself; None where they are no rows of one form."""
+    rows = [slow_parts(text) for text in texts]
+    if None in rows or len({len(row) for row in rows}) > 1 or len(rows[0]) < 2:
+        return None
+    ends = 2 if len(rows[0]) > 2 and MEASURE.fullmatch(rows[0][2]) else 1
+    found = []
+    for route, *parts in rows:
+        values = [slow_value(part) for part in parts[ends:]]
+        if not ROUTE.fullmatch(route) or not all(map(MEASURE.fullmatch, parts[:ends])) or [] in values:
+            return None
+        found.append((route, *map(D, parts[:ends]), *(value for [value] in values)))
+    is_mixed = any(len({type(value) for value in column} - {type(None)}) > 1 for column in zip(*found))
+    return None if is_mixed or ends == 2 and any(row[1] >= row[2] for row in found) else found
+
+
+def random_rows(chance):
+    """Rows of one form, in which characters may have come or gone."""
+    front = chance.choice(("A 1.000", "A 1.000 2.000"))
+    columns = [chance.choice((SOME_TEXTS, ["1", "-20", "NULL"])) for _ in range(chance.randrange(3))]
+    rows = [" ".join([front, *map(chance.choice, columns)]) for _ in range(chance.randrange(1, 4))]
+    for _ in range(chance.choice((0, 0, 1, 2))):
+        k = chance.randrange(len(rows))
+        at = chance.randrange(len(rows[k]) + 1)
+        rows[k] = rows[k][:at] + chance.choice(("", " ", "'", "''", "x", "1")) + rows[k][at + chance.randrange(2) :]
+    return rows
+
+
+def rows_are_read_as_each_by_itself(_program):
+    """The rows of a slow reader come, or none."""
+    chance, counts = random.Random(SEED), [0, 0]
+    for _ in range(4_000):
+        rows = random_rows(chance)
+        wanted = slow_rows(rows)
+        reply = "".join("0 ROW %s\n" % row for row in rows) + "0 OK %d\n" % len(rows)
+        whole = None if wanted is None else [tuple(int(part * 1000) if isinstance(part, D) else part for part in row) for row in wanted]
+        for call, same in (
+            (lambda road: list(road.select("q")), wanted),
+            (lambda road: list(zip(*road.columns("q").values())), wanted),
+            (lambda road: list(zip(*road.columns("q", thousandths=True).values())), whole),
+        ):
+            road = roadseg.Client(Prepared(reply.encode()))
+            if wanted is None:
+                expect_error(roadseg.Failed, call, road)
+            else:
+                expect("the rows of %r" % reply, call(road), same)
+        counts[wanted is None] += 1
+    expect("whether many are rows, and many are none", min(counts) > 1_000, True)
 
 
 def rows_of_another_form_than_was_asked_for_are_not_given(_program):
@@ -405,6 +493,7 @@ PEER_TESTS = [
     whatever_a_peer_sends_only_errors_of_the_client_come,
     numbers_without_end_are_no_reply,
     a_row_that_is_none_ends_the_client,
+    rows_are_read_as_each_by_itself,
     rows_of_another_form_than_was_asked_for_are_not_given,
     a_schema_that_is_no_longer_true_names_no_columns,
     a_diagram_takes_no_junk,

@@ -149,8 +149,11 @@ def columns_have_names(program):
             expect("columns of %s" % query, tuple(columns), ("route", *names))
             expect("rows of %s" % query, list(zip(*columns.values())), rows)
             expect("rows by column", road.select(query).by_column(), columns)
+            whole = {name: [int(part * 1000) if isinstance(part, D) else part for part in column] for name, column in columns.items()}
+            expect("in thousandths", road.columns(query, thousandths=True), whole)
         expect("of no rows", road.columns("WINDOW(pavement, SR12N)"), {name: [] for name in ("route", "from", "to", "surface", "year")})
         expect("by a method", road.columns("WHERE(crashes, num = 6)", "INTERPOLATIVE")["at"], ["100.0000000%"])
+        expect_error(ValueError, road.columns, "crashes", "RELATIVE", thousandths=True)
         described = road.select("crashes").description
         expect("a description", [one[0] for one in described], ["route", "at", "num", "severity"])
         expect("its items", {(len(one), one[1:]) for one in described}, {(7, (None,) * 6)})

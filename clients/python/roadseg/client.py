@@ -9,7 +9,7 @@ from typing import TYPE_CHECKING, Any, Optional, Union
 from . import frames, loading
 from .errors import CURSOR_NAME_TAKEN, NO_SUCH_CURSOR, Failed, Refused, add_note
 from .lines import BATCHES, METHODS, bound, checked_name, checked_session, column_names, line_of
-from .replies import ABSOLUTE, CLOSED, UNASKED, Ending, Reply, ReplyReader, SelectedRows, TotalRows, Wire
+from .replies import ABSOLUTE, CLOSED, UNASKED, Ending, Reply, ReplyReader, SelectedRows, ThousandthRows, TotalRows, Wire
 from .rows import FetchedRows, Rows, close_after
 from .schema import Schema
 from .shapes import Shape, shape_of
@@ -91,10 +91,18 @@ class Client:
         self._open[cursor] = weakref.ref(rows)
         return rows
 
-    def columns(self, query: str, method: Optional[str] = None, values: Sequence[Any] = ()) -> dict[str, list]:
-        """The rows of a query as columns by their names, each from the first row to the last."""
+    def columns(
+        self, query: str, method: Optional[str] = None, values: Sequence[Any] = (), thousandths: bool = False
+    ) -> dict[str, list]:
+        """The rows of a query as columns by their names, each from the first row to the last.
+
+        With `thousandths` measures are whole numbers of these, which are quicker to reckon with than Decimals.
+        """
+        if thousandths and method not in (None, ABSOLUTE):
+            raise ValueError("positions AS %s are no thousandths" % method)
         query, asked = self._asked(query, method, values)
-        texts, reader = self._rows(self.session, "SELECT " + asked), SelectedRows(method or ABSOLUTE)
+        reader = ThousandthRows() if thousandths else SelectedRows(method or ABSOLUTE)
+        texts = self._rows(self.session, "SELECT " + asked)
         try:
             columns = reader.columns(texts)
         except Failed as fault:

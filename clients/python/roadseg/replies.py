@@ -9,7 +9,7 @@ import re
 import time
 from collections.abc import Callable, Iterable, Sequence
 from decimal import Decimal
-from functools import lru_cache
+from itertools import repeat
 from operator import lt
 from typing import Any, NamedTuple, Optional, Protocol
 
@@ -29,7 +29,7 @@ MEASURE = re.compile(r"[0-9]{1,6}\.[0-9]{3}")
 OTHER_POSITION = re.compile(r"@[A-Za-z][A-Za-z0-9_]{0,31}\+[0-9]{1,6}\.[0-9]{3}|[0-9]{1,3}\.[0-9]{7}%")
 AMOUNT = re.compile(r"-?[0-9]{1,40}(?:\.[0-9]{3})?")
 WHOLE = re.compile("-?[0-9]{1,13}")
-PART_OF_LINE = r"('[^'\n]*(?:''[^'\n]*)*'|[^ '\n]+)"
+MARKED_QUOTE, MARKED_BLANK = "\0", "\1"  # which no reply has
 NAMES = re.compile("%s(?: %s)*" % (NAME.pattern, NAME.pattern))
 MEASURES = re.compile("%s(?: %s)*" % (MEASURE.pattern, MEASURE.pattern))
 WHOLES = re.compile("%s(?: %s)*" % (WHOLE.pattern, WHOLE.pattern))
@@ -163,14 +163,27 @@ def ended(session: int, texts: list[str], line: str) -> Reply:
 
 
 def value_of(part: str) -> Any:
-    """What a part stands for that is whole: NULL, a text in its quotes, or a number."""
+    """What a part stands for: NULL, a text in its quotes, or a number."""
     if part.startswith("'"):
-        return part[1:-1].replace("''", "'")
+        return text_within(part)
     if part == "NULL":
         return None
     if not WHOLE.fullmatch(part):
         raise Failed("this is no value: %.300r" % part)
     return int(part)
+
+
+def text_within(part: str) -> str:
+    """The text of a part that begins with a quote."""
+    text = part[1:-1]
+    if "'" in text:
+        text = text.replace("''", MARKED_QUOTE)
+        if "'" in text:
+            raise Failed("this is no text: %.300r" % part)
+        text = text.replace(MARKED_QUOTE, "'")
+    if len(part) < 2 or part[-1] != "'":
+        raise Failed("this is no text: %.300r" % part)
+    return text.replace(MARKED_BLANK, " ")
 
 
 def is_position(part: str) -> bool:
@@ -190,6 +203,10 @@ def measure_of(part: str) -> Decimal:
     if not MEASURE.fullmatch(part):
         raise Failed("this is no measure: %.300r" % part)
     return Decimal(part)
+
+
+def thousandths_of(part: str) -> int:
+    return int(measure_of(part).scaleb(3))
 
 
 def other_position_of(part: str) -> str:
@@ -225,22 +242,37 @@ def parts_of(text: str) -> list[str]:
     return parts
 
 
-@lru_cache(maxsize=MOST_PARTS)
-def row_pattern(width: int) -> re.Pattern[str]:
-    """The form of a line with so many parts."""
-    return re.compile("^%s$" % " ".join([PART_OF_LINE] * width), re.MULTILINE)
+def columns_of(texts: Sequence[str], width: int) -> list[list[str]]:
+    """The parts of ROW lines as columns. Each line has so many parts. In quotes each blank is a MARKED_BLANK, if any line has
+    one there, and whether quotes are closed is not looked at here."""
+    lines = texts if have_parts(texts, width) else marked(texts)
+    if not have_parts(lines, width):
+        raise fault_of(texts, width)
+    flat = " ".join(lines).split(" ")
+    return [flat[k::width] for k in range(width)]
 
 
-def columns_of(texts: Sequence[str], width: int) -> list[tuple[str, ...]]:
-    """The parts of ROW lines as columns. Each line has so many parts."""
-    text = "\n".join(texts)
-    found = row_pattern(width).findall(text) if "'" in text else [line.split(" ") for line in texts]
-    if len(found) != len(texts) or set(map(len, found)) != {width} or width == 1:
-        found = [parts_of(one) for one in texts]
-        for one, parts in zip(texts, found):
-            if len(parts) != width:
-                raise Failed("this row has %d parts, and not %d: %.300r" % (len(parts), width, one))
-    return list(zip(*found))
+def have_parts(lines: Sequence[str], width: int) -> bool:
+    return set(map(str.count, lines, repeat(" "))) == {width - 1}
+
+
+def marked(texts: Sequence[str]) -> Sequence[str]:
+    """Lines with a MARKED_BLANK in place of each blank in quotes. A quote that is doubled ends its text and begins it again."""
+    pieces = "\n".join(texts).split("'")
+    within = "'".join(pieces[1::2])
+    if not within or "\n" in within:
+        return texts
+    pieces[1::2] = within.replace(" ", MARKED_BLANK).split("'")
+    return "'".join(pieces).split("\n")
+
+
+def fault_of(texts: Sequence[str], width: int) -> Failed:
+    """What is wrong with lines of which not each one has so many parts."""
+    for text in texts:
+        count = len(parts_of(text))
+        if count != width:
+            return Failed("this row has %d parts, and not %d: %.300r" % (count, width, text))
+    return Failed("these are no rows: %.300r" % (texts,))
 
 
 # Columns.
@@ -278,6 +310,19 @@ class Column:
         self._types.update(map(type, found))
         if len(self._types) > 2:
             raise Failed("a column of the reply has numbers and texts")
+
+
+class Thousandths(Column):
+    """A column of measures that stand for whole numbers of thousandths."""
+
+    def __init__(self) -> None:
+        super().__init__(thousandths_of, MEASURES, thousandths_of)
+
+    def _each(self, parts: Sequence[str]) -> list:
+        joined = " ".join(parts)
+        if not MEASURES.fullmatch(joined):
+            return super()._each(parts)
+        return list(map(int, joined.replace(".", "").split(" ")))
 
 
 def routes() -> Column:
@@ -346,6 +391,9 @@ class SelectedRows(RowReader):
         self._method = method
         self._ends: tuple[str, ...] = ()  # the names of the positions, once the form is known
 
+    def _position(self) -> Column:
+        return positions(self._method)
+
     def names(self, texts: Sequence[str], known: Optional[Sequence[str]]) -> tuple[str, ...]:
         if texts and not self._readers:
             self._readers = self._look_at(texts[0])
@@ -356,7 +404,7 @@ class SelectedRows(RowReader):
 
     def _block(self, texts: Sequence[str]) -> list[list]:
         columns = super()._block(texts)
-        if len(self._ends) == 2 and isinstance(columns[1][0], Decimal) and not all(map(lt, columns[1], columns[2])):
+        if len(self._ends) == 2 and not isinstance(columns[1][0], str) and not all(map(lt, columns[1], columns[2])):
             raise Failed("a row of the reply ends before it begins, or where it begins")
         return columns
 
@@ -366,7 +414,17 @@ class SelectedRows(RowReader):
             raise Failed("this row has no position: %.300r" % text)
         self._ends = ("from", "to") if len(parts) > 2 and is_position(parts[2]) else ("at",)
         count = len(self._ends)
-        return [routes(), *(positions(self._method) for _ in range(count)), *(values() for _ in parts[1 + count :])]
+        return [routes(), *(self._position() for _ in range(count)), *(values() for _ in parts[1 + count :])]
+
+
+class ThousandthRows(SelectedRows):
+    """The rows of a SELECT, with measures as whole numbers of thousandths."""
+
+    def __init__(self) -> None:
+        super().__init__(ABSOLUTE)
+
+    def _position(self) -> Column:
+        return Thousandths()
 
 
 class TotalRows(RowReader):
