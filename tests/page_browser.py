@@ -10,6 +10,7 @@ from browser import Browser, path_of_browser
 from client_parts import network, running
 from harness import expect
 from pages import QUESTIONS, asked_of, large_rows, page_of
+from prepared import least_of
 from roadseg import colours, page
 
 FOUND = path_of_browser()
@@ -252,8 +253,8 @@ def a_large_page_is_made_and_shown_in_time(program):
     with running(program, *definitions) as road:
         for name, some in rows.items():
             expect("refused rows", road.load(name, some).refused, [])
-        asking, _answers = waited(lambda: [road.columns(name) for name in rows])
-        making, text = waited(lambda: page.page(road, asked_of(road), colours.Palette(road), "Large"))
+        calls = [lambda: [road.columns(name) for name in rows], lambda: page.page(road, asked_of(road), colours.Palette(road), "Large")]
+        (asking, making), (_answers, text) = least_of(calls, clock=time.monotonic)
     print("%.2f seconds for the questions, %.2f for the page of %d bytes" % (asking, making, len(text.encode())))
     expect("whether it is made in time", making <= TIMES * asking, True)
     if FOUND is None:
@@ -264,17 +265,6 @@ def a_large_page_is_made_and_shown_in_time(program):
     print("%.2f seconds until the first picture, %.3f for a zoom at the most" % (first, max(zooms)))
     expect("the first picture", first <= FIRST, True)
     expect("a zoom", max(zooms) <= ZOOM, True)
-
-
-def waited(call):
-    """The seconds that a call takes, the best of three, and what it gives."""
-    least, got = None, None
-    for _ in range(3):
-        began = time.monotonic()
-        got = call()
-        took = time.monotonic() - began
-        least = took if least is None else min(least, took)
-    return least, got
 
 
 ZOOMED = """new Promise((done) => {

@@ -138,7 +138,7 @@ def a_page_knows_what_select_answers(program):
 
 
 def colours_of_a_page_are_those_of_diagrams(program):
-    given = {"severity": {"fatal": "#FF0000"}}
+    given = {"severity": {"fatal": "#FF0000"}, "aadt": {"8200": "#00FF00"}}
     with network(program) as road:
         asked = [page.Asked("crashes", "crashes", "severity"), *asked_of(road, Again="RENAME(pavement, surface TO s)")]
         _text, data = page_of(road, asked, given)

@@ -100,6 +100,18 @@ def seconds(call, times=2):
     return least, got
 
 
+def least_of(calls, rounds=5, clock=time.thread_time):
+    """The least time of each of some calls, and what each gave. They take turns, so that whatever else the machine does at the
+    moment meets all of them."""
+    times, got = [[] for _ in calls], [None] * len(calls)
+    for _ in range(rounds):
+        for k, call in enumerate(calls):
+            start = clock()
+            got[k] = call()
+            times[k].append(clock() - start)
+    return list(map(min, times)), got
+
+
 def counting():
     start, count = time.thread_time(), 0
     for number in range(STEPS):

@@ -7,8 +7,9 @@ goes by the sorted values of the whole column. A colour may also be given: `surf
 from __future__ import annotations
 
 import re
-from bisect import bisect
+from bisect import bisect, bisect_left
 from collections.abc import Iterable, Mapping, Sequence
+from itertools import repeat
 from typing import Any, NamedTuple, Optional
 
 from .client import Client
@@ -90,6 +91,17 @@ class Scheme:
             return REST
         return self._told[max(bisect(self._starts, value) - 1, 0)]
 
+    def entries(self, none: Sequence[None], numbers: Sequence[int], texts: Sequence[str]) -> list[Entry]:
+        """What a legend says of each of some values, which are parted."""
+        ends = [*(bisect_left(numbers, start) for start in self._starts[1:]), len(numbers)]
+        told: list[Entry] = []
+        for entry, end in zip(self._told or [REST], ends):
+            told += [entry] * (end - len(told))
+        found = [self.entry(None) for _ in none]
+        found += map(self._own.get, numbers, told)
+        found += map(self._own.get, texts, repeat(REST))
+        return found
+
     def style(self, value: Any) -> Style:
         return self.entry(value).style
 
@@ -107,8 +119,14 @@ def legend_of(entries: Iterable[Entry]) -> list[Entry]:
 def parted(values: Iterable[Any]) -> tuple[list[None], list[int], list[str]]:
     """Each of some values once, by sorts and in order, as the language has it: NULL, numbers, and texts by their bytes."""
     held = set(values)
-    texts = sorted(value for value in held if isinstance(value, str))
-    return [None] * (None in held), sorted(held.difference(texts, [None])), texts
+    none = [None] * (None in held)
+    held.discard(None)
+    try:
+        found = sorted(held)
+    except TypeError:  # numbers and texts
+        texts = sorted(value for value in held if isinstance(value, str))
+        return none, sorted(held.difference(texts)), texts
+    return (none, [], found) if found and isinstance(found[0], str) else (none, found, [])
 
 
 def in_order(values: Iterable[Any]) -> list[Any]:
@@ -199,7 +217,8 @@ class Traced(NamedTuple):
 
 def origins_of(query: str, schema: Schema) -> Optional[list[str]]:
     """For each column of a query the name that it has in its table. None where the query names what the schema doesn't have."""
-    traced = schema.copy()
+    traced = Schema()
+    traced.views = schema.views
     for name, table in schema.tables.items():
         columns: Any = tuple(Traced(one.name, one.name) for one in table.columns)
         traced.tables[name] = table._replace(columns=columns)

@@ -18,15 +18,15 @@ import sys
 from bisect import bisect_left, bisect_right
 from collections.abc import Iterable, Sequence
 from decimal import Decimal
-from itertools import repeat
-from operator import mul
+from itertools import chain, count
+from operator import sub
 from typing import Any, NamedTuple, Optional
 
 from .client import Client
-from .colours import OTHER, Palette, Scheme, Style, given_colours, in_order, legend_of
+from .colours import OTHER, Palette, Scheme, Style, given_colours, legend_of, parted
 from .errors import Error
 from .opening import PROGRAM, connect, run
-from .schema import LINE, POINT
+from .schema import LINE, POINT, Schema
 from .wires import LIMIT
 
 SCRIPTS = ("page_rows.js", "page_picture.js")
@@ -52,11 +52,11 @@ def page(road: Client, asked: Sequence[Asked], palette: Palette, title: str, uni
 
 def data_of(road: Client, asked: Sequence[Asked], palette: Palette, title: str, unit: str = "") -> dict[str, Any]:
     """What the page knows: routes in order, with thousandths, and bands with their rows on each route, packed."""
-    styles = Styles()
-    routes = sorted(road.schema().routes.values())
-    answers = [road.columns(one.query) for one in asked]
+    styles, schema = Styles(), road.schema()
+    routes = sorted(schema.routes.values())
+    answers = [road.columns(one.query, thousandths=True) for one in asked]
     for one, answer in zip(asked, answers):
-        tell(palette, road, one.query, answer)
+        tell(palette, schema, one.query, answer)
     names = [route.name for route in routes]
     bands = [band_of(road, one, answer, names, palette, styles) for one, answer in zip(asked, answers)]
     told = [[one.name, *thousandths([one.start, one.end]), referents_of(one.referents)] for one in routes]
@@ -65,7 +65,7 @@ def data_of(road: Client, asked: Sequence[Asked], palette: Palette, title: str, 
 
 
 def thousandths(measures: Iterable[Decimal]) -> list[int]:
-    return list(map(int, map(mul, measures, repeat(1000))))
+    return [int(measure.scaleb(3)) for measure in measures]
 
 
 def referents_of(referents: dict[str, Any]) -> list[list]:
@@ -73,9 +73,9 @@ def referents_of(referents: dict[str, Any]) -> list[list]:
     return [[name, place] for place, name in sorted(zip(thousandths(referents.values()), referents))]
 
 
-def tell(palette: Palette, road: Client, query: str, answer: dict[str, list]) -> None:
+def tell(palette: Palette, schema: Schema, query: str, answer: dict[str, list]) -> None:
     """Lets the palette have the values of a table, which were asked for already."""
-    table = road.schema().tables.get(query)
+    table = schema.tables.get(query)
     if table is not None:
         for column, values in zip(table.columns, list(answer.values())[-len(table.columns) :]):
             palette.knows(query, column.name, values)
@@ -110,8 +110,7 @@ def band_of(
         column, found = column_of(name, values, scheme, styles)
         columns.append(column)
         numbers.append(found)
-    measures = list(map(thousandths, places))
-    rows = [packed(route_of, name, measures, numbers) for name in routes]
+    rows = [packed(route_of, name, places, numbers) for name in routes]
     by = by_of(asked, names) if columns else -1
     return {"title": asked.title, "query": asked.query, "kind": kind, "by": by, "columns": columns, "rows": rows}
 
@@ -125,25 +124,26 @@ def by_of(asked: Asked, names: Sequence[str]) -> int:
 def column_of(name: str, values: Sequence[Any], scheme: Scheme, styles: Styles) -> tuple[dict[str, Any], list[int]]:
     """A column: its values in order, its legend, and for each value the number of what the legend says of it; and the numbers of
     the values of its rows."""
-    held = in_order(values)
-    entries = list(map(scheme.entry, held))
-    legend = legend_of(entries)
-    numbers = {entry: k for k, entry in enumerate(legend)}
-    entry = list(map(numbers.__getitem__, entries))
+    sorts = parted(values)
+    held, entries = [*chain(*sorts)], scheme.entries(*sorts)
+    different = {id(entry): entry for entry in entries}
+    legend = legend_of(different.values())
+    places = {entry: k for k, entry in enumerate(legend)}
+    place_of = {key: places[entry] for key, entry in different.items()}
+    entry = list(map(place_of.__getitem__, map(id, entries)))
     told = {"name": name, "values": held, "legend": [[one.text, styles.number(one.style)] for one in legend], "entry": entry}
-    places = {value: k for k, value in enumerate(held)}
-    return told, list(map(places.__getitem__, values))
+    return told, list(map(dict(zip(held, count())).__getitem__, values))
 
 
-def packed(routes: Sequence[str], name: str, measures: Sequence[list[int]], numbers: Sequence[list[int]]) -> list[int]:
+def packed(routes: Sequence[str], name: str, places: Sequence[list[int]], numbers: Sequence[list[int]]) -> list[int]:
     """The rows of a route: how far each start is from the one before it, lengths, and the numbers of the values by columns."""
     first, end = bisect_left(routes, name), bisect_right(routes, name)
     if first == end:
         return []
-    starts = measures[0][first:end]
-    flat = [after - before for before, after in zip([0, *starts], starts)]
-    if len(measures) == 2:
-        flat += [stop - start for start, stop in zip(starts, measures[1][first:end])]
+    starts = places[0][first:end]
+    flat = list(map(sub, starts, [0, *starts]))
+    if len(places) == 2:
+        flat += map(sub, places[1][first:end], starts)
     for column in numbers:
         flat += column[first:end]
     return flat
