@@ -9,7 +9,7 @@ from fractions import Fraction
 
 from client_parts import SEED, expect_error, network, running
 from harness import expect
-from prepared import client_of, lines_run, measure, seconds
+from prepared import client_of, least_of, lines_run, measure
 from roadseg import pairing, reckoning
 
 ROUTES = ("SR1", "SR2", "SR3")
@@ -315,12 +315,12 @@ def a_reckoning_runs_as_many_lines_as_there_are_rows(_program):
 
 def a_reckoning_takes_no_more_than_thrice_the_question(_program):
     with client_of(list(many_lines(SPANS, 250, 0))) as road, client_of(list(many_lines(SPANS, 250, 700))) as other:
-        question, rows = seconds(lambda: list(road.select("q")))
-        others = list(other.select("q"))
+        rows, others = list(road.select("q")), list(other.select("q"))
         for name, questions, call in reckonings_of(rows, others):
-            took, got = seconds(call)
+            (question, took), (_rows, got) = least_of([lambda: list(road.select("q")), call])
             expect("whether %s found anything" % name, len(got) > 0, True)
             ratio = took / question / questions
+            print("%.2f times the question's time, for %s" % (ratio, name))
             expect("whether %.2f times the question's time are few, for %s" % (ratio, name), ratio <= MOST, True)
 
 

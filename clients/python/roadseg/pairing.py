@@ -13,12 +13,12 @@ these takes time as n log n + k.
 from __future__ import annotations
 
 from bisect import bisect_left, bisect_right
-from collections.abc import Iterable, Iterator, Sequence
+from collections.abc import Iterable, Sequence
 from decimal import Decimal
 from operator import itemgetter
 from typing import Any, NamedTuple, Optional
 
-from .places import Placed, by_route, measure, table_of, thousandths
+from .places import Placed, by_route, measure, measures, records, table_of, thousandths, uncollected
 from .reckoning import exact_part
 
 UPSTREAM, DOWNSTREAM, EITHER = "upstream", "downstream", "either"
@@ -51,6 +51,7 @@ class Nearest(NamedTuple):
     found: list[tuple]
 
 
+@uncollected()
 def overlaps(
     left: Iterable[tuple], right: Iterable[tuple], length: Any = Decimal("0.001"), part: Any = 0, of: str = LEFT
 ) -> list[Overlap]:
@@ -61,24 +62,28 @@ def overlaps(
         raise ValueError("%r is no side: left, right and both are" % (of,))
     over, under = share.numerator, share.denominator
     of_left, of_right = (over if of in (name, BOTH) else 0 for name in (LEFT, RIGHT))
-    found = []
+    rows, others, lengths = [], [], []
     for (_route, lo, hi, row), (_, other_lo, other_hi, other) in pairs(left, right, OVERLAPPING):
         common = (hi if hi < other_hi else other_hi) - (lo if lo > other_lo else other_lo)
         if common >= least and common * under >= of_left * (hi - lo) and common * under >= of_right * (other_hi - other_lo):
-            found.append(Overlap(row, other, measure(common)))
-    return found
+            rows.append(row)
+            others.append(other)
+            lengths.append(common)
+    return records(Overlap, rows, others, measures(lengths))
 
 
+@uncollected()
 def within(left: Iterable[tuple], right: Iterable[tuple], distance: Any) -> list[Near]:
     """Pairs of rows that are no farther from each other than a distance."""
-    reach = thousandths(distance)
-    nothing, found = measure(0), []
-    for (_route, lo, hi, row), (_, other_lo, other_hi, other) in pairs(left, right, reach):
-        gap = lo - other_hi if lo > other_hi else other_lo - hi
-        found.append(Near(row, other, measure(gap) if gap > 0 else nothing))
-    return found
+    rows, others, gaps = [], [], []
+    for (_route, lo, hi, row), (_, other_lo, other_hi, other) in pairs(left, right, thousandths(distance)):
+        rows.append(row)
+        others.append(other)
+        gaps.append(lo - other_hi if lo > other_hi else other_lo - hi if other_lo > hi else 0)
+    return records(Near, rows, others, measures(gaps))
 
 
+@uncollected()
 def nearest(left: Iterable[tuple], right: Iterable[tuple], way: str = EITHER) -> list[Nearest]:
     """For each row on the left the nearest ones on the right: UPSTREAM, which end where it begins or before, DOWNSTREAM, which
     begin where it ends or after, or EITHER, those that overlap it among them."""
@@ -99,12 +104,12 @@ def nearest(left: Iterable[tuple], right: Iterable[tuple], way: str = EITHER) ->
 # Sweeps.
 
 
-def pairs(left: Iterable[tuple], right: Iterable[tuple], reach: int) -> Iterator[tuple[Placed, Placed]]:
+def pairs(left: Iterable[tuple], right: Iterable[tuple], reach: int) -> Iterable[tuple[Placed, Placed]]:
     """Pairs of rows on one route with a gap of no more than so many thousandths, by the left ones' order and then the right
     ones'."""
     lefts, rights = table_of(left).placed(), table_of(right).placed()
-    count = len(rights)
-    return ((lefts[number // count], rights[number % count]) for number in meeting(lefts, rights, reach))
+    count, found = len(rights), meeting(lefts, rights, reach)
+    return zip([lefts[number // count] for number in found], [rights[number % count] for number in found])
 
 
 def meeting(lefts: Sequence[Placed], rights: Sequence[Placed], reach: int) -> list[int]:

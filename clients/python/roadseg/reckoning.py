@@ -15,15 +15,16 @@ from __future__ import annotations
 
 import heapq
 from bisect import bisect_left
-from collections import defaultdict
+from collections import Counter, defaultdict
 from collections.abc import Callable, Iterable, Sequence
 from decimal import Decimal
 from fractions import Fraction
-from itertools import accumulate, repeat
+from itertools import accumulate, compress, repeat
 from operator import itemgetter
+from operator import sub as _minus
 from typing import Any, NamedTuple, Optional, Union
 
-from .places import ColumnOf, Placed, Table, by_route, is_line, measure, order_of, table_of, thousandths
+from .places import ColumnOf, Placed, Table, by_route, is_line, measure, measures, order_of, table_of, thousandths, uncollected
 
 LENGTH, ROW = "length", "row"
 Columns = Union[ColumnOf, Iterable[ColumnOf]]
@@ -53,6 +54,7 @@ class Tile(NamedTuple):
 # Groups.
 
 
+@uncollected()
 def summaries(rows: Iterable[tuple], column: ColumnOf, by: Columns = (), weight: str = LENGTH) -> list[Summary]:
     """Counts, averages, least and greatest values of a column, for each group of rows that agree in some columns.
 
@@ -96,6 +98,7 @@ def in_order(groups: Iterable[tuple]) -> list[tuple]:
     return sorted(groups, key=lambda group: [order_of(value) for value in group])
 
 
+@uncollected()
 def totals_by_route(rows: Iterable[tuple], by: Columns = (), sum: Optional[ColumnOf] = None) -> list[tuple]:
     """What TOTAL answers, for each route by itself: (route, values of the columns in `by` .., length), and with a column to
     sum (.., length, weight, sum). Lengths, weights and sums of lines are Decimals, those of points whole numbers."""
@@ -133,23 +136,31 @@ _sum = sum  # which is the name of an argument above
 # Order.
 
 
+@uncollected()
 def ordered(rows: Iterable[tuple], by: Columns, limit: Optional[int] = None, descending: bool = False) -> list[tuple]:
     """Rows in the order of some columns, and the first of them where there is a limit: NULL comes before numbers, and these
     before texts. Rows that agree stay in the order in which they came. With a limit of k it takes time as n log k."""
     table = table_of(rows)
-    places = table.places(by)
-
-    def key(row: tuple) -> list[tuple]:
-        return [order_of(row[place]) for place in places]
-
+    columns = [sortable([row[place] for row in table.rows]) for place in table.places(by)]
+    keys = columns[0] if len(columns) == 1 else list(zip(*columns)) or [()] * len(table.rows)
+    places = range(len(table.rows))
     if limit is None:
-        return sorted(table.rows, key=key, reverse=descending)
-    return (heapq.nlargest if descending else heapq.nsmallest)(limit, table.rows, key=key)
+        found = sorted(places, key=keys.__getitem__, reverse=descending)
+    else:
+        found = (heapq.nlargest if descending else heapq.nsmallest)(limit, places, key=keys.__getitem__)
+    return list(map(table.rows.__getitem__, found))
+
+
+def sortable(values: list[Any]) -> list[Any]:
+    """What values are put in order by: themselves where they are all numbers, or all texts."""
+    are_texts = {issubclass(kind, str) for kind in set(map(type, values))}
+    return values if len(are_texts) == 1 and None not in values else list(map(order_of, values))
 
 
 # Places.
 
 
+@uncollected()
 def depths(rows: Iterable[tuple]) -> list[tuple]:
     """How many rows there are at each place where there is one: (route, from, to, depth) of lines, (route, at, depth) of
     points, the longest such pieces of one depth."""
@@ -158,25 +169,29 @@ def depths(rows: Iterable[tuple]) -> list[tuple]:
     found: list[tuple] = []
     routes = by_route(table.placed())
     for route in sorted(routes):
-        pieces = depths_of(routes[route])
-        found += [(route, measure(lo), measure(hi), n) if is_of_lines else (route, measure(lo), n) for lo, hi, n in pieces]
+        los, his = [one[1] for one in routes[route]], [one[2] for one in routes[route]]
+        found += zip(repeat(route), *(depths_of_lines(los, his) if is_of_lines else depths_of_points(los)))
     return found
 
 
-def depths_of(placed: Sequence[Placed]) -> list[tuple[int, int, int]]:
-    """The pieces of a route with how many rows are there. A point is a piece of one thousandth, and joins no other."""
-    changes: dict[int, int] = defaultdict(int)
-    for _route, lo, hi, _row in placed:
-        changes[lo] += 1
-        if hi > lo:
-            changes[hi] -= 1
-    if placed[0][1] == placed[0][2]:
-        return [(at, at, changes[at]) for at in sorted(changes)]
-    bounds = [place for place in sorted(changes) if changes[place]]
-    counts = accumulate(changes[place] for place in bounds)
-    return [(lo, hi, count) for lo, hi, count in zip(bounds, bounds[1:], counts) if count]
+def depths_of_lines(los: Sequence[int], his: Sequence[int]) -> tuple[Iterable[Any], ...]:
+    """The pieces of a route with how many rows are there: where they begin and end, and the numbers."""
+    begun, ended = Counter(los), Counter(his)
+    places = sorted(begun.keys() | ended.keys())
+    changes = list(map(_minus, map(begun.get, places, repeat(0)), map(ended.get, places, repeat(0))))
+    counts = list(accumulate(compress(changes, changes)))
+    bounds = measures(list(compress(places, changes)))
+    return compress(bounds, counts), compress(bounds[1:], counts), compress(counts, counts)
 
 
+def depths_of_points(places: Sequence[int]) -> tuple[Iterable[Any], ...]:
+    """Places of a route with how many points are there."""
+    counts = Counter(places)
+    different = sorted(counts)
+    return measures(different), map(counts.__getitem__, different)
+
+
+@uncollected()
 def tiles(rows: Iterable[tuple], length: Any, origin: Any = 0) -> list[Tile]:
     """Rows cut at the multiples of a length, counted from an origin: the tiles that have any, each with its parts of rows.
 
@@ -205,6 +220,7 @@ def part_of(one: Placed, start: int, end: int) -> tuple:
 # Quantiles.
 
 
+@uncollected()
 def quantiles(rows: Iterable[tuple], column: ColumnOf, parts: Iterable[Any]) -> list[Any]:
     """For each part, as 0.5 for the median, the least value that at least this part of the length has or is below, of the length
     where there is a value; None where there is none. Of points it is a part of the rows."""
