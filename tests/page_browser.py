@@ -9,8 +9,8 @@ from decimal import Decimal as D
 from browser import Browser, path_of_browser
 from client_parts import network, running
 from harness import expect
-from pages import QUESTIONS, asked_of, large_rows, page_of
-from prepared import least_of
+from pages import NODE, QUESTIONS, asked_of, dense, large_rows, node, page_of
+from prepared import client_of_answers, least_of
 from roadseg import colours, page
 
 FOUND = path_of_browser()
@@ -254,7 +254,7 @@ def a_large_page_is_made_and_shown_in_time(program):
         for name, some in rows.items():
             expect("refused rows", road.load(name, some).refused, [])
         calls = [lambda: [road.columns(name) for name in rows], lambda: page.page(road, asked_of(road), colours.Palette(road), "Large")]
-        (asking, making), (_answers, text) = least_of(calls, clock=time.monotonic)
+        (asking, making), (_answers, text) = least_of(calls, 9, time.monotonic)
     print("%.2f seconds for the questions, %.2f for the page of %d bytes" % (asking, making, len(text.encode())))
     expect("whether it is made in time", making <= TIMES * asking, True)
     if FOUND is None:
@@ -273,5 +273,23 @@ ZOOMED = """new Promise((done) => {
     requestAnimationFrame(() => requestAnimationFrame(() => done(performance.now() - began)));
 })"""
 
+def the_script_of_a_large_page_is_quick(program):
+    """Without a browser: from the data to the first picture, and a picture of each of some views, by node."""
+    if NODE is None:
+        return
+    with client_of_answers(*large_rows()) as network, dense(100_000, 30_000) as route:
+        for name, road, length in (("a large network", network, 90_000), ("a dense route", route, 1_000_000)):
+            text, _data = page_of(road)
+            views = ["picture(0, 0, %d, 1280)" % (length // times) for times in (1, 2, 3, 10, 100, 1_000)]
+            calls = ["(%s)(() => new roadseg.Book(JSON.parse(JSON.stringify(book.data))) && %s.svg())" % (TIMED, views[0])]
+            calls += ["Math.min(...[1, 2, 3, 4, 5].map(() => (%s)(() => %s.svg())))" % (TIMED, view) for view in views]
+            first, *zooms = (milliseconds / 1000 for milliseconds in node(program, text, calls))
+            print("%.3f seconds by node until the first picture of %s, %.3f for a zoom at the most" % (first, name, max(zooms)))
+            expect("the first picture of %s" % name, first <= FIRST, True)
+            expect("a zoom of %s" % name, max(zooms) <= ZOOM, True)
+
+
+TIMED = "(call) => ((began) => (call(), performance.now() - began))(performance.now())"
+
 BROWSER_TESTS = [a_browser_shows_zooms_and_lists]
-PAGE_SPEED_TESTS = [a_large_page_is_made_and_shown_in_time]
+PAGE_SPEED_TESTS = [a_large_page_is_made_and_shown_in_time, the_script_of_a_large_page_is_quick]

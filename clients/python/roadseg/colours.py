@@ -8,7 +8,7 @@ from __future__ import annotations
 
 import re
 from bisect import bisect, bisect_left
-from collections.abc import Iterable, Mapping, Sequence
+from collections.abc import Iterable, Mapping, Sequence, Set
 from itertools import repeat
 from typing import Any, NamedTuple, Optional
 
@@ -73,7 +73,9 @@ class Scheme:
     """The styles of a column's values, made from all values that it has anywhere."""
 
     def __init__(self, values: Iterable[Any], given: Optional[Mapping[str, str]] = None) -> None:
-        _none, numbers, texts = parted(values)
+        self._held = frozenset(values)
+        self._sorts = parted(self._held)
+        _none, numbers, texts = self._sorts
         self.classes = classes_of(numbers)
         self._starts = [one.least for one in self.classes]
         self._told = [Entry(class_text(one), one.style) for one in self.classes]
@@ -91,15 +93,16 @@ class Scheme:
             return REST
         return self._told[max(bisect(self._starts, value) - 1, 0)]
 
-    def entries(self, none: Sequence[None], numbers: Sequence[int], texts: Sequence[str]) -> list[Entry]:
-        """What a legend says of each of some values, which are parted."""
+    def entries(self, values: Set[Any]) -> list[tuple[Any, Entry]]:
+        """Values in order, each with what a legend says of it."""
+        none, numbers, texts = self._sorts if values == self._held else parted(values)
         ends = [*(bisect_left(numbers, start) for start in self._starts[1:]), len(numbers)]
         told: list[Entry] = []
         for entry, end in zip(self._told or [REST], ends):
             told += [entry] * (end - len(told))
-        found = [self.entry(None) for _ in none]
-        found += map(self._own.get, numbers, told)
-        found += map(self._own.get, texts, repeat(REST))
+        found = [(None, self.entry(None)) for _ in none]
+        found += zip(numbers, map(self._own.get, numbers, told))
+        found += zip(texts, map(self._own.get, texts, repeat(REST)))
         return found
 
     def style(self, value: Any) -> Style:
@@ -159,9 +162,9 @@ def round_groups(numbers: Sequence[int]) -> list[list[int]]:
                 continue
             if count < FEWEST_CLASSES:
                 return []
-            groups: list[list[int]] = [[] for _ in range(count)]
-            for number in numbers:
-                groups[number // step - numbers[0] // step].append(number)
+            first = numbers[0] // step
+            ends = [bisect_left(numbers, (first + k) * step) for k in range(count + 1)]
+            groups = [list(numbers[start:end]) for start, end in zip(ends, ends[1:])]
             return groups if all(group and 2 * len(group) <= len(numbers) for group in groups) else []
     return []
 

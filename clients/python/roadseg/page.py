@@ -18,15 +18,15 @@ import sys
 from bisect import bisect_left, bisect_right
 from collections.abc import Iterable, Sequence
 from decimal import Decimal
-from itertools import chain, count
+from itertools import count
 from operator import sub
 from typing import Any, NamedTuple, Optional
 
 from .client import Client
-from .colours import OTHER, Palette, Scheme, Style, given_colours, legend_of, parted
+from .colours import OTHER, Entry, Palette, Style, given_colours, legend_of
 from .errors import Error
 from .opening import PROGRAM, connect, run
-from .schema import LINE, POINT, Schema
+from .schema import LINE, POINT
 from .wires import LIMIT
 
 SCRIPTS = ("page_rows.js", "page_picture.js")
@@ -50,18 +50,46 @@ def page(road: Client, asked: Sequence[Asked], palette: Palette, title: str, uni
 # What the page knows.
 
 
+class Answer(NamedTuple):
+    """The answer to what was asked: its kind, the names of its columns, its rows' routes, places as thousandths, and values; and of
+    each column the different values."""
+
+    asked: Asked
+    kind: str
+    names: list[str]
+    routes: list[str]
+    places: list[list[int]]
+    values: list[list]
+    held: list[set]
+
+
 def data_of(road: Client, asked: Sequence[Asked], palette: Palette, title: str, unit: str = "") -> dict[str, Any]:
     """What the page knows: routes in order, with thousandths, and bands with their rows on each route, packed."""
     styles, schema = Styles(), road.schema()
     routes = sorted(schema.routes.values())
-    answers = [road.columns(one.query, thousandths=True) for one in asked]
-    for one, answer in zip(asked, answers):
-        tell(palette, schema, one.query, answer)
+    answers = [answer_of(road, one) for one in asked]
+    for answer in answers:
+        if answer.asked.query in schema.tables:
+            for column, held in zip(answer.names, answer.held):
+                palette.knows(answer.asked.query, column, held)
     names = [route.name for route in routes]
-    bands = [band_of(road, one, answer, names, palette, styles) for one, answer in zip(asked, answers)]
+    bands = [band_of(answer, names, palette, styles) for answer in answers]
     told = [[one.name, *thousandths([one.start, one.end]), referents_of(one.referents)] for one in routes]
     plain = styles.number(OTHER)
     return {"title": title, "unit": unit, "routes": told, "bands": bands, "plain": plain, "styles": styles.told()}
+
+
+def answer_of(road: Client, asked: Asked) -> Answer:
+    columns = road.columns(asked.query, thousandths=True)
+    shape = road.shape(asked.query)
+    if shape is not None and tuple(columns) != shape.names():
+        raise ValueError("the rows of %s are not those of what is defined" % asked.title)
+    kind = (POINT if "at" in list(columns)[1:2] else LINE) if shape is None else shape.kind
+    ends = 2 if kind == POINT else 3
+    names = [one.name for one in shape.columns] if shape else list(columns)[ends:]
+    routes, *parts = columns.values() if columns else [[]]
+    values = parts[ends - 1 :]
+    return Answer(asked, kind, names, routes, parts[: ends - 1], values, list(map(set, values)))
 
 
 def thousandths(measures: Iterable[Decimal]) -> list[int]:
@@ -71,14 +99,6 @@ def thousandths(measures: Iterable[Decimal]) -> list[int]:
 def referents_of(referents: dict[str, Any]) -> list[list]:
     """Referents by their places, of several at one place the one with the least name first."""
     return [[name, place] for place, name in sorted(zip(thousandths(referents.values()), referents))]
-
-
-def tell(palette: Palette, schema: Schema, query: str, answer: dict[str, list]) -> None:
-    """Lets the palette have the values of a table, which were asked for already."""
-    table = schema.tables.get(query)
-    if table is not None:
-        for column, values in zip(table.columns, list(answer.values())[-len(table.columns) :]):
-            palette.knows(query, column.name, values)
 
 
 class Styles:
@@ -94,25 +114,17 @@ class Styles:
         return [list(style) for style in self._numbers]
 
 
-def band_of(
-    road: Client, asked: Asked, answer: dict[str, list], routes: Sequence[str], palette: Palette, styles: Styles
-) -> dict[str, Any]:
+def band_of(answer: Answer, routes: Sequence[str], palette: Palette, styles: Styles) -> dict[str, Any]:
     """A band: what its columns hold, each value once and in order, and its rows on each route, by the numbers of values."""
-    shape = road.shape(asked.query)
-    if shape is not None and tuple(answer) != shape.names():
-        raise ValueError("the rows of %s are not those of what is defined" % asked.title)
-    kind = (POINT if "at" in list(answer)[1:2] else LINE) if shape is None else shape.kind
-    ends = 2 if kind == POINT else 3
-    names = [one.name for one in shape.columns] if shape else list(answer)[ends:]
-    route_of, *places = list(answer.values())[:ends] if answer else [[]]
+    asked = answer.asked
     columns, numbers = [], []
-    for name, values, scheme in zip(names, list(answer.values())[ends:], palette.schemes(asked.query)):
-        column, found = column_of(name, values, scheme, styles)
+    for name, values, held, scheme in zip(answer.names, answer.values, answer.held, palette.schemes(asked.query)):
+        column, places = column_of(name, scheme.entries(held), styles)
         columns.append(column)
-        numbers.append(found)
-    rows = [packed(route_of, name, places, numbers) for name in routes]
-    by = by_of(asked, names) if columns else -1
-    return {"title": asked.title, "query": asked.query, "kind": kind, "by": by, "columns": columns, "rows": rows}
+        numbers.append(list(map(places.__getitem__, values)))
+    rows = [packed(answer.routes, name, answer.places, numbers) for name in routes]
+    by = by_of(asked, answer.names) if columns else -1
+    return {"title": asked.title, "query": asked.query, "kind": answer.kind, "by": by, "columns": columns, "rows": rows}
 
 
 def by_of(asked: Asked, names: Sequence[str]) -> int:
@@ -121,18 +133,17 @@ def by_of(asked: Asked, names: Sequence[str]) -> int:
     return 0 if asked.by is None else list(names).index(asked.by)
 
 
-def column_of(name: str, values: Sequence[Any], scheme: Scheme, styles: Styles) -> tuple[dict[str, Any], list[int]]:
-    """A column: its values in order, its legend, and for each value the number of what the legend says of it; and the numbers of
-    the values of its rows."""
-    sorts = parted(values)
-    held, entries = [*chain(*sorts)], scheme.entries(*sorts)
+def column_of(name: str, told: Sequence[tuple[Any, Entry]], styles: Styles) -> tuple[dict[str, Any], dict[Any, int]]:
+    """A column: its values in order, its legend, and for each value the number of what the legend says of it; and the places of
+    its values."""
+    held, entries = [value for value, _entry in told], [entry for _value, entry in told]
     different = {id(entry): entry for entry in entries}
     legend = legend_of(different.values())
-    places = {entry: k for k, entry in enumerate(legend)}
-    place_of = {key: places[entry] for key, entry in different.items()}
-    entry = list(map(place_of.__getitem__, map(id, entries)))
-    told = {"name": name, "values": held, "legend": [[one.text, styles.number(one.style)] for one in legend], "entry": entry}
-    return told, list(map(dict(zip(held, count())).__getitem__, values))
+    numbers = {entry: k for k, entry in enumerate(legend)}
+    number_of = {key: numbers[entry] for key, entry in different.items()}
+    entry = list(map(number_of.__getitem__, map(id, entries)))
+    shown = [[one.text, styles.number(one.style)] for one in legend]
+    return {"name": name, "values": held, "legend": shown, "entry": entry}, dict(zip(held, count()))
 
 
 def packed(routes: Sequence[str], name: str, places: Sequence[list[int]], numbers: Sequence[list[int]]) -> list[int]:
