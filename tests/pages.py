@@ -415,6 +415,21 @@ def box_of(rect):
     return Box(x, y, x + width, y + height)
 
 
+def names_of_referents_that_are_near_go_down_like_stairs(program):
+    if NODE is None:
+        return
+    places = {"COUNTY_LINE": "10.2", "EXIT1": "11", "EXIT2": "11.4", "BRIDGE": "11.5", "TUNNEL": "42.5"}
+    with running(program, "DEFINE ROUTE A FROM 0 TO 60", *("DEFINE REFERENT A %s AT %s" % one for one in places.items())) as road:
+        text, _data = page_of(road)
+    call = "((one) => [one.svg(), one.notes()])(picture(0, 0, 60000, 1100))"
+    [(svg, notes)] = node(program, text, [call])
+    names = [(words.split(" ")[0], round(box.top)) for words, kind, box in text_boxes(ElementTree.fromstring(svg)) if "name" in kind]
+    expect("the names", [name for name, _top in names], ["COUNTY_LINE", "EXIT1", "EXIT2", "TUNNEL"])
+    tops = [top for _name, top in names]
+    expect("where they are", (tops[0] < tops[1] < tops[2], tops[3] == tops[0]), (True, True))
+    expect("what is told", notes, "Dashed lines are referents. Names of referents without room: 1.")
+
+
 def spans_of_a_page_are_at_their_measures(program):
     if NODE is None:
         return
@@ -570,6 +585,7 @@ PAGE_TESTS = [
     a_link_has_the_view_and_the_cross,
     routes_and_referents_are_searched,
     texts_of_a_page_do_not_overlap,
+    names_of_referents_that_are_near_go_down_like_stairs,
     spans_of_a_page_are_at_their_measures,
     a_dense_route_has_a_small_picture,
     a_large_network_is_a_small_page,

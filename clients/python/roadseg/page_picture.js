@@ -103,17 +103,39 @@ const drawing = (() => {
     }
   }
 
-  /** For each of some labels its row and where it begins, or null. A line leads to it through the rows before its own. */
+  const SIDES = {
+    middle: (x, width) => x - width / 2,
+    after: (x) => x - PAD,
+    beside: (x) => x,
+    before: (x, width) => x - width + PAD,
+  };
+
+  /**
+   * For each of some labels, which come from the left, its row and where it begins, or null. A line leads to it through the rows
+   * before its own. Each is in the nearest row; or in the farthest one and after its line, like stairs that go down to the axis,
+   * where this leaves fewer out.
+   */
   function staggered(labels, count, left, right) {
-    const rows = Array.from({ length: count }, () => new Taken());
+    const rows = Array.from({ length: count }, (_, row) => row);
+    const near = spotsOf(labels, rows, [SIDES.middle, SIDES.after, SIDES.before], left, right);
+    const far = spotsOf(labels, [...rows].reverse(), [SIDES.after, SIDES.beside, SIDES.before], left, right);
+    const lacking = (spots) => spots.filter((spot) => !spot).length;
+    return lacking(far) < lacking(near) ? far : near;
+  }
+
+  /** The spots of labels, each in the first of some rows, and on the first of some sides of its line, that has room. */
+  function spotsOf(labels, rows, sides, left, right) {
+    const taken = rows.map(() => new Taken());
     return labels.map(({ x, width }) => {
-      for (let row = 0; row < count && width <= right - left; row++) {
-        if (!rows.slice(0, row).every((one) => one.isFree(x - 1, x + 1))) continue;
-        for (const wanted of [x - width / 2, x - PAD, x - width + PAD]) {
-          const start = Math.max(Math.min(wanted, right - width), left);
-          if (!rows[row].isFree(start - PAD, start + width + PAD)) continue;
-          rows[row].take(start - PAD, start + width + PAD);
-          rows.slice(0, row).forEach((one) => one.take(x - 1, x + 1));
+      if (width > right - left) return null;
+      for (const row of rows) {
+        const passed = taken.slice(0, row);
+        if (!passed.every((one) => one.isFree(x - 1, x + 1))) continue;
+        for (const side of sides) {
+          const start = Math.max(Math.min(side(x, width), right - width), left);
+          if (!taken[row].isFree(start - PAD, start + width + PAD)) continue;
+          taken[row].take(start - PAD, start + width + PAD);
+          passed.forEach((one) => one.take(x - 1, x + 1));
           return { row, start };
         }
       }
