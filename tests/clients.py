@@ -34,6 +34,7 @@ from document_scripts import DOCUMENT_TESTS
 from files_and_peers import LONGEST, NOT_OPENED, Program, put, serving
 from harness import expect, run_tests
 from page_browser import BROWSER_TESTS, PAGE_SPEED_TESTS
+from page_steps import STEP_TESTS
 from pages import PAGE_TESTS
 from programs import PROGRAM
 from prompts import PROMPT_TESTS
@@ -279,6 +280,7 @@ TESTS = [
     an_error_of_the_caller_closes_the_cursors,
     *DIAGRAM_TESTS,
     *PAGE_TESTS,
+    *STEP_TESTS,
     *BROWSER_TESTS,
     *DOCUMENT_TESTS,
 ]
