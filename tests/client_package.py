@@ -25,11 +25,18 @@ LONGEST_FILE = 600  # lines
 ASKED = """
 import importlib, inspect, sys, typing
 import roadseg
+from roadseg import colours, dbapi, diagram, page, pairing, reckoning
 with roadseg.run(None, sys.argv[1]) as road:
     road.execute("DEFINE ROUTE A FROM 0 TO 10")
     road.execute("DEFINE LINE TABLE pave (surf TEXT(8))")
     print(road.load("pave", [("A", 0, 1, "it's"), ("B", 0, 1, "x")]).new, road.schema())
     print(list(road.select("pave", batch=1)), road.columns("pave"))
+    rows = list(road.select("pave"))
+    print(reckoning.ordered(rows, 3, limit=1), reckoning.totals_by_route(rows), reckoning.depths(rows), reckoning.tiles(rows, "0.6")[1][3])
+    print(reckoning.summaries(road.select("pave"), "surf")[0].maximum, reckoning.quantiles(rows, 3, [0.5]))
+    print(pairing.overlaps(rows, rows)[0].length, pairing.within(rows, rows, 1)[0].distance, pairing.nearest(rows, rows)[0].distance)
+    print("it's" in page.page(road, [page.Asked("Pave", "pave")], colours.Palette(road), "T"), "<svg" in diagram.diagram(road, "A", [diagram.Question("P", "pave")]))
+    print(dbapi.Connection(road).cursor().execute("SELECT WHERE(pave, surf = ?)", ["it's"]).fetchall())
 for name in sys.argv[2:]:
     for thing in list(vars(importlib.import_module("roadseg." + name)).values()):
         if inspect.isfunction(thing) or inspect.isclass(thing) and thing.__module__.startswith("roadseg."):
@@ -40,6 +47,11 @@ for name in sys.argv[2:]:
 """
 ANSWERED = """1000 Schema(1 routes, 1 tables, 0 views, 0 alignments, 0 indexes)
 [('A', Decimal('0.000'), Decimal('1.000'), "it's")] {'route': ['A'], 'from': [Decimal('0.000')], 'to': [Decimal('1.000')], 'surf': ["it's"]}
+[('A', Decimal('0.000'), Decimal('1.000'), "it's")] [('A', Decimal('1.000'))] [('A', Decimal('0.000'), Decimal('1.000'), 1)] [('A', Decimal('0.600'), Decimal('1.000'), "it's")]
+it's ["it's"]
+1.000 0.000 0.000
+True True
+[('A', Decimal('0.000'), Decimal('1.000'), "it's")]
 """
 
 

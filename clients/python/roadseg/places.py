@@ -71,7 +71,8 @@ def measures(numbers: Sequence[int]) -> list[Decimal]:
 
 def records(kind: type[Record], *columns: Iterable[Any]) -> list[Record]:
     """Named tuples, made of columns: of many it is much quicker than calls of the type, one by one."""
-    return list(map(tuple.__new__, repeat(kind), zip(*columns)))
+    made: list[Any] = list(map(tuple.__new__, repeat(kind), zip(*columns)))
+    return made
 
 
 @contextlib.contextmanager

@@ -142,7 +142,7 @@ def ordered(rows: Iterable[tuple], by: Columns, limit: Optional[int] = None, des
     before texts. Rows that agree stay in the order in which they came. With a limit of k it takes time as n log k."""
     table = table_of(rows)
     columns = [sortable([row[place] for row in table.rows]) for place in table.places(by)]
-    keys = columns[0] if len(columns) == 1 else list(zip(*columns)) or [()] * len(table.rows)
+    keys: list[Any] = columns[0] if len(columns) == 1 else list(zip(*columns)) or [()] * len(table.rows)
     places = range(len(table.rows))
     if limit is None:
         found = sorted(places, key=keys.__getitem__, reverse=descending)
