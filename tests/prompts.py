@@ -321,7 +321,7 @@ def commands_of_the_prompt_are_carried_out(program):
         expect("all", len(terminal.ask(".schema").splitlines()), 4 + 3 + 6 + 1)
         expect("rows in a file", terminal.ask(".csv %s WINDOW(crashes, I95)" % path), "(2 rows)\n")
         expect("the file", bytes_at(path), b"route,at,num,severity\nI95,11.200,7,\nI95,18.700,8,fatal\n")
-        expect("rows to see", terminal.ask(".csv - WINDOW(speed, I95)"), "route,from,to,mph\nI95,10.000,22.000,65\n(1 rows)\n")
+        expect("rows to see", terminal.ask(".csv - WINDOW(speed, I95)"), "route,from,to,mph\nI95,10.000,22.000,65\n(1 row)\n")
         read = terminal.ask(".read " + program.file("lines.txt"))
         wanted = ["line 4: 21 no such name (.explain says what it means)", "%s was read, 1 refused" % program.file("lines.txt")]
         expect("lines of a file", read.splitlines()[-2:], wanted)

@@ -197,7 +197,7 @@ class Prompt:
                 page = list(islice(rows, self.settings.page))
             if not page:
                 break
-        self.say("(%d row%s%s)" % (count, "" if count == 1 else "s", "" if len(page) < self.settings.page else " so far"))
+        self.say(counted(count, "" if len(page) < self.settings.page else " so far"))
 
     def goes_on(self) -> bool:
         if not self.settings.is_terminal:
@@ -235,7 +235,7 @@ class Prompt:
         else:
             with open(path, "w", newline="", encoding="utf-8") as file:
                 count = write_rows(file, rows)
-        self.say("(%d rows)" % count)
+        self.say(counted(count))
 
     def explain(self, words: str) -> None:
         """Says what a refusal means, by the program's own words; or shows a plan."""
@@ -296,6 +296,10 @@ def write_rows(file: TextIO, rows: Rows) -> int:
         count += 1
     file.flush()
     return count
+
+
+def counted(count: int, more: str = "") -> str:
+    return "(%d row%s%s)" % (count, "" if count == 1 else "s", more)
 
 
 def clean_lines(text: str) -> str:
