@@ -300,10 +300,11 @@ def csv_is_what_a_spreadsheet_reads(program):
         return
     with random_network(program)[0] as road:
         text, data = page_of(road)
-        calls = ["roadseg.csv(book.table(%d, 1, %d, %d))" % (b, *data["routes"][1][1:3]) for b in range(3)]
+        name, start, end, _referents = data["routes"][1]
+        calls = ["roadseg.csv(book.table(%d, 1, %d, %d))" % (b, start, end) for b in range(3)]
         for band, got in zip(data["bands"], node(program, text, calls)):
             wanted = io.StringIO()
-            rows = road.select("WINDOW(%s, R1)" % band["query"])
+            rows = road.select("WINDOW(%s, %s)" % (band["query"], name))
             csv.writer(wanted, lineterminator="\n").writerows([rows.columns, *rows])
             expect("CSV of %s" % band["title"], got, wanted.getvalue())
 
