@@ -26,6 +26,7 @@ from .client import Client
 from .colours import OTHER, Entry, Palette, Style, given_colours, legend_of
 from .errors import Error
 from .opening import PROGRAM, connect, run
+from .places import uncollected
 from .schema import LINE, POINT
 from .wires import LIMIT
 
@@ -42,6 +43,7 @@ class Asked(NamedTuple):
     by: Optional[str] = None
 
 
+@uncollected()
 def page(road: Client, asked: Sequence[Asked], palette: Palette, title: str, unit: str = "") -> str:
     """The page of what is asked."""
     return html_of(data_of(road, asked, palette, title, unit))

@@ -77,8 +77,8 @@ def records(kind: type[Record], *columns: Iterable[Any]) -> list[Record]:
 
 @contextlib.contextmanager
 def uncollected() -> Iterator[None]:
-    """Has the collector of garbage wait, which would look at many new tuples again and again. Nothing here makes cycles, so there
-    is nothing for it to find."""
+    """Has the collector of garbage wait, which would look at many new tuples and lists again and again. What is done meanwhile
+    makes no cycles, so there is nothing for it to find."""
     was_enabled = gc.isenabled()
     gc.disable()
     try:
