@@ -11,6 +11,7 @@ import re
 import shutil
 import subprocess
 import sys
+import threading
 import zipfile
 
 from client_parts import CLIENTS, expect_error, roadseg
@@ -18,6 +19,7 @@ from harness import expect
 
 PACKAGE = os.path.join(CLIENTS, "roadseg")
 OLDEST = (3, 9)
+PARSING = threading.Lock()
 OLDEST_PIP = 23  # the oldest that this was tried with
 PATIENCE = 600  # seconds that pip, or a Python of another version, may take
 NEEDED = "csv, decimal, fcntl, fractions, select, socket, subprocess, tempfile, unicodedata"  # what a small Python may lack
@@ -68,11 +70,16 @@ def text_at(path):
         return file.read()
 
 
+def tree_of(path):
+    """The syntax tree of a source, by the syntax of the oldest Python. Python 3.11 fails where two threads ask for trees at once."""
+    with PARSING:
+        return ast.parse(text_at(path), path, feature_version=OLDEST)
+
+
 def the_syntax_is_that_of_python_3_9(_program):
     for path in sources():
-        text = text_at(path)
-        ast.parse(text, path, feature_version=OLDEST)
-        expect("lines of %s" % path, len(text.splitlines()) <= LONGEST_FILE, True)
+        tree_of(path)
+        expect("lines of %s" % path, len(text_at(path).splitlines()) <= LONGEST_FILE, True)
 
 
 def functions_of(module):
@@ -99,7 +106,7 @@ def all_functions_have_types(_program):
 def nothing_but_the_standard_library_is_imported(_program):
     own = {"roadseg", "make_wheel"}
     for path in sources():
-        tree = ast.parse(text_at(path))
+        tree = tree_of(path)
         for node in ast.walk(tree):
             names = [alias.name for alias in node.names] if isinstance(node, ast.Import) else []
             names += [node.module] if isinstance(node, ast.ImportFrom) and not node.level else []
