@@ -3,7 +3,7 @@
 //! It promises that the file it leaves stands for the state that it was in, without cursors, and that it opens a file as the state
 //! that the file stands for.
 
-ghost use Rattle.std.specs.Prelude.{◌≡◌, ◌≤◌, ◌-◌, ◌^◌, ℕ, IfErr, IfOk, IsOkUnless, IsTrue, MatchResult, Ok, OnErr, OnOk, length, min};
+ghost use Rattle.std.specs.Prelude.{◌≡◌, ◌≤◌, ◌-◌, ◌^◌, ℕ, true, IfErr, IfOk, IsOkUnless, IsTrue, MatchResult, Ok, OnErr, OnOk, length, min};
 ghost use Rattle.rs_file.specs.Calls.{RefusesToLoad};
 ghost use Rattle.std.specs.FinMap as names;
 ghost use Rattle.rs_cursor.specs.Held.{held_of};
