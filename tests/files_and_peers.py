@@ -44,6 +44,7 @@ NEAR = 32  # bytes
 PIECE_PAUSE = 0.001  # seconds between pieces of a line
 COUNT_OF_PAGES = 32  # and of three numbers in page 0: of pages, of the first free one, and of free ones
 FULL = "/dev/full"  # each write to it fails
+OPEN = 5  # files that are open in a server that waits: the streams, the file and the listener
 
 DEFINED = b"0 DEFINE ROUTE A FROM 0 TO 10\n0 DEFINE LINE TABLE pave (surf TEXT(8))\n"
 INSERTED = b"0 INSERT INTO pave ON A FROM 0 TO 1 VALUES ('AC')\n"
@@ -76,6 +77,7 @@ PLACE = b"0 ROW 4.000\n0 OK 1\n"
 EXISTS = b"roadseg: file exists\n"
 NOT_OPENED = b"roadseg: cannot open file\n"
 NOT_BOUND = b"roadseg: cannot listen\n"
+NOT_ACCEPTED = b"roadseg: cannot accept\n"
 READ_FAULT = b"roadseg: read fault\n"
 WRITE_FAULT = b"roadseg: write fault\n"
 DAMAGED = b"roadseg: ERR 94 damaged file\n"
@@ -760,6 +762,40 @@ def an_address_in_use_closes_the_file(program):
     program.expect(["run", "--file", file], SELECTED, ROWS)
 
 
+def a_server_waits_for_a_descriptor(program):
+    """What the system lacks for any connection counts as none, and is asked for again."""
+    file = program.created(DEFINED, b"0 OK 0\n0 OK 0\n")
+    with serving(program, file, 2) as server:
+        most = resource.prlimit(server.process.pid, resource.RLIMIT_NOFILE)
+        with server.connected() as peer:
+            peer.sendall(INSERTED)
+            expect("the first peer's answer", line_sent_to(peer), b"0 OK 1000\n")
+            resource.prlimit(server.process.pid, resource.RLIMIT_NOFILE, (OPEN, most[1]))
+        with server.connected() as peer:
+            peer.sendall(SELECTED)
+            peer.shutdown(socket.SHUT_WR)
+            time.sleep(STALL)
+            expect("whether it goes on", server.process.poll(), None)
+            resource.prlimit(server.process.pid, resource.RLIMIT_NOFILE, most)
+            expect("the second peer's answer", received(peer), ROWS)
+        server.expect_end()
+
+
+def a_server_without_descriptors_ends(program):
+    """After a hundred times in a row it says so, and closes the file."""
+    file = program.created(DEFINED, b"0 OK 0\n0 OK 0\n")
+    with serving(program, file, 1_000_000) as server:
+        most = resource.prlimit(server.process.pid, resource.RLIMIT_NOFILE)
+        with server.connected() as peer:
+            peer.sendall(INSERTED)
+            expect("the peer's answer", line_sent_to(peer), b"0 OK 1000\n")
+            resource.prlimit(server.process.pid, resource.RLIMIT_NOFILE, (OPEN, most[1]))
+        since = time.monotonic()
+        expect("the end of the server", ended(server.process), Ended(1, b"", NOT_ACCEPTED))
+        expect("how long it waited", time.monotonic() - since > 9, True)
+    program.expect(["run", "--file", file], SELECTED, ROWS)
+
+
 def a_killed_server_leaves_what_was_saved(program):
     """What was accepted after SAVE is gone, and what was saved is there; where only questions were asked, no byte is another."""
     file = program.created(DEFINED, b"0 OK 0\n0 OK 0\n")
@@ -823,6 +859,8 @@ TESTS = [
     a_hundred_peers_are_served_one_after_another,
     peers_wait_for_their_turn,
     an_address_in_use_closes_the_file,
+    a_server_waits_for_a_descriptor,
+    a_server_without_descriptors_ends,
     a_killed_server_leaves_what_was_saved,
     a_file_that_is_being_written_is_refused,
 ]

@@ -5,7 +5,7 @@ use Rattle.rs_protocol.specs.declared.stream.Fault.TheVariants.{Read, Write}
 use Rattle.rs_refusal.specs.declared.refusal.Refusal.{Refusal}
 use Rattle.rs_refusal.specs.Refusal.{number_of, words_of}
 use Rattle.rs_server.specs.declared.report.Failure.{Failure}
-use Rattle.rs_server.specs.declared.report.Failure.TheVariants.{CannotListen, CannotOpen, FileExists, Refused, Stream}
+use Rattle.rs_server.specs.declared.report.Failure.TheVariants.{CannotAccept, CannotListen, CannotOpen, FileExists, Refused, Stream}
 
 -- `roadseg: ERR n words` and an LF
 abbrev pub refusal_line : Refusal → List ℕ
@@ -17,6 +17,7 @@ failure_line (Refused refusal) = refusal_line refusal
 failure_line FileExists = codes "roadseg: file exists\n"
 failure_line CannotOpen = codes "roadseg: cannot open file\n"
 failure_line CannotListen = codes "roadseg: cannot listen\n"
+failure_line CannotAccept = codes "roadseg: cannot accept\n"
 failure_line (Stream Read) = codes "roadseg: read fault\n"
 failure_line (Stream Write) = codes "roadseg: write fault\n"
 

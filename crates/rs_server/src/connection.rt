@@ -3,17 +3,33 @@
 //! Sessions and cursors are the engine's, so what one connection did the next one finds. A fault ends the
 //! connection alone.
 
-ghost use Rattle.std.specs.Prelude.{◌≡◌, ◌⊎◌, ℕ, List};
+ghost use Rattle.std.specs.Prelude.{◌≡◌, ◌↔◌, ℕ, List, IsTrue};
 ghost use Rattle.std.specs.Io.KnownBytes.{Consumes};
+ghost use Rattle.std.specs.IoError.{raw_os_error};
 ghost use Rattle.rs_machine.specs.Served.{Machine};
 ghost use Rattle.rs_protocol.specs.Ends.{Ends};
-ghost use Rattle.rs_server.specs.Connections.{ServesInTurn, ServesPeer};
+ghost use Rattle.rs_server.specs.Connections.{IsLack, ServesNext, ServesThem};
 
 use rs_protocol::{End, Fault, run};
 use rs_serve::Serve;
 use std::alloc::Global;
 use std::io::{Read, Write};
 use std::net::{TcpListener, TcpStream};
+use std::time::{Clock, Duration};
+use std::{io, thread};
+
+/// The system's numbers for what it lacks: memory, descriptors in all and of the process, and buffers.
+const LACKS: [i32; 4] = [12, 23, 24, 105];
+
+/// How often in a row the system may lack what a connection takes.
+const TRIES: u32 = 100;
+
+/// How many thousandths of a second are waited after each of these failures.
+const PAUSE: u64 = 100;
+
+/// The system went on lacking what a connection takes, so that none was accepted.
+#[derive(Clone, Copy, Debug, PartialEq, Eq)]
+pub struct CannotAccept;
 
 /// The two halves of one stream: a peer's bytes are read from the one, and its replies written to the other.
 #[derive(Drop)]
@@ -62,25 +78,65 @@ pub fn serve_one<E: Serve, R: Read, W: Write>(
 
 /// Accepts so many connections, one after another, and serves each to its end or to a fault. One that fails counts, and the next one is
 /// served; what it had done by then stays.
-pub fn serve_connections<E: Serve>(
+///
+/// Where the system lacks descriptors or memory, no connection has failed: it is asked again after a tenth of a second, and refused that a
+/// hundred times in a row this ends.
+pub fn serve_connections<C: Clock, E: Serve>(
+    clock: &C,
     alloc: Global,
     engine: &mut E,
     listener: &TcpListener,
     connections: u32,
-)
-    ensures { (old : Machine) → E.is engine.old old → (new : Machine) × E.is engine.new new × ServesInTurn connections old new }
+) -> Result<(), CannotAccept>
+    ensures { (old : Machine) → E.is engine.old old → (new : Machine) × E.is engine.new new × ServesThem result connections old new }
 {
     for _ in 0..connections {
-        serve_next(alloc, engine, listener);
+        serve_next(clock, alloc, engine, listener)?;
     }
+    Ok(())
 }
 
 /// Accepts one connection, and serves it to its end or to a fault.
-fn serve_next<E: Serve>(alloc: Global, engine: &mut E, listener: &TcpListener)
-    ensures { (old : Machine) → E.is engine.old old → (new : Machine) × E.is engine.new new × ((new ≡ old) ⊎ ServesPeer old new) }
+fn serve_next<C: Clock, E: Serve>(
+    clock: &C,
+    alloc: Global,
+    engine: &mut E,
+    listener: &TcpListener,
+) -> Result<(), CannotAccept>
+    ensures { (old : Machine) → E.is engine.old old → (new : Machine) × E.is engine.new new × ServesNext result old new }
 {
-    if let Ok((stream, _)) = listener.accept() {
-        let mut connection = Connection::over(&stream);
-        let _ = serve_one(alloc, engine, &mut connection);
+    match next_stream(clock, listener) {
+        Ok(Some(stream)) => {
+            let mut connection = Connection::over(&stream);
+            let _ = serve_one(alloc, engine, &mut connection);
+            Ok(())
+        }
+        Ok(None) => Ok(()),
+        Err(fault) => Err(fault),
+    }
+}
+
+/// Waits for the next connection. `None` is one that failed before it began.
+fn next_stream<C: Clock>(
+    clock: &C,
+    listener: &TcpListener,
+) -> Result<Option<TcpStream>, CannotAccept> {
+    for _ in 0..TRIES {
+        match listener.accept() {
+            Ok((stream, _)) => return Ok(Some(stream)),
+            Err(error) if is_lack(&error) => thread::sleep(clock, Duration::from_millis(PAUSE)),
+            Err(_) => return Ok(None),
+        }
+    }
+    Err(CannotAccept)
+}
+
+/// Whether a call failed since the system lacks descriptors or memory.
+fn is_lack(error: &io::Error) -> bool
+    ensures { IsTrue result ↔ IsLack (raw_os_error error.now) }
+{
+    match error.raw_os_error() {
+        Some(number) => LACKS.contains(&number),
+        None => false,
     }
 }

@@ -13,7 +13,7 @@ pub mod service;
 pub mod watch;
 pub mod words;
 
-pub use connection::{Connection, serve_connections, serve_one};
+pub use connection::{CannotAccept, Connection, serve_connections, serve_one};
 pub use disks::{create_on, serve_disk};
 pub use dumping::dump_on;
 pub use report::{Failure, report_failure, report_unread_words};

@@ -34,6 +34,8 @@ pub enum Failure {
     CannotOpen,
     /// The address was not bound.
     CannotListen,
+    /// The system lacked descriptors or memory for each connection that was to be accepted.
+    CannotAccept,
     /// The input or the output failed.
     Stream(Fault),
 }
@@ -65,6 +67,7 @@ fn say_failure<E: Write>(errors: &mut E, failure: &Failure) -> Result<(), Fault>
         Failure::FileExists => put_parts(errors, &[b"roadseg: file exists\n"]),
         Failure::CannotOpen => put_parts(errors, &[b"roadseg: cannot open file\n"]),
         Failure::CannotListen => put_parts(errors, &[b"roadseg: cannot listen\n"]),
+        Failure::CannotAccept => put_parts(errors, &[b"roadseg: cannot accept\n"]),
         Failure::Stream(Fault::Read) => put_parts(errors, &[b"roadseg: read fault\n"]),
         Failure::Stream(Fault::Write) => put_parts(errors, &[b"roadseg: write fault\n"]),
     }

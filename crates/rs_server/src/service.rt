@@ -11,7 +11,7 @@ ghost use Rattle.rs_command_line.specs.declared.command_line.Asked.{Asked};
 ghost use Rattle.rs_server.specs.Disks.{told_of};
 ghost use Rattle.rs_server.specs.Ending.{EndsAs, EndsBy, EndsDoing, EndsWith, IsQuiet, IsQuietAs, Runs};
 
-use crate::connection::serve_connections;
+use crate::connection::{CannotAccept, serve_connections};
 use crate::disks::{close_after, create_on, failure_after, serve_disk};
 use crate::dumping::dump_on;
 use crate::report::{FAILED, Failure, MISUSE, SUCCESS, failure_to_open, report_failure};
@@ -36,6 +36,7 @@ use std::io;
 use std::io::{Read, Write};
 use std::net::{Net, TcpListener, TcpStream};
 use std::rt::Files;
+use std::time::Clock;
 
 /// Runs the program on its words, the program's own name first, and gives its exit status.
 ///
@@ -43,7 +44,7 @@ use std::rt::Files;
 /// is said in one line on the errors stream, and for want of memory in reading the words; 2 where the words are no command line, of
 /// which `clap` says on the errors stream what is wrong. A write to the errors stream that fails changes nothing.
 pub fn program<
-    P: AllocGlobal + Files<File = File> + Net<Listener = TcpListener, Stream = TcpStream>,
+    P: AllocGlobal + Clock + Files<File = File> + Net<Listener = TcpListener, Stream = TcpStream>,
     S: AsStr,
     R: Read,
     W: Write,
@@ -63,7 +64,7 @@ pub fn program<
 ///
 /// It does it wherever they ask it; want of memory is said where reading them answered it, and nowhere else.
 pub fn do_as_asked<
-    P: AllocGlobal + Files<File = File> + Net<Listener = TcpListener, Stream = TcpStream>,
+    P: AllocGlobal + Clock + Files<File = File> + Net<Listener = TcpListener, Stream = TcpStream>,
     R: Read,
     W: Write,
     E: Write,
@@ -90,7 +91,7 @@ pub fn do_as_asked<
 
 /// Does what is asked, and gives the exit status.
 fn do_it<
-    P: AllocGlobal + Files<File = File> + Net<Listener = TcpListener, Stream = TcpStream>,
+    P: AllocGlobal + Clock + Files<File = File> + Net<Listener = TcpListener, Stream = TcpStream>,
     R: Read,
     W: Write,
     E: Write,
@@ -244,7 +245,7 @@ fn dump_file<P: AllocGlobal + Files<File = File>, W: Write, E: Write>(
 
 /// Serves so many connections over a file, one after another, and closes it.
 fn serve_file<
-    P: AllocGlobal + Files<File = File> + Net<Listener = TcpListener, Stream = TcpStream>,
+    P: AllocGlobal + Clock + Files<File = File> + Net<Listener = TcpListener, Stream = TcpStream>,
     W: Write,
 >(rt: &P, file: &str, address: &str, connections: u32, output: &mut W) -> Option<Failure> {
     let disk = match FileDisk::open(rt, file) {
@@ -262,7 +263,7 @@ fn serve_file<
 
 /// Binds the address, says so on the output, and serves so many connections.
 fn serve_address<
-    P: AllocGlobal + Net<Listener = TcpListener, Stream = TcpStream>,
+    P: AllocGlobal + Clock + Net<Listener = TcpListener, Stream = TcpStream>,
     E: Serve,
     W: Write,
 >(rt: &P, engine: &mut E, address: &str, connections: u32, output: &mut W) -> Option<Failure> {
@@ -270,10 +271,10 @@ fn serve_address<
         return Some(Failure::CannotListen);
     };
     match put_parts(output, &[b"listening\n"]) {
-        Ok(()) => {
-            serve_connections(rt.alloc(), engine, &listener, connections);
-            None
-        }
+        Ok(()) => match serve_connections(rt, rt.alloc(), engine, &listener, connections) {
+            Ok(()) => None,
+            Err(CannotAccept) => Some(Failure::CannotAccept),
+        },
         Err(fault) => Some(Failure::Stream(fault)),
     }
 }
