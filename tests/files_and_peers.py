@@ -796,6 +796,20 @@ def a_server_without_descriptors_ends(program):
     program.expect(["run", "--file", file], SELECTED, ROWS)
 
 
+def a_port_of_the_system_is_told(program):
+    """Where the address has the port 0, a second line tells the port."""
+    for address in ("127.0.0.1:0", "localhost:00"):
+        file = program.created(DEFINED, b"0 OK 0\n0 OK 0\n")
+        with started(program, "serve", "--file", file, "--listen", address) as process:
+            expect("what it says first", process.stdout.readline(), b"listening\n")
+            told = process.stdout.readline()
+            expect("the port: %r" % told, re.fullmatch(rb"port [1-9][0-9]{0,4}\n", told) is not None, True)
+            server = Server(process, int(told[len(b"port ") :]))
+            server.expect_answers(SELECTED, b"0 OK 0\n")
+            server.expect_end()
+        os.remove(file)
+
+
 def a_killed_server_leaves_what_was_saved(program):
     """What was accepted after SAVE is gone, and what was saved is there; where only questions were asked, no byte is another."""
     file = program.created(DEFINED, b"0 OK 0\n0 OK 0\n")
@@ -861,6 +875,7 @@ TESTS = [
     an_address_in_use_closes_the_file,
     a_server_waits_for_a_descriptor,
     a_server_without_descriptors_ends,
+    a_port_of_the_system_is_told,
     a_killed_server_leaves_what_was_saved,
     a_file_that_is_being_written_is_refused,
 ]

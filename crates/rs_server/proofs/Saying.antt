@@ -1,11 +1,11 @@
 -- What was put is said, or a front of it.
-use Rattle.std.proofs.Common.{◌≡◌, ◌∙◌, List, [], ◌∷◌, ◌++◌, ℕ, Option, Result, Ok, Err, sym, ap, subst, append_assoc, append-nil}
+use Rattle.std.proofs.Common.{◌≡◌, ◌∙◌, List, [], ◌∷◌, ◌++◌, ℕ, Option, Some, Result, Ok, Err, sym, ap, subst, append_assoc, append-nil}
 use Rattle.std.specs.Prelude.{codes, decimal}
 use Rattle.rs_refusal.specs.declared.refusal.Refusal.{Refusal}
 use Rattle.rs_refusal.specs.Refusal.{number_of, words_of}
 use Rattle.rs_protocol.specs.declared.stream.Fault.{Fault}
 use Rattle.rs_protocol.specs.Puts.{Puts}
-use Rattle.rs_server.specs.Saying.{refusal_line, SaysFront}
+use Rattle.rs_server.specs.Saying.{listening_text, refusal_line, SaysFront}
 
 pub said_from_puts : (T : Type 0) (result : Result T Fault) (text : List ℕ) (before after : Option (List ℕ)) → Puts result text before after → SaysFront text before after
 said_from_puts T (Ok done) text before after puts = record { front = text; lost = []; whole = sym (append-nil text); put = puts }
@@ -24,3 +24,9 @@ line_from_parts T result refusal number words before after is_number are_words p
     ∙ ap (λ w. codes "roadseg: ERR " ++ (decimal (number_of refusal) ++ (32 ∷ (w ++ 10 ∷ [])))) are_words
     ∙ ap (λ bytes. codes "roadseg: ERR " ++ bytes) (joined (decimal (number_of refusal)) (words_of refusal)))
     puts
+
+-- so are those of what `serve` says
+pub port_from_parts : (T : Type 0) (result : Result T Fault) (asked : Option ℕ) (port : ℕ) (number : List ℕ) (before after : Option (List ℕ)) → asked ≡ Some port → number ≡ decimal port
+    → Puts result (codes "listening\nport " ++ (number ++ 10 ∷ [])) before after → Puts result (listening_text asked) before after
+port_from_parts T result asked port number before after is is_number puts =
+    subst (λ bytes. Puts result bytes before after) (ap (λ n. codes "listening\nport " ++ (n ++ 10 ∷ [])) is_number ∙ sym (ap listening_text is)) puts

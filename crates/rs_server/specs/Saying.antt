@@ -1,5 +1,5 @@
--- What the program says of a failure on its errors stream.
-use Rattle.std.specs.Prelude.{◌≡◌, ℕ, List, ◌++◌, Option, codes, decimal}
+-- What the program says by itself: of a failure on its errors stream, and that it listens.
+use Rattle.std.specs.Prelude.{◌≡◌, ℕ, List, ◌++◌, Option, Some, None, codes, decimal}
 use Rattle.std.specs.Io.KnownBytes.{Appends}
 use Rattle.rs_protocol.specs.declared.stream.Fault.TheVariants.{Read, Write}
 use Rattle.rs_refusal.specs.declared.refusal.Refusal.{Refusal}
@@ -20,6 +20,11 @@ failure_line CannotListen = codes "roadseg: cannot listen\n"
 failure_line CannotAccept = codes "roadseg: cannot accept\n"
 failure_line (Stream Read) = codes "roadseg: read fault\n"
 failure_line (Stream Write) = codes "roadseg: write fault\n"
+
+-- that `serve` listens, and at which port where the system chose that
+abbrev pub listening_text : Option ℕ → List ℕ
+listening_text None = codes "listening\n"
+listening_text (Some port) = codes "listening\nport " ++ decimal port ++ codes "\n"
 
 -- a writer has grown by the text, or by a front of it
 pub record SaysFront (text : List ℕ) (before after : Option (List ℕ)) : Type 0 where

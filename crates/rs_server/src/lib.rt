@@ -8,6 +8,7 @@ pub mod connection;
 pub mod disks;
 pub mod dumping;
 pub mod laws;
+mod listening;
 pub mod report;
 pub mod service;
 pub mod watch;

@@ -14,6 +14,7 @@ ghost use Rattle.rs_server.specs.Ending.{EndsAs, EndsBy, EndsDoing, EndsWith, Is
 use crate::connection::{CannotAccept, serve_connections};
 use crate::disks::{close_after, create_on, failure_after, serve_disk};
 use crate::dumping::dump_on;
+use crate::listening::{bound, say_listening};
 use crate::report::{FAILED, Failure, MISUSE, SUCCESS, failure_to_open, report_failure};
 use crate::watch::{Ended, LineByLine, Tally, Watched, tell_unended};
 use crate::words::{convert, explain_refusal};
@@ -24,7 +25,7 @@ use rs_disk::{FileDisk, MemoryDisk};
 use rs_dump::Wanted;
 use rs_engine::Engine;
 use rs_engine::engine::laws::machine_is_the_only_one;
-use rs_protocol::{Fault, put_parts, run};
+use rs_protocol::{Fault, run};
 use rs_refusal::Refusal;
 use rs_serve::Serve;
 use std::alloc::{AllocGlobal, Global};
@@ -267,10 +268,10 @@ fn serve_address<
     E: Serve,
     W: Write,
 >(rt: &P, engine: &mut E, address: &str, connections: u32, output: &mut W) -> Option<Failure> {
-    let Ok(listener) = TcpListener::bind(rt, address) else {
+    let Ok((listener, port)) = bound(rt, address) else {
         return Some(Failure::CannotListen);
     };
-    match put_parts(output, &[b"listening\n"]) {
+    match say_listening(output, port) {
         Ok(()) => match serve_connections(rt, rt.alloc(), engine, &listener, connections) {
             Ok(()) => None,
             Err(CannotAccept) => Some(Failure::CannotAccept),
