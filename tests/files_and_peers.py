@@ -810,6 +810,42 @@ def a_port_of_the_system_is_told(program):
         os.remove(file)
 
 
+def a_file_that_is_found_damaged_is_told_at_the_end(program):
+    """A REOPEN that is refused 94 is the end's failure, unless a later one is accepted; the file is closed."""
+    for words in (["run"], ["serve", "--listen", "127.0.0.1:0"]):
+        for is_mended in (False, True):
+            file = program.created(DEFINED, b"0 OK 0\n0 OK 0\n")
+            data = bytes_at(file)
+            with started(program, words[0], "--file", file, *words[1:]) as process:
+                with lines_to(process, words[0]) as (send, receive):
+                    send(b"0 REOPEN\n")
+                    expect("REOPEN before", receive(), b"0 OK 0\n")
+                    put(file, bytes([data[PAGE_BYTES] ^ 1]), PAGE_BYTES)
+                    send(b"0 REOPEN\n")
+                    expect("REOPEN", receive(), b"0 ERR 94 damaged file\n")
+                    put(file, data[PAGE_BYTES : PAGE_BYTES + 1], PAGE_BYTES)
+                    if is_mended:
+                        send(b"0 REOPEN\n")
+                        expect("REOPEN after that", receive(), b"0 OK 0\n")
+                    send(SELECTED)
+                    expect("what is answered", receive(), b"0 OK 0\n")
+                expect("the end of %s" % words[0], ended(process), Ended(0, b"", b"") if is_mended else Ended(1, b"", DAMAGED))
+            program.expect(["run", "--file", file], SELECTED, b"0 OK 0\n")
+            os.remove(file)
+
+
+@contextmanager
+def lines_to(process, word):
+    """What sends a line to a run or to a server, and what receives one."""
+    if word == "run":
+        yield process.stdin.write, process.stdout.readline
+    else:
+        expect("what it says first", process.stdout.readline(), b"listening\n")
+        port = int(process.stdout.readline()[len(b"port ") :])
+        with socket.create_connection(("127.0.0.1", port), timeout=LONGEST) as peer:
+            yield peer.sendall, partial(line_sent_to, peer)
+
+
 def a_killed_server_leaves_what_was_saved(program):
     """What was accepted after SAVE is gone, and what was saved is there; where only questions were asked, no byte is another."""
     file = program.created(DEFINED, b"0 OK 0\n0 OK 0\n")
@@ -876,6 +912,7 @@ TESTS = [
     a_server_waits_for_a_descriptor,
     a_server_without_descriptors_ends,
     a_port_of_the_system_is_told,
+    a_file_that_is_found_damaged_is_told_at_the_end,
     a_killed_server_leaves_what_was_saved,
     a_file_that_is_being_written_is_refused,
 ]

@@ -1,5 +1,6 @@
 mod Saying
 mod Ending
 mod Closing
+mod Damage
 mod Reopenings
 mod Dumps

@@ -9,6 +9,7 @@ ghost use Rattle.rs_machine.specs.Served.{Machine};
 ghost use Rattle.rs_pages.specs.declared.pages.TheConstants.{GREATEST_LIMIT};
 ghost use Rattle.rs_server.specs.Disks.{Closes, CreatesFile, ServesAndCloses, ServesFile, failure_of};
 
+use crate::reopened::Reopened;
 use crate::report::Failure;
 use rs_disk::Disk;
 use rs_engine::Engine;
@@ -48,15 +49,17 @@ pub fn serve_disk<D: Disk + Drop, R: Read, W: Write>(
 /// Serves the lines of the input on the output, and closes the file, after a fault too.
 fn serve_and_close<D: Disk + Drop, R: Read, W: Write>(
     alloc: Global,
-    mut engine: Engine<D>,
+    engine: Engine<D>,
     input: &mut R,
     output: &mut W,
 ) -> Result<D, (Option<D>, Failure)>
     ensures { (machine : Machine) → IsOneMachine D.Disk engine machine → ServesAndCloses D.Disk GREATEST_LIMIT machine result
         (R.remaining input.old) (R.remaining input.new) (W.contents output.old) (W.contents output.new) }
 {
-    let outcome = run(alloc, &mut engine, input, output);
-    close_after(engine, failure_after(outcome))
+    let mut reopened = Reopened::new(engine);
+    let outcome = run(alloc, &mut reopened, input, output);
+    let (engine, failure) = reopened.end(failure_after(outcome));
+    close_after(engine, failure)
 }
 
 /// The failure of a service, where there was one.

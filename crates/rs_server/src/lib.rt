@@ -9,6 +9,7 @@ pub mod disks;
 pub mod dumping;
 pub mod laws;
 mod listening;
+mod reopened;
 pub mod report;
 pub mod service;
 pub mod watch;

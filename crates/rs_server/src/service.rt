@@ -15,6 +15,7 @@ use crate::connection::{CannotAccept, serve_connections};
 use crate::disks::{close_after, create_on, failure_after, serve_disk};
 use crate::dumping::dump_on;
 use crate::listening::{bound, say_listening};
+use crate::reopened::Reopened;
 use crate::report::{FAILED, Failure, MISUSE, SUCCESS, failure_to_open, report_failure};
 use crate::watch::{Ended, LineByLine, Tally, Watched, tell_unended};
 use crate::words::{convert, explain_refusal};
@@ -254,8 +255,10 @@ fn serve_file<
         Err(error) => return Some(failure_to_open(error)),
     };
     match Engine::open(rt.alloc(), disk) {
-        Ok(mut engine) => {
-            let failure = serve_address(rt, &mut engine, address, connections, output);
+        Ok(engine) => {
+            let mut reopened = Reopened::new(engine);
+            let failure = serve_address(rt, &mut reopened, address, connections, output);
+            let (engine, failure) = reopened.end(failure);
             failure_in(close_after(engine, failure))
         }
         Err((_, refusal)) => Some(Failure::Refused(refusal)),
