@@ -97,7 +97,8 @@ def an_edit_keeps_others_from_the_file(program):
     file = filled(program)
     with roadseg.edit(file, program.path) as road:
         failed = expect_error(roadseg.Failed, running(program, file=file).execute, "SAVE")
-        expect("what another run is told", failed.said, "roadseg: cannot open file")
+        in_use = "roadseg: cannot open file\nroadseg: %s: in use by another program" % file
+        expect("what another run is told", failed.said, in_use)
         expect_error(roadseg.Failed, roadseg.edit(file, program.path).__enter__)
         expect_error(roadseg.Failed, roadseg.snapshot(file, program.path).__enter__)
         road.execute(LINE % (1, 2))

@@ -31,7 +31,7 @@ from client_speed import SPEED_TESTS, WORK_TESTS
 from client_values import VALUE_TESTS
 from diagrams import DIAGRAM_TESTS
 from document_scripts import DOCUMENT_TESTS
-from files_and_peers import LONGEST, NOT_OPENED, Program, put, serving
+from files_and_peers import LONGEST, NO_FILE, Program, not_opened, put, serving
 from harness import expect, run_tests
 from page_browser import BROWSER_TESTS, PAGE_SPEED_TESTS
 from page_steps import STEP_TESTS
@@ -79,7 +79,7 @@ def files_with_odd_names_are_found(program):
 def what_the_program_says_of_its_file_is_told(program):
     file = program.file()
     for words, status, prepare in (
-        (NOT_OPENED, 1, lambda: None),
+        (not_opened(file, NO_FILE), 1, lambda: None),
         (b"roadseg: ERR 94 damaged file\n", 1, lambda: put(file, bytes(100))),
     ):
         prepare()

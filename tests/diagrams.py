@@ -542,7 +542,7 @@ def the_program_of_diagrams_tells_what_fails(program):
     file = program.created()
     expect("the network", program.run("run", "--file", file, sent=sent).status, 0)
     words = ["--file", file, "--route", "SR12", "--band", "Speed", "speed"]
-    out = program.file("out.svg")
+    out, missing = program.file("out.svg"), program.file("missing")
     expect("a picture in a file", drawn(program, *words, "--out", out).returncode, 0)
     done = drawn(program, *words)
     with open(out, "rb") as svg:
@@ -552,7 +552,10 @@ def the_program_of_diagrams_tells_what_fails(program):
         (["--band", "X", "none"], b"diagram: 21 no such name: 0 SELECT WINDOW(none, SR12)\n"),
         (["--part", "4", "4"], b"diagram: nothing lies from 4.000 to 4.000\n"),
         (["--band", "Pavement", "pavement", "3"], b"diagram: a row of Pavement has no value 3\n"),
-        (["--file", program.file("missing")], b"diagram: roadseg: cannot open file (no reply: the other side has closed)\n"),
+        (
+            ["--file", missing],
+            b"diagram: roadseg: cannot open file\nroadseg: %s: no such file (no reply: the other side has closed)\n" % missing.encode(),
+        ),
         (["--session", "64"], b"diagram: 64 is no session: 0 to 63 are\n"),
     ):
         done = drawn(program, *words, *more)

@@ -95,13 +95,17 @@ SMALL = (
 NO_NAME = b"roadseg: ERR 21 no such name\n"
 NO_MEMORY = b"roadseg: ERR 90 out of memory\n"
 NO_DISK = b"roadseg: ERR 91 disk\n"
-NO_FILE = b"roadseg: cannot open file\n"
 WRITE_FAULT = b"roadseg: write fault\n"
 SAID = {DAMAGED: b"roadseg: ERR 94 damaged file\n", NOT_CLOSED: b"roadseg: ERR 95 file not closed\n"}
 
 ROWS, MORE_ROWS, LONG_ROWS = (2_500, 10_000), (25_000, 100_000), 100_000
 ROUTES = 100
 GROWTH = 8  # of four times the rows: a dump takes at most so many times the time, where in proportion it is four
+
+
+def not_opened(path, why):
+    """What is said of a file that is not opened."""
+    return ("roadseg: cannot open file\nroadseg: %s: %s\n" % (path, why)).encode()
 
 
 class Unexpected(Exception):
@@ -324,8 +328,9 @@ def what_is_no_table_is_refused(program):
 def files_that_are_no_inventory_are_told(program):
     file = network_of(program)
     data = bytes_at(file)
-    expect("no file", program.dump(program.file("none")), Ended(1, b"", NO_FILE))
-    expect("a folder", program.dump(program.folder), Ended(1, b"", NO_FILE))
+    none = program.file("none")
+    expect("no file", program.dump(none), Ended(1, b"", not_opened(none, "no such file")))
+    expect("a folder", program.dump(program.folder), Ended(1, b"", not_opened(program.folder, "a folder")))
     for name, other, answer in (
         ("open", data[:OPEN_FLAG] + b"\1" + data[OPEN_FLAG + 1 :], NOT_CLOSED),
         ("cut", data[:-1], DAMAGED),
@@ -351,13 +356,14 @@ def a_file_is_dumped_under_its_lock(program):
     with program.started("run", "--file", file) as process:
         process.stdin.write(b"0 SAVE\n")
         expect("SAVE", process.stdout.readline(), b"0 OK 0\n")
-        expect("a dump of a file in use", program.dump(file), Ended(1, b"", NO_FILE))
+        in_use = Ended(1, b"", not_opened(file, "in use by another program"))
+        expect("a dump of a file in use", program.dump(file), in_use)
         _, errors = process.communicate(timeout=LONGEST)
         expect("the end of the run", (process.returncode, errors), (0, b""))
     with unchanged(file):
         with program.started("dump", "--file", file) as process:
             process.stdout.read(1)
-            expect("a run over a file that is dumped", program.run("run", "--file", file), Ended(1, b"", NO_FILE))
+            expect("a run over a file that is dumped", program.run("run", "--file", file), in_use)
     expect("a run after that", program.run("run", "--file", file), Ended(0, b"", b""))
 
 

@@ -44,6 +44,7 @@ NEAR = 32  # bytes
 PIECE_PAUSE = 0.001  # seconds between pieces of a line
 COUNT_OF_PAGES = 32  # and of three numbers in page 0: of pages, of the first free one, and of free ones
 FULL = "/dev/full"  # each write to it fails
+NOBODY = 65_534  # the number of a user and of a group with no rights
 OPEN = 5  # files that are open in a server that waits: the streams, the file and the listener
 
 DEFINED = b"0 DEFINE ROUTE A FROM 0 TO 10\n0 DEFINE LINE TABLE pave (surf TEXT(8))\n"
@@ -75,13 +76,24 @@ TRANSLATED = b"0 TRANSLATE A 4 AS ABSOLUTE\n"
 PLACE = b"0 ROW 4.000\n0 OK 1\n"
 
 EXISTS = b"roadseg: file exists\n"
-NOT_OPENED = b"roadseg: cannot open file\n"
-NOT_BOUND = b"roadseg: cannot listen\n"
 NOT_ACCEPTED = b"roadseg: cannot accept\n"
 READ_FAULT = b"roadseg: read fault\n"
 WRITE_FAULT = b"roadseg: write fault\n"
 DAMAGED = b"roadseg: ERR 94 damaged file\n"
 NOT_CLOSED = b"roadseg: ERR 95 file not closed\n"
+NO_FILE, NO_FOLDER, NO_ADDRESS = "no such file", "no such folder", "no address of this machine"
+IN_USE, NO_PERMISSION, A_FOLDER, A_DEVICE = "in use by another program", "no permission", "a folder", "a device, a pipe or a socket"
+REFUSED = "no permission, or refused by the system"
+
+
+def not_opened(path, why):
+    """What is said of a file that is not opened, or not made."""
+    return ("roadseg: cannot open file\nroadseg: %s: %s\n" % (path, why)).encode()
+
+
+def not_bound(address, why):
+    """What is said of an address that is not bound."""
+    return ("roadseg: cannot listen\nroadseg: %s: %s\n" % (address, why)).encode()
 
 
 class Program(NamedTuple):
@@ -95,6 +107,12 @@ class Program(NamedTuple):
 
     def run(self, *words, sent=b""):
         done = subprocess.run([self.path, *words], input=sent, capture_output=True, timeout=LONGEST)
+        return Ended(done.returncode, done.stdout, done.stderr)
+
+    def run_as_nobody(self, *words):
+        """A run that may not do what root alone may."""
+        given = {"user": NOBODY, "group": NOBODY, "extra_groups": []} if os.getuid() == 0 else {}
+        done = subprocess.run([self.path, *words], input=b"", capture_output=True, timeout=LONGEST, check=False, **given)
         return Ended(done.returncode, done.stdout, done.stderr)
 
     def expect(self, words, sent, out, said=b""):
@@ -127,7 +145,9 @@ def a_file_is_created_once(program):
     program.expect(["create", "--file", file], b"", b"", EXISTS)
     expect("the file after that", bytes_at(file), data)
     program.expect(["create", "--file", program.folder], b"", b"", EXISTS)
-    program.expect(["create", "--file", program.file("none/file")], b"", b"", NOT_OPENED)
+    path = program.file("none/file")
+    program.expect(["create", "--file", path], b"", b"", not_opened(path, NO_FOLDER))
+    program.expect(["create", "--file", file + "/file"], b"", b"", not_opened(file + "/file", NO_FOLDER))
 
 
 def a_file_keeps_what_it_was_told(program):
@@ -343,10 +363,24 @@ def index_heights_of(data, row_bytes):
 
 
 def a_missing_file_is_not_opened(program):
-    for path in (program.file(), program.folder, program.file("none/file"), ""):
-        program.expect(["run", "--file", path], DEFINED, b"", NOT_OPENED)
-        program.expect(["serve", "--file", path], b"", b"", NOT_OPENED)
+    for path, why in (
+        (program.file(), NO_FILE),
+        (program.folder, A_FOLDER),
+        (program.file("none/file"), NO_FILE),
+        ("", NO_FILE),
+        (program.file("x" * 300), REFUSED),
+        ("/dev/null", A_DEVICE),
+    ):
+        program.expect(["run", "--file", path], DEFINED, b"", not_opened(path, why))
+        program.expect(["serve", "--file", path], b"", b"", not_opened(path, why))
     expect("files that were made", os.listdir(program.folder), [])
+    file = program.created()
+    os.chmod(file, 0)
+    os.chmod(program.folder, 0o555)
+    path = program.file("new")
+    for words, path, why in ((["run", "--file", file], file, NO_PERMISSION), (["create", "--file", path], path, REFUSED)):
+        expect(" ".join(words) + " without permission", program.run_as_nobody(*words), Ended(1, b"", not_opened(path, why)))
+    os.chmod(program.folder, 0o755)
 
 
 def a_damaged_file_is_refused(program):
@@ -399,8 +433,8 @@ def a_file_in_use_is_not_opened(program):
     with started(program, "run", "--file", file) as process:
         process.stdin.write(DEFINED)
         expect("the first answer", process.stdout.readline(), b"0 OK 0\n")
-        program.expect(["run", "--file", file], SELECTED, b"", NOT_OPENED)
-        program.expect(["serve", "--file", file], b"", b"", NOT_OPENED)
+        program.expect(["run", "--file", file], SELECTED, b"", not_opened(file, IN_USE))
+        program.expect(["serve", "--file", file], b"", b"", not_opened(file, IN_USE))
         program.expect(["create", "--file", file], b"", b"", EXISTS)
         expect("the program that has it", ended(process), Ended(0, b"0 OK 0\n", b""))
     program.expect(["run", "--file", file], SELECTED, b"0 OK 0\n")
@@ -755,11 +789,26 @@ def an_address_in_use_closes_the_file(program):
         other.bind(("127.0.0.1", 0))
         other.listen()
         address = "127.0.0.1:%d" % other.getsockname()[1]
-        program.expect(["serve", "--file", file, "--listen", address], b"", b"", NOT_BOUND)
-        program.expect(["serve", "--file", program.file("none"), "--listen", address], b"", b"", NOT_OPENED)
-    for address in ("nowhere", "", "127.0.0.1", "127.0.0.1:65536"):
-        program.expect(["serve", "--file", file, "--listen", address], b"", b"", NOT_BOUND)
+        program.expect(["serve", "--file", file, "--listen", address], b"", b"", not_bound(address, IN_USE))
+        none = program.file("none")
+        program.expect(["serve", "--file", none, "--listen", address], b"", b"", not_opened(none, NO_FILE))
+    for address in ("nowhere", "", "127.0.0.1", "127.0.0.1:65536", "192.0.2.1:7400"):
+        program.expect(["serve", "--file", file, "--listen", address], b"", b"", not_bound(address, NO_ADDRESS))
     program.expect(["run", "--file", file], SELECTED, ROWS)
+
+
+def a_port_of_the_system_is_told(program):
+    """Where the address has the port 0, a second line tells the port."""
+    for address in ("127.0.0.1:0", "localhost:00"):
+        file = program.created(DEFINED, b"0 OK 0\n0 OK 0\n")
+        with started(program, "serve", "--file", file, "--listen", address) as process:
+            expect("what it says first", process.stdout.readline(), b"listening\n")
+            told = process.stdout.readline()
+            expect("the port: %r" % told, re.fullmatch(rb"port [1-9][0-9]{0,4}\n", told) is not None, True)
+            server = Server(process, int(told[len(b"port ") :]))
+            server.expect_answers(SELECTED, b"0 OK 0\n")
+            server.expect_end()
+        os.remove(file)
 
 
 def a_server_waits_for_a_descriptor(program):
@@ -794,20 +843,6 @@ def a_server_without_descriptors_ends(program):
         expect("the end of the server", ended(server.process), Ended(1, b"", NOT_ACCEPTED))
         expect("how long it waited", time.monotonic() - since > 9, True)
     program.expect(["run", "--file", file], SELECTED, ROWS)
-
-
-def a_port_of_the_system_is_told(program):
-    """Where the address has the port 0, a second line tells the port."""
-    for address in ("127.0.0.1:0", "localhost:00"):
-        file = program.created(DEFINED, b"0 OK 0\n0 OK 0\n")
-        with started(program, "serve", "--file", file, "--listen", address) as process:
-            expect("what it says first", process.stdout.readline(), b"listening\n")
-            told = process.stdout.readline()
-            expect("the port: %r" % told, re.fullmatch(rb"port [1-9][0-9]{0,4}\n", told) is not None, True)
-            server = Server(process, int(told[len(b"port ") :]))
-            server.expect_answers(SELECTED, b"0 OK 0\n")
-            server.expect_end()
-        os.remove(file)
 
 
 def a_file_that_is_found_damaged_is_told_at_the_end(program):
@@ -909,9 +944,9 @@ TESTS = [
     a_hundred_peers_are_served_one_after_another,
     peers_wait_for_their_turn,
     an_address_in_use_closes_the_file,
+    a_port_of_the_system_is_told,
     a_server_waits_for_a_descriptor,
     a_server_without_descriptors_ends,
-    a_port_of_the_system_is_told,
     a_file_that_is_found_damaged_is_told_at_the_end,
     a_killed_server_leaves_what_was_saved,
     a_file_that_is_being_written_is_refused,

@@ -4,6 +4,9 @@ use Rattle.std.specs.Io.KnownBytes.{Appends}
 use Rattle.rs_protocol.specs.declared.stream.Fault.TheVariants.{Read, Write}
 use Rattle.rs_refusal.specs.declared.refusal.Refusal.{Refusal}
 use Rattle.rs_refusal.specs.Refusal.{number_of, words_of}
+use Rattle.rs_server.specs.declared.reasons.Reason.{Reason}
+use Rattle.rs_server.specs.declared.reasons.Reason.TheVariants.{Device, Folder, InUse, NoAddress, NoFile, NoFolder, NoPermission}
+use Rattle.rs_server.specs.declared.reasons.Reason.TheVariants as reasons
 use Rattle.rs_server.specs.declared.report.Failure.{Failure}
 use Rattle.rs_server.specs.declared.report.Failure.TheVariants.{CannotAccept, CannotListen, CannotOpen, FileExists, Refused, Stream}
 
@@ -11,12 +14,26 @@ use Rattle.rs_server.specs.declared.report.Failure.TheVariants.{CannotAccept, Ca
 abbrev pub refusal_line : Refusal → List ℕ
 refusal_line refusal = codes "roadseg: ERR " ++ decimal (number_of refusal) ++ codes " " ++ words_of refusal ++ codes "\n"
 
--- `roadseg: ` and what failed, and an LF
+abbrev pub reason_text : Reason → List ℕ
+reason_text NoFile = codes "no such file"
+reason_text NoFolder = codes "no such folder"
+reason_text NoAddress = codes "no address of this machine"
+reason_text InUse = codes "in use by another program"
+reason_text NoPermission = codes "no permission"
+reason_text Folder = codes "a folder"
+reason_text Device = codes "a device, a pipe or a socket"
+reason_text reasons.Refused = codes "no permission, or refused by the system"
+
+-- `roadseg: `, the file or the address, and what is wrong with it
+abbrev pub place_line : List ℕ → List ℕ → List ℕ
+place_line place words = codes "roadseg: " ++ place ++ codes ": " ++ words ++ codes "\n"
+
+-- `roadseg: ` and what failed, and an LF; of a place a second line
 abbrev pub failure_line : Failure → List ℕ
 failure_line (Refused refusal) = refusal_line refusal
 failure_line FileExists = codes "roadseg: file exists\n"
-failure_line CannotOpen = codes "roadseg: cannot open file\n"
-failure_line CannotListen = codes "roadseg: cannot listen\n"
+failure_line (CannotOpen file why) = codes "roadseg: cannot open file\n" ++ place_line file.now (reason_text why)
+failure_line (CannotListen address why) = codes "roadseg: cannot listen\n" ++ place_line address.now (reason_text why)
 failure_line CannotAccept = codes "roadseg: cannot accept\n"
 failure_line (Stream Read) = codes "roadseg: read fault\n"
 failure_line (Stream Write) = codes "roadseg: write fault\n"

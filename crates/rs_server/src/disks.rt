@@ -19,7 +19,7 @@ use std::alloc::Global;
 use std::io::{Read, Write};
 
 /// Writes the file in which nothing is defined in place of all that the disk holds, and closes it.
-pub fn create_on<D: Disk + Drop>(alloc: Global, disk: D) -> Result<D, (Option<D>, Failure)>
+pub fn create_on<D: Disk + Drop>(alloc: Global, disk: D) -> Result<D, (Option<D>, Failure<'static>)>
     ensures { IsTrue (D.is_honest disk) → CreatesFile D.Disk GREATEST_LIMIT result }
 {
     machine_is_the_only_one::<D>();
@@ -35,7 +35,7 @@ pub fn serve_disk<D: Disk + Drop, R: Read, W: Write>(
     disk: D,
     input: &mut R,
     output: &mut W,
-) -> Result<D, (Option<D>, Failure)>
+) -> Result<D, (Option<D>, Failure<'static>)>
     ensures { IsTrue (D.is_honest disk) → ServesFile D.Disk GREATEST_LIMIT disk result (R.remaining input.old) (R.remaining input.new)
         (W.contents output.old) (W.contents output.new) }
 {
@@ -52,7 +52,7 @@ fn serve_and_close<D: Disk + Drop, R: Read, W: Write>(
     engine: Engine<D>,
     input: &mut R,
     output: &mut W,
-) -> Result<D, (Option<D>, Failure)>
+) -> Result<D, (Option<D>, Failure<'static>)>
     ensures { (machine : Machine) → IsOneMachine D.Disk engine machine → ServesAndCloses D.Disk GREATEST_LIMIT machine result
         (R.remaining input.old) (R.remaining input.new) (W.contents output.old) (W.contents output.new) }
 {
@@ -63,7 +63,7 @@ fn serve_and_close<D: Disk + Drop, R: Read, W: Write>(
 }
 
 /// The failure of a service, where there was one.
-pub(crate) fn failure_after(outcome: Result<End, Fault>) -> Option<Failure>
+pub(crate) fn failure_after(outcome: Result<End, Fault>) -> Option<Failure<'static>>
     ensures { result ≡ failure_of outcome }
 {
     match outcome {
@@ -73,11 +73,11 @@ pub(crate) fn failure_after(outcome: Result<End, Fault>) -> Option<Failure>
 }
 
 /// Closes the file. The failure of its disk is told where there was none before.
-pub(crate) fn close_after<D: Disk + Drop>(
+pub(crate) fn close_after<'a, D: Disk + Drop>(
     engine: Engine<D>,
-    failure: Option<Failure>,
-) -> Result<D, (Option<D>, Failure)>
-    ensures { (machine : Machine) → IsOneMachine D.Disk engine machine → Closes D.Disk GREATEST_LIMIT machine failure result }
+    failure: Option<Failure<'a>>,
+) -> Result<D, (Option<D>, Failure<'a>)>
+    ensures { (machine : Machine) → IsOneMachine D.Disk engine machine → Closes D.Disk GREATEST_LIMIT machine failure.entry result }
 {
     match (engine.close(), failure) {
         (Ok(disk), None) => Ok(disk),

@@ -34,9 +34,9 @@ impl<E> Reopened<E> {
     }
 
     /// The engine, and the first of a failure and of the damage that was found.
-    pub(crate) fn end(self, failure: Option<Failure>) -> (E, Option<Failure>)
+    pub(crate) fn end<'a>(self, failure: Option<Failure<'a>>) -> (E, Option<Failure<'a>>)
         ensures engine { result.0 ≡ self.engine }
-        ensures failure { result.1 ≡ failure_with failure self.is_damaged }
+        ensures failure { result.1 ≡ failure_with failure.entry self.is_damaged }
     {
         (self.engine, with_damage(failure, self.is_damaged))
     }
@@ -81,8 +81,8 @@ fn is_found(reopens: bool, finish: &Finish, before: bool) -> bool
 }
 
 /// The first of a failure and of damage that was found.
-fn with_damage(failure: Option<Failure>, is_damaged: bool) -> Option<Failure>
-    ensures { result ≡ failure_with failure is_damaged }
+fn with_damage<'a>(failure: Option<Failure<'a>>, is_damaged: bool) -> Option<Failure<'a>>
+    ensures { result ≡ failure_with failure.entry is_damaged }
 {
     match failure {
         Some(failure) => Some(failure),

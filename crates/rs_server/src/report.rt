@@ -1,18 +1,21 @@
-//! What the program says of a failure: one line on the errors stream.
+//! What the program says of a failure on the errors stream.
 //!
 //! The status does not depend on that stream: a write to it that fails is ignored.
 
-ghost use Rattle.std.specs.Prelude.{◌≡◌, ◌≢◌};
+ghost use Rattle.std.specs.Prelude.{◌≡◌, ◌≢◌, ◌++◌};
 ghost use Rattle.std.specs.IoError.{error_kind};
 ghost use Rattle.rs_protocol.specs.Puts.{Puts};
-ghost use Rattle.rs_server.specs.Saying.{failure_line, refusal_line, SaysFront};
+ghost use Rattle.rs_server.specs.Saying.{failure_line, place_line, refusal_line, SaysFront};
 
+use crate::reasons::{Reason, why_not_made, why_not_opened};
 use itoa::Buffer;
 use rs_disk::OpenError;
 use rs_protocol::{Fault, put_parts};
 use rs_refusal::Refusal;
+use std::fs::File;
 use std::io;
 use std::io::{ErrorKind, Write};
+use std::rt::Files;
 
 /// The status of a program that did what was asked.
 pub const SUCCESS: u8 = 0;
@@ -25,32 +28,50 @@ pub const MISUSE: u8 = 2;
 
 /// Why the program did not do all that its words ask.
 #[derive(Drop)]
-pub enum Failure {
+pub enum Failure<'a> {
     /// A file was not made, opened, or closed: want of memory, of the disk or of room, a damaged file, or one that was not closed.
     Refused(Refusal),
     /// There is something at the path where a file was to be made.
     FileExists,
-    /// There is no file at the path, another program has it open, or the system refuses it.
-    CannotOpen,
+    /// The file was not opened, or not made.
+    CannotOpen { file: &'a str, why: Reason },
     /// The address was not bound.
-    CannotListen,
+    CannotListen { address: &'a str, why: Reason },
     /// The system lacked descriptors or memory for each connection that was to be accepted.
     CannotAccept,
     /// The input or the output failed.
     Stream(Fault),
 }
 
-/// Why a file was not made or opened, as the program says it.
-pub(crate) fn failure_to_open(error: OpenError) -> Failure {
+/// Why a file was not opened, as the program says it.
+pub(crate) fn failure_to_open<'a, R: Files<File = File>>(
+    rt: &R,
+    file: &'a str,
+    error: OpenError,
+) -> Failure<'a> {
+    let why = why_not_opened(rt, file, error);
+    Failure::CannotOpen { file, why }
+}
+
+/// Why a file was not made, as the program says it.
+pub(crate) fn failure_to_make<'a, R: Files<File = File>>(
+    rt: &R,
+    file: &'a str,
+    error: OpenError,
+) -> Failure<'a> {
     match error {
         OpenError::Exists => Failure::FileExists,
         OpenError::FolderNotSynced => Failure::Refused(Refusal::Disk),
-        _ => Failure::CannotOpen,
+        _ => {
+            let why = why_not_made(rt, file);
+            Failure::CannotOpen { file, why }
+        }
     }
 }
 
-/// Says on the errors stream why the program failed, in one line that begins with `roadseg: `, and gives the status of a failure.
-pub fn report_failure<E: Write>(errors: &mut E, failure: &Failure) -> u8
+/// Says on the errors stream why the program failed, in a line that begins with `roadseg: `, and gives the status of a failure. A second
+/// such line says of a file that was not opened, or of an address that was not bound, which one it is and why.
+pub fn report_failure<E: Write>(errors: &mut E, failure: &Failure<'_>) -> u8
     ensures status { result ≡ FAILED }
     ensures said { SaysFront (failure_line failure.now) (E.contents errors.old) (E.contents errors.new) }
 {
@@ -58,19 +79,45 @@ pub fn report_failure<E: Write>(errors: &mut E, failure: &Failure) -> u8
     FAILED
 }
 
-/// Writes the line of a failure.
-fn say_failure<E: Write>(errors: &mut E, failure: &Failure) -> Result<(), Fault>
+/// Writes the lines of a failure.
+fn say_failure<E: Write>(errors: &mut E, failure: &Failure<'_>) -> Result<(), Fault>
     ensures { Puts result (failure_line failure.now) (E.contents errors.old) (E.contents errors.new) }
 {
     match failure {
         Failure::Refused(refusal) => say_refusal(errors, refusal),
         Failure::FileExists => put_parts(errors, &[b"roadseg: file exists\n"]),
-        Failure::CannotOpen => put_parts(errors, &[b"roadseg: cannot open file\n"]),
-        Failure::CannotListen => put_parts(errors, &[b"roadseg: cannot listen\n"]),
+        Failure::CannotOpen { file, why } => {
+            say_place(errors, b"roadseg: cannot open file\n", file, why.words())
+        }
+        Failure::CannotListen { address, why } => {
+            say_place(errors, b"roadseg: cannot listen\n", address, why.words())
+        }
         Failure::CannotAccept => put_parts(errors, &[b"roadseg: cannot accept\n"]),
         Failure::Stream(Fault::Read) => put_parts(errors, &[b"roadseg: read fault\n"]),
         Failure::Stream(Fault::Write) => put_parts(errors, &[b"roadseg: write fault\n"]),
     }
+}
+
+/// Writes a line, and one that names a file or an address with what is wrong with it.
+fn say_place<'a, E: Write>(
+    errors: &mut E,
+    line: &'a [u8],
+    place: &'a str,
+    words: &'a str,
+) -> Result<(), Fault>
+    ensures { Puts result (line.now ++ place_line place.now words.now) (E.contents errors.old) (E.contents errors.new) }
+{
+    put_parts(
+        errors,
+        &[
+            line,
+            b"roadseg: ",
+            place.as_bytes(),
+            b": ",
+            words.as_bytes(),
+            b"\n",
+        ],
+    )
 }
 
 /// Writes the line of a refusal.

@@ -15,8 +15,11 @@ use crate::connection::{CannotAccept, serve_connections};
 use crate::disks::{close_after, create_on, failure_after, serve_disk};
 use crate::dumping::dump_on;
 use crate::listening::{bound, say_listening};
+use crate::reasons::why_not_bound;
 use crate::reopened::Reopened;
-use crate::report::{FAILED, Failure, MISUSE, SUCCESS, failure_to_open, report_failure};
+use crate::report::{
+    FAILED, Failure, MISUSE, SUCCESS, failure_to_make, failure_to_open, report_failure,
+};
 use crate::watch::{Ended, LineByLine, Tally, Watched, tell_unended};
 use crate::words::{convert, explain_refusal};
 use clap::Error;
@@ -136,15 +139,22 @@ fn do_it<
 }
 
 /// Makes a file in which nothing is defined, and syncs its folder first, so that the file is there after a power cut (91).
-fn create_file<P: AllocGlobal + Files<File = File>>(rt: &P, file: &str) -> Option<Failure> {
+fn create_file<'a, P: AllocGlobal + Files<File = File>>(
+    rt: &P,
+    file: &'a str,
+) -> Option<Failure<'a>> {
     match FileDisk::create_synced(rt, file) {
         Ok(disk) => failure_in(create_on(rt.alloc(), disk)),
-        Err(error) => Some(failure_to_open(error)),
+        Err(error) => Some(failure_to_make(rt, file, error)),
     }
 }
 
 /// Serves the input on the output over a disk in memory, in which nothing is defined at first.
-fn run_in_memory<R: Read, W: Write>(alloc: Global, input: &mut R, output: &mut W) -> Option<Failure>
+fn run_in_memory<R: Read, W: Write>(
+    alloc: Global,
+    input: &mut R,
+    output: &mut W,
+) -> Option<Failure<'static>>
     ensures { Runs result (R.remaining input.old) (R.remaining input.new) (W.contents output.old) (W.contents output.new) }
 {
     machine_is_the_only_one::<MemoryDisk>();
@@ -155,15 +165,15 @@ fn run_in_memory<R: Read, W: Write>(alloc: Global, input: &mut R, output: &mut W
 }
 
 /// Serves the input on the output over a file, and closes it.
-fn run_file<P: AllocGlobal + Files<File = File>, R: Read, W: Write>(
+fn run_file<'a, P: AllocGlobal + Files<File = File>, R: Read, W: Write>(
     rt: &P,
-    file: &str,
+    file: &'a str,
     input: &mut R,
     output: &mut W,
-) -> Option<Failure> {
+) -> Option<Failure<'a>> {
     match FileDisk::open(rt, file) {
         Ok(disk) => failure_in(serve_disk(rt.alloc(), disk, input, output)),
-        Err(error) => Some(failure_to_open(error)),
+        Err(error) => Some(failure_to_open(rt, file, error)),
     }
 }
 
@@ -199,14 +209,14 @@ fn run_watched<P: AllocGlobal + Files<File = File>, R: Read, W: Write, E: Write>
 }
 
 /// Serves the input on the output over memory or over a file, and counts the replies.
-fn serve_watched<P: AllocGlobal + Files<File = File>, R: Read, W: Write>(
+fn serve_watched<'a, P: AllocGlobal + Files<File = File>, R: Read, W: Write>(
     rt: &P,
-    file: Option<&str>,
+    file: Option<&'a str>,
     bails: bool,
     input: &mut R,
     output: &mut W,
     tally: &mut Tally,
-) -> Option<Failure> {
+) -> Option<Failure<'a>> {
     let has_refused = Cell::new(false);
     let mut watched = Watched::new(output, &has_refused, tally);
     if bails {
@@ -217,12 +227,12 @@ fn serve_watched<P: AllocGlobal + Files<File = File>, R: Read, W: Write>(
 }
 
 /// Serves the input on the output over a file, where there is one, and else over memory.
-fn run_on<P: AllocGlobal + Files<File = File>, R: Read, W: Write>(
+fn run_on<'a, P: AllocGlobal + Files<File = File>, R: Read, W: Write>(
     rt: &P,
-    file: Option<&str>,
+    file: Option<&'a str>,
     input: &mut R,
     output: &mut W,
-) -> Option<Failure> {
+) -> Option<Failure<'a>> {
     match file {
         Some(file) => run_file(rt, file, input, output),
         None => run_in_memory(rt.alloc(), input, output),
@@ -241,18 +251,25 @@ fn dump_file<P: AllocGlobal + Files<File = File>, W: Write, E: Write>(
 {
     match FileDisk::open(rt, file) {
         Ok(disk) => dump_on(rt.alloc(), disk, wanted, output, errors),
-        Err(error) => end_with(errors, Some(failure_to_open(error))),
+        Err(error) => end_with(errors, Some(failure_to_open(rt, file, error))),
     }
 }
 
 /// Serves so many connections over a file, one after another, and closes it.
 fn serve_file<
+    'a,
     P: AllocGlobal + Clock + Files<File = File> + Net<Listener = TcpListener, Stream = TcpStream>,
     W: Write,
->(rt: &P, file: &str, address: &str, connections: u32, output: &mut W) -> Option<Failure> {
+>(
+    rt: &P,
+    file: &'a str,
+    address: &'a str,
+    connections: u32,
+    output: &mut W,
+) -> Option<Failure<'a>> {
     let disk = match FileDisk::open(rt, file) {
         Ok(disk) => disk,
-        Err(error) => return Some(failure_to_open(error)),
+        Err(error) => return Some(failure_to_open(rt, file, error)),
     };
     match Engine::open(rt.alloc(), disk) {
         Ok(engine) => {
@@ -267,12 +284,23 @@ fn serve_file<
 
 /// Binds the address, says so on the output, and serves so many connections.
 fn serve_address<
+    'a,
     P: AllocGlobal + Clock + Net<Listener = TcpListener, Stream = TcpStream>,
     E: Serve,
     W: Write,
->(rt: &P, engine: &mut E, address: &str, connections: u32, output: &mut W) -> Option<Failure> {
-    let Ok((listener, port)) = bound(rt, address) else {
-        return Some(Failure::CannotListen);
+>(
+    rt: &P,
+    engine: &mut E,
+    address: &'a str,
+    connections: u32,
+    output: &mut W,
+) -> Option<Failure<'a>> {
+    let (listener, port) = match bound(rt, address) {
+        Ok(bound) => bound,
+        Err(error) => {
+            let why = why_not_bound(&error);
+            return Some(Failure::CannotListen { address, why });
+        }
     };
     match say_listening(output, port) {
         Ok(()) => match serve_connections(rt, rt.alloc(), engine, &listener, connections) {
@@ -284,8 +312,8 @@ fn serve_address<
 }
 
 /// What failed, if anything did.
-fn failure_in<D: Drop>(ended: Result<D, (Option<D>, Failure)>) -> Option<Failure>
-    ensures { result ≡ told_of ended }
+fn failure_in<'a, D: Drop>(ended: Result<D, (Option<D>, Failure<'a>)>) -> Option<Failure<'a>>
+    ensures { result ≡ told_of ended.entry }
 {
     match ended {
         Ok(_) => None,
@@ -294,8 +322,8 @@ fn failure_in<D: Drop>(ended: Result<D, (Option<D>, Failure)>) -> Option<Failure
 }
 
 /// Says what failed, if anything did, and gives the exit status.
-fn end_with<E: Write>(errors: &mut E, failure: Option<Failure>) -> u8
-    ensures ends { EndsWith failure result (E.contents errors.old) (E.contents errors.new) }
+fn end_with<E: Write>(errors: &mut E, failure: Option<Failure<'_>>) -> u8
+    ensures ends { EndsWith failure.entry result (E.contents errors.old) (E.contents errors.new) }
     ensures quiet { result ≡ SUCCESS → Keeps (E.contents errors.old) (E.contents errors.new) }
 {
     match failure {
@@ -313,7 +341,7 @@ fn refuse_words<E: Write>(error: &Error, errors: &mut E) -> u8
 }
 
 /// Shows the help or the version that was asked for. It is a write fault where it is not out whole.
-fn show_help<W: Write, D: Display + Drop>(help: D, output: &mut W) -> Option<Failure>
+fn show_help<W: Write, D: Display + Drop>(help: D, output: &mut W) -> Option<Failure<'static>>
     ensures failure { (result ≡ None) ⊎ (result ≡ Some (Failure.Stream Fault.Write)) }
     ensures whole { result ≡ None → IfSome (D.output help) (Appends (W.contents output.old) (W.contents output.new)) }
 {
