@@ -881,6 +881,19 @@ def lines_to(process, word):
             yield peer.sendall, partial(line_sent_to, peer)
 
 
+def a_file_that_may_not_grow_is_refused(program):
+    """Under a limit on the size of files the system ends the program by a signal; where that is ignored, the line is refused 91."""
+    rows = b"".join(wide_row(place) for place in range(200))
+    for command, wanted in (("", (-signal.SIGXFSZ, b"", False)), ("trap '' XFSZ; ", (1, b"roadseg: ERR 91 disk\n", True))):
+        file = program.created(WIDE_ROUTE + WIDE_TABLE, b"0 OK 0\n0 OK 0\n")
+        script = command + 'ulimit -f 32; exec "$0" run --file "$1"'
+        sent = rows + b"0 SAVE\n" + SELECTED
+        done = subprocess.run(["bash", "-c", script, program.path, file], input=sent, capture_output=True, timeout=LONGEST, check=False)
+        replies = done.stdout.splitlines()
+        expect("what comes with %r" % command, (done.returncode, done.stderr, b"0 ERR 91 disk" in replies), wanted)
+        os.remove(file)
+
+
 def a_killed_server_leaves_what_was_saved(program):
     """What was accepted after SAVE is gone, and what was saved is there; where only questions were asked, no byte is another."""
     file = program.created(DEFINED, b"0 OK 0\n0 OK 0\n")
@@ -948,6 +961,7 @@ TESTS = [
     a_server_waits_for_a_descriptor,
     a_server_without_descriptors_ends,
     a_file_that_is_found_damaged_is_told_at_the_end,
+    a_file_that_may_not_grow_is_refused,
     a_killed_server_leaves_what_was_saved,
     a_file_that_is_being_written_is_refused,
 ]
