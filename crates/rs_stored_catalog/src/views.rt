@@ -102,10 +102,11 @@ fn check_query(
     Err(as_damage(refusal))
 }
 
-// Want of memory stays what it is; any other refusal says that the file is damaged.
+// Want of memory stays what it is, and comes of nothing else; any other refusal says that the file is damaged.
 fn as_damage(refusal: Refusal) -> Refusal
     ensures either { (result ≡ Refusal.OutOfMemory) ⊎ (result ≡ Refusal.DamagedFile) }
     ensures damage { result ≡ Refusal.DamagedFile → refusal ≢ Refusal.OutOfMemory }
+    ensures want { result ≡ Refusal.OutOfMemory → refusal ≡ Refusal.OutOfMemory }
 {
     match refusal {
         Refusal::OutOfMemory => Refusal::OutOfMemory,
