@@ -1,7 +1,8 @@
 """`roadseg csv`, `roadseg explain`, `run --bail` and `run --report`; scripts/test.sh runs it.
 
 The module `csv` of Python reads the same records as the program, and the lines that it gives have to be those of the program, byte
-by byte: of a hundred thousand pseudo-random records, of which some are left out, each of which is told.
+by byte: of a hundred thousand pseudo-random records, of which some are left out, each of which is told. Measures and numbers as offices
+write them are reckoned by Python's decimal numbers.
 """
 
 import csv
@@ -12,7 +13,7 @@ import re
 import subprocess
 import sys
 import tempfile
-from decimal import Decimal
+from decimal import ROUND_HALF_EVEN, Decimal
 
 import refusing
 
@@ -49,9 +50,11 @@ def some_text(chance):
 
 def some_position(chance, thousandths):
     """A position in one of the methods of location, with blanks where a line may have them."""
-    way = chance.randrange(8)
+    way = chance.randrange(10)
     if way < 4:
         return "%.3f" % (thousandths / 1000)
+    if way > 7:
+        return office_measure(chance, thousandths)
     blank = chance.choice(["", "", " "])
     if way == 4:
         return blank + "%d" % (thousandths // 1000) + blank
@@ -62,13 +65,35 @@ def some_position(chance, thousandths):
     return "@Exit_%d%s%s%s%.2f" % (chance.randrange(30), blank, chance.choice("+-"), blank, thousandths / 10**6)
 
 
+def office_measure(chance, thousandths):
+    """A measure as an office may write it: a sign, leading zeros, no digit before the point or after it, more decimals."""
+    whole, part = divmod(thousandths, 1000)
+    digits = str(whole) if whole or chance.randrange(2) else ""
+    decimals = "%03d" % part
+    way = chance.randrange(4)
+    if way == 0:
+        decimals += "0" * chance.randrange(5)
+    elif way == 1:
+        decimals += "".join(chance.choice("0459") for _ in range(chance.randrange(25)))
+    elif way == 2:
+        decimals = decimals.rstrip("0")
+    else:
+        decimals = ""
+        digits = digits or "0"
+    point = "." if decimals or chance.randrange(2) else ""
+    sign, zeros = chance.choice(["", "", "+", "-"]), chance.choice(["", "", "0", "0000000"])
+    blank = chance.choice(["", " ", "  "])
+    return blank + sign + (zeros if digits else "") + (digits or "" if decimals else digits or "0") + point + decimals + blank
+
+
 def some_record(chance, is_measured=False):
     """The fields of a record, in the order route, from, to, surface, year; some of them are wrong."""
     begin = chance.randrange(0, 900_000)
     end = begin + chance.randrange(1, 90_000)
     ends = ["%.3f" % (place / 1000) if is_measured else some_position(chance, place) for place in (begin, end)]
     fields = ["SR%d" % chance.randrange(1, 40), *ends]
-    year = chance.choice(["", str(chance.randrange(1900, 2100)), "-%d" % chance.randrange(10)])
+    number = chance.randrange(1900, 2100)
+    year = chance.choice(["", str(number), "-%d" % chance.randrange(10), "%d.0" % number, "+%d." % number, "0%d.000" % number])
     fields += [some_text(chance), year]
     if chance.randrange(50) == 0:
         place = chance.choice([0, 1, 2, 4])
@@ -76,34 +101,85 @@ def some_record(chance, is_measured=False):
             0: chance.choice(["9!", "", "SELECT", "x" * 33]),
             1: chance.choice(["1.2.3", "1.2345", "101%", "1000000", "@", "@B+"]),
             2: chance.choice(["", "-1", "@A*2", "5%+1"]),
-            4: chance.choice(["x", "1.5", "9" * 13, "+1", "1 2"]),
+            4: chance.choice(["x", "1.5", "9" * 13, "+ 1", "1 2", "1000000000001.0", "-.50", "1e3", "."]),
         }[place]
     return fields
 
 
-def line_of(fields, session=0):
-    """The line of a record, or which field of it is wrong: its place and the words for it."""
+COUNTS = {4: "four", 5: "five", 6: "six", 7: "seven", 8: "eight", 9: "nine"}
+
+
+def shown(field):
+    """A field as it is shown in what is told."""
+    data = field.encode()
+    return field if len(data) <= 60 else data[:60].decode(errors="ignore") + ".."
+
+
+def measure_of(field, rounds):
+    """The measure that an office wrote, in the text of a line, and whether it was rounded; or the words for what is wrong."""
+    field = field.strip(" ")
+    if not re.fullmatch(NUMBER, field):
+        return "is not a position"
+    exact = Decimal(field)
+    if field.startswith("-"):
+        return "is below 0"
+    nearest = exact.quantize(Decimal("0.001"), ROUND_HALF_EVEN)
+    if exact >= 1_000_000 or rounds and nearest >= 1_000_000:
+        return "is past 999999.999"
+    if exact == nearest or rounds:
+        return ("%.3f" % nearest, exact != nearest)
+    count = len(field.partition(".")[2].rstrip("0"))
+    return "has %s decimals" % COUNTS.get(count, count)
+
+
+def position_of(field, rounds):
+    """The position that a field says, in the text of a line, and whether it was rounded; or the words for what is wrong."""
+    if re.fullmatch(POSITION, field.replace(" ", "")) and not re.search(r"[0-9.] +[0-9.]", field):
+        return (field.replace(" ", ""), False)
+    return measure_of(field, rounds)
+
+
+def number_of(field):
+    """The text of the number that a field says, or the words for what is wrong."""
+    if re.fullmatch(r" *-? *[0-9]+ *", field) and abs(int(field.replace(" ", ""))) <= 10**12:
+        return (field.replace(" ", ""),)
+    if not re.fullmatch(NUMBER, field.strip(" ")):
+        return "is not a number"
+    exact = Decimal(field.strip(" "))
+    if abs(exact) >= 10**12 + 1:
+        return "is past 10^12"
+    if exact != int(exact):
+        return "is not a whole number"
+    return (("-" if "-" in field else "") + str(abs(int(exact))),)
+
+
+def line_of(fields, session=0, rounds=False):
+    """The line of a record and how many of its measures were rounded, or which field of it is wrong: its place and the words for it."""
     route, begin, end, surface, year = fields
     if not re.fullmatch("[A-Za-z][A-Za-z0-9_]{0,31}", route) or route == "SELECT":
-        return (0, "not a name")
-    begin, end = begin.replace(" ", ""), end.replace(" ", "")
-    for place, position in ((1, begin), (2, end)):
-        if not re.fullmatch(POSITION, position):
-            return (place, "not a position")
-    if year and not re.fullmatch(r"-?[0-9]+(\.[0-9]+)?", year):
-        return (4, "not a number")
-    if "." in year:
-        return (4, "not a whole number")
-    if year and abs(int(year)) > 10**12:
-        return (4, "number past 10^12")
+        return (0, told_of(route, "is not a name"))
+    positions = []
+    for place, field in ((1, begin), (2, end)):
+        position = position_of(field, rounds)
+        if isinstance(position, str):
+            return (place, told_of(field, position))
+        positions.append(position)
+    number = number_of(year) if year else ("NULL",)
+    if isinstance(number, str):
+        return (4, told_of(year, number))
     text = "'%s'" % surface.replace("'", "''") if surface else "NULL"
-    return "%d INSERT INTO pavement ON %s FROM %s TO %s VALUES (%s, %s)\n" % (
-        session, route, begin, end, text, year or "NULL",
-    )
+    (begin, first), (end, last) = positions
+    return "%d INSERT INTO pavement ON %s FROM %s TO %s VALUES (%s, %s)\n" % (session, route, begin, end, text, number[0]), first + last
+
+
+def told_of(field, words):
+    """What is told of a field."""
+    return "%s %s" % (shown(field) if field else "an empty field", words)
 
 
 MEASURE = r"[0-9]{1,6}(\.[0-9]{1,3})?"
 POSITION = r"%s|[0-9]{1,2}(\.[0-9]+)? *%%|@[A-Za-z][A-Za-z0-9_]*([+-]%s)?" % (MEASURE, MEASURE)
+NUMBER = r"[+-]?([0-9]+\.?[0-9]*|\.[0-9]+)"
 HEADER = ["road", "beg_mp", "end_mp", "surface", "built"]
 WORDS = ["csv", DEFINE, "--route", "road", "--from", "beg_mp", "--to", "end_mp", "--column", "year=built"]
 
@@ -117,31 +193,70 @@ def csv_of(records, ending, header=HEADER):
     return text.getvalue().encode()
 
 
-def wanted_of(data):
+def wanted_of(data, rounds=False):
     """What Python reads in the text: the lines of its records, and what is told."""
-    lines, told = ["0 %s\n" % DEFINE], []
+    lines, told, rounded = ["0 %s\n" % DEFINE], [], 0
     records = csv.reader(io.StringIO(data.decode("utf-8-sig"), newline=""))
     next(records)
     for number, fields in enumerate((fields for fields in records if fields), 1):
-        line = line_of(fields)
-        if isinstance(line, str):
-            lines.append(line)
+        line = line_of(fields, rounds=rounds)
+        if isinstance(line[0], str):
+            lines.append(line[0])
+            rounded += line[1]
         else:
             told.append("roadseg: record %d, %s: %s\n" % (number, HEADER[line[0]], line[1]))
-    return "".join(lines).encode(), "".join(told).encode()
+    count = "roadseg: measures rounded: %d\n" % rounded if rounds else ""
+    return "".join(lines).encode(), "".join(told).encode(), count.encode()
 
 
 def check_random():
-    """Pseudo-random records, with both line ends and with a byte order mark."""
-    for count, ending, mark, seed in ((RECORDS, "\n", b"", 1), (2_000, "\r\n", b"\xef\xbb\xbf", 2), (0, "\n", b"", 3)):
+    """Pseudo-random records, with both line ends and with a byte order mark, and with measures rounded."""
+    for count, ending, mark, seed, rounds in (
+        (RECORDS, "\n", b"", 1, False), (2_000, "\r\n", b"\xef\xbb\xbf", 2, False), (0, "\n", b"", 3, False), (20_000, "\n", b"", 7, True),
+    ):
         chance = random.Random(seed)
         data = mark + csv_of([some_record(chance) for _ in range(count)], ending)
-        lines, told = wanted_of(data)
-        status, out, errors = run(*WORDS, data=data)
-        expect("what is told of %d records" % count, errors, told)
+        lines, told, rounded = wanted_of(data, rounds)
+        status, out, errors = run(*WORDS, *(["--round"] if rounds else []), data=data)
+        expect("what is told of %d records" % count, errors, told + rounded)
         expect("the lines of %d records" % count, out, lines)
         expect("the status over %d records" % count, status, 1 if told else 0)
     return RECORDS
+
+
+def check_numbers():
+    """Measures and numbers as offices write them, one by one."""
+    head = b"route,from,to,surface,year\n"
+    for begin, end, year, line in (
+        (".5", "1.", "2012.0", "FROM 0.500 TO 1.000 VALUES (NULL, 2012)"),
+        ("+1", "1.1000", "+7", "FROM 1.000 TO 1.100 VALUES (NULL, 7)"),
+        ("0.0000", "+.75", "-3.", "FROM 0.000 TO 0.750 VALUES (NULL, -3)"),
+        ("0", "000000999999.99900", "1000000000000.0", "FROM 0 TO 999999.999 VALUES (NULL, 1000000000000)"),
+    ):
+        data = head + ("SR1,%s,%s,,%s\n" % (begin, end, year)).encode()
+        expect(line, run("csv", DEFINE, "--no-define", data=data), (0, ("0 INSERT INTO pavement ON SR1 %s\n" % line).encode(), b""))
+    for measure, words in (
+        ("2.1622", "has four decimals"), ("2.16225", "has five decimals"), ("0.1234567890", "has nine decimals"), (".30000000000000004", "has 17 decimals"),
+        ("-1", "is below 0"), ("-0.0", "is below 0"), ("1000000", "is past 999999.999"), ("1000000.00001", "is past 999999.999"), ("1e3", "is not a position"),
+        (".", "is not a position"), ("+", "is not a position"), ("1..2", "is not a position"), ("+ 1", "is not a position"), ("1_0", "is not a position"),
+        ("é" * 70, "is not a position"),
+    ):
+        got = run("csv", DEFINE, "--no-define", data=head + ("SR1,0,%s,a,1\n" % measure).encode())
+        expect(measure, got, (1, b"", ("roadseg: record 1, to: %s %s\n" % (shown(measure), words)).encode()))
+    for measure, rounded, count in (
+        ("2.1622", "2.162", 1), ("2.1625", "2.162", 1), ("2.1635", "2.164", 1), ("2.16250000001", "2.163", 1), ("2.1624999", "2.162", 1), ("0.0005", "0.000", 1),
+        ("0.00051", "0.001", 1), ("1.9995", "2.000", 1), ("1.1000", "1.100", 0), ("999999.9994", "999999.999", 1), ("2.16", "2.16", 0),
+    ):
+        got = run("csv", POINTS, "--no-define", "--round", data=("route,at,year\nSR1,%s,\n" % measure).encode())
+        line = "0 INSERT INTO crash ON SR1 AT %s VALUES (NULL)\n" % rounded
+        expect("%s, rounded" % measure, got, (0, line.encode(), b"roadseg: measures rounded: %d\n" % count))
+    got = run("csv", POINTS, "--no-define", "--round", data=b"route,at,year\nSR1,999999.9995,\n")
+    told = b"roadseg: record 1, at: 999999.9995 is past 999999.999\nroadseg: measures rounded: 0\n"
+    expect("rounded past the greatest", got, (1, b"", told))
+    data = b"route,from,to,surface,year\nSR2,1.00004,2.00006,c,3\nSR2,5,9.5001,a,1\n"
+    status, out, errors = run("csv", DEFINE, "--routes", "--round", data=data)
+    expect("the count with --routes", (status, errors), (0, b"roadseg: measures rounded: 3\n"))
+    expect("a rounded route", b"0 DEFINE ROUTE SR2 FROM 1.000 TO 9.500\n" in out, True)
 
 
 def check_fields():
@@ -160,10 +275,11 @@ def check_fields():
         (b"SR1,0,1,a", "year: no such field"),
         (b'SR1,0,1,"a\nb",1', "surface: not text"),
         (b"SR1,0,1,\xff,1", "surface: not text"),
-        (b'SR1,0,1,a,""', "year: not a number"),
-        (b",0,1,a,1", "route: not a name"),
-        (b"SR1,0,+1,a,1", "to: not a position"),
-        (b"SR1,0,1,a,1;", "year: not a number"),
+        (b'SR1,0,1,a,""', "year: an empty field is not a number"),
+        (b",0,1,a,1", "route: an empty field is not a name"),
+        (b"I-95,0,1,a,1", "route: I-95 is not a name"),
+        (b"SR1,0,1 2,a,1", "to: 1 2 is not a position"),
+        (b"SR1,0,1,a,1;", "year: 1; is not a number"),
     ):
         got = run("csv", DEFINE, "--no-define", data=head + record + b"\n")
         expect(repr(record), got, (1, b"", ("roadseg: record 1, %s\n" % told).encode()))
@@ -184,13 +300,13 @@ def note_of(number, fields):
     """What is made of a record of notes: its line, or what is told."""
     if len(fields) > len(NOTE_COLUMNS):
         return "roadseg: record %d: more fields than the header\n" % number
-    for place, (name, wrong) in enumerate(zip(NOTE_COLUMNS, ("not a name", "not a position", ""))):
+    for place, (name, wrong) in enumerate(zip(NOTE_COLUMNS, ("is not a name", "is not a position", ""))):
         if place >= len(fields):
             return "roadseg: record %d, %s: no such field\n" % (number, name)
         if re.search(r"[\r\n]", fields[place]):
             return "roadseg: record %d, %s: not text\n" % (number, name)
         if not re.fullmatch(("[A-Za-z][A-Za-z0-9_]*", "1", ".*")[place], fields[place]):
-            return "roadseg: record %d, %s: %s\n" % (number, name, wrong)
+            return "roadseg: record %d, %s: %s\n" % (number, name, told_of(fields[place], wrong))
     return "0 INSERT INTO notes ON %s AT 1 VALUES (%s)\n" % (fields[0], "'%s'" % fields[2] if fields[2] else "NULL")
 
 
@@ -232,7 +348,7 @@ def check_loading():
     """The lines are accepted by `run`."""
     chance = random.Random(4)
     records = [some_record(chance, is_measured=True) for _ in range(3_000)]
-    records = [fields for fields in records if isinstance(line_of(fields), str) and len(fields[3].encode()) <= 12]
+    records = [fields for fields in records if isinstance(line_of(fields)[0], str) and len(fields[3].encode()) <= 12]
     status, lines, _ = run(*WORDS, "--routes", data=csv_of(records, "\n"))
     expect("the status", status, 0)
     replies = run("run", data=lines)[1].splitlines()
@@ -292,10 +408,10 @@ def check_refused_growths():
     """Whichever growth is refused, a front of the lines is out, and want of memory is told."""
     chance = random.Random(6)
     records = [some_record(chance) for _ in range(20)]
-    data = csv_of([fields for fields in records if isinstance(line_of(fields), str)], "\n")
+    data = csv_of([fields for fields in records if isinstance(line_of(fields)[0], str)], "\n")
     with tempfile.TemporaryDirectory() as folder:
         library = refusing.build(folder)
-        for words in (WORDS, [*WORDS, "--routes"], ["explain"]):
+        for words in (WORDS, [*WORDS, "--routes", "--round"], ["explain"]):
             whole = run(*words, data=data)[1]
             for number in range(1, 101):
                 settings = dict(os.environ, LD_PRELOAD=library, **refusing.Refusal(growth=number).settings())
@@ -310,6 +426,7 @@ def check_refused_growths():
 def main():
     try:
         records = check_random()
+        check_numbers()
         check_fields()
         check_quotes()
         check_words()

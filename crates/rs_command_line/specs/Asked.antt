@@ -23,6 +23,7 @@ pub record CsvSaid : Type 0 where
   pub columns : List Text
   pub omits_definition : Bool
   pub defines_routes : Bool
+  pub rounds : Bool
 
 -- What is asked, with its texts and its number: a file is made, lines are answered over memory or over a file, CSV is made into
 -- lines, the lines that rebuild a file or a table of it are written, with its rows or without, a refusal is explained, or so many
@@ -80,6 +81,7 @@ asked_by_csv rows = Some (converts (record {
   columns = unwrap_or (all_of (codes "column") rows) [];
   omits_definition = flag_in (codes "no-define") rows;
   defines_routes = flag_in (codes "routes") rows;
+  rounds = flag_in (codes "round") rows;
 }))
 
 abbrev pub asked_by_dump : List Row → Option Said
@@ -120,6 +122,7 @@ csv_said words = record {
   columns = map (λ t. t.now) words.columns.items;
   omits_definition = words.omits_definition;
   defines_routes = words.defines_routes;
+  rounds = words.rounds;
 }
 
 -- what an answer says is asked

@@ -39,6 +39,8 @@ pub struct CsvWords<'a> {
     pub omits_definition: bool,
     /// Whether `--routes` is given.
     pub defines_routes: bool,
+    /// Whether `--round` is given.
+    pub rounds: bool,
 }
 
 /// What the words ask.
@@ -169,6 +171,7 @@ fn asked_of_csv<'a>(alloc: Global, given: &ArgMatches<'a>) -> Result<Asked<'a>, 
         columns,
         omits_definition: has_flag(given, "no-define"),
         defines_routes: has_flag(given, "routes"),
+        rounds: has_flag(given, "round"),
     }))
 }
 
@@ -308,6 +311,11 @@ fn csv_command<'a>(alloc: Global) -> Result<Command<'a>, AllocError>
             alloc,
             "routes",
             "Define the routes too, each from the least to the greatest measure met; the lines wait in memory for the end of the input",
+        ))?
+        .arg(flag(
+            alloc,
+            "round",
+            "Take measures with more than three decimals to the nearest thousandth, of two the even one, and say of how many at the end",
         ))
 }
 

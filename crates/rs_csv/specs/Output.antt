@@ -57,6 +57,7 @@ pub record IsPlanOf (wanted : Wanted) (table : CommandTree) (header : List (List
   pub named : IsName plan.table.bytes
   pub some : 0 < length plan.columns.items
   pub session_is : plan.session ≡ wanted.session
+  pub rounds_is : plan.rounds ≡ wanted.rounds
   pub in_range : wanted.session < 64
 
 -- Lines of the session, each with its LF, over records in their order: each record has its INSERT, or is left out where something is

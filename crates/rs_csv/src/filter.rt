@@ -8,7 +8,7 @@ ghost use Rattle.rs_protocol.specs.Puts.{PutsBut};
 ghost use Rattle.rs_syntax.specs.Tree.{CommandTree};
 ghost use Rattle.rs_csv_lines.specs.declared.plan.Plan.{Plan};
 ghost use Rattle.rs_csv.specs.Cutting.{IsBatchOf, IsBetween, text_of};
-ghost use Rattle.rs_csv.specs.Output.{Ends, GoesFar, GoesOn, IsAsked, IsPlanOf, IsQuiet, Makes, SendsMore, SoFar, TakesHead, TakesInput, TakesMore, TakesRest, held_texts, table_of};
+ghost use Rattle.rs_csv.specs.Output.{Ends, EndsTaken, GoesFar, GoesOn, IsAsked, IsPlanOf, IsQuiet, Makes, SendsMore, SoFar, TakesHead, TakesInput, TakesMore, TakesRest, held_texts, table_of};
 ghost use Rattle.rs_csv.specs.Reading.{ReadsAll};
 
 use crate::batch::{Batch, Taken};
@@ -17,7 +17,7 @@ use crate::head::{is_mark, read_head};
 use crate::header::make_plan;
 use crate::held::write_rest;
 use crate::made::{Made, push_line, take_record};
-use crate::tell::tell_long_record;
+use crate::tell::{tell_long_record, tell_rounded};
 use csv::{ByteRecord, ReaderBuilder};
 use rs_csv_lines::Plan;
 use rs_protocol::{Fault, put_parts};
@@ -49,6 +49,8 @@ pub struct Wanted<'a> {
     pub defines_table: bool,
     /// Whether lines that define the routes are written.
     pub defines_routes: bool,
+    /// Whether measures are taken to the nearest thousandth, which is told.
+    pub rounds: bool,
 }
 
 /// Why not all of the input was read.
@@ -491,7 +493,25 @@ impl Filter<'_> {
     }
 }
 
-/// Writes the lines of a CSV, and says whether something was told and left out.
+// Writes what waits, and tells how many measures were rounded, where they are.
+fn end_lines<W: Write, E: Write>(
+    job: &Job<'_>,
+    progress: &mut Progress,
+    output: &mut W,
+    errors: &mut E,
+) -> Result<bool, Stop>
+    ensures wrote { EndsTaken job.now.wanted (table_of job.now.definition) result progress.old (W.contents output.old) (W.contents output.new) }
+    ensures told { IfOk result (λ told. told ≡ false → progress.old.made.has_told ≡ false) }
+    ensures quiet { result ≡ Ok false → job.now.wanted.rounds ≡ false → Keeps (E.contents errors.old) (E.contents errors.new) }
+{
+    let result = write_rest(job, progress, output, errors);
+    if job.wanted.rounds && result.is_ok() {
+        tell_rounded(errors, progress.made.rounded);
+    }
+    result
+}
+
+/// Writes the lines of a CSV, and says whether something was told and left out. Where measures are rounded, it is told of how many.
 ///
 /// The lines are of the table that the words define. `NoTable` where the words define no table; `NoColumn` where the header lacks a column, which is told. Then nothing is written.
 pub fn write_lines<R: Read, W: Write, E: Write>(
@@ -505,7 +525,7 @@ pub fn write_lines<R: Read, W: Write, E: Write>(
     ensures wrote { (table : CommandTree) × (IsAsked wanted.entry table ⊎ Keeps (W.contents output.old) (W.contents output.new))
         × ((told : List ℕ) × Consumes (R.remaining input.old) (R.remaining input.new) told
         × Ends wanted.entry table result told (R.remaining input.new) (W.contents output.old) (W.contents output.new)) }
-    ensures quiet { result ≡ Ok false → Keeps (E.contents errors.old) (E.contents errors.new) }
+    ensures quiet { result ≡ Ok false → wanted.entry.rounds ≡ false → Keeps (E.contents errors.old) (E.contents errors.new) }
 {
     let session = wanted.session;
     let definition = match read_definition(alloc, session, wanted.define) {
@@ -525,5 +545,5 @@ pub fn write_lines<R: Read, W: Write, E: Write>(
         return Err(stop);
     }
     let mut progress = filter.progress;
-    write_rest(&job, &mut progress, output, errors)
+    end_lines(&job, &mut progress, output, errors)
 }

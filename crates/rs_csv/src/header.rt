@@ -121,5 +121,6 @@ pub fn make_plan<E: Write>(
         columns,
         route,
         place,
+        rounds: wanted.rounds,
     })
 }

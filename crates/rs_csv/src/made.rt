@@ -25,6 +25,8 @@ pub struct Made {
     pub number: u64,
     /// Whether something was told.
     pub has_told: bool,
+    /// How many measures were rounded.
+    pub rounded: u64,
     /// The routes, where they are to be defined.
     pub extents: Option<Extents>,
 }
@@ -45,6 +47,7 @@ impl Made {
             line: String::new(alloc),
             number: 0,
             has_told: false,
+            rounded: 0,
             extents,
         }
     }
@@ -84,6 +87,7 @@ pub fn take_record<E: Write>(
     match write_insert(alloc, plan, csv_record, &mut made.line) {
         Ok(event) => {
             push_line(&mut made.bytes, made.line.as_str())?;
+            made.rounded = made.rounded.saturating_add(event.ends.rounded);
             if let Some(extents) = &mut made.extents {
                 meet_event(extents, &event)?;
             }
@@ -91,7 +95,7 @@ pub fn take_record<E: Write>(
         Err(Misfit::OutOfMemory) => return Err(Stop::OutOfMemory),
         Err(misfit) => {
             made.has_told = true;
-            tell_misfit(errors, header, made.number, misfit);
+            tell_misfit(errors, header, csv_record, made.number, misfit);
         }
     }
     Ok(())

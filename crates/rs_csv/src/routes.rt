@@ -58,8 +58,8 @@ pub fn no_extents(alloc: Global) -> Extents {
 /// Meets the ends of an event.
 pub fn meet_event(extents: &mut Extents, event: &Event) -> Result<(), AllocError> {
     let extent = extents.entry(event.route)?.or_insert(Extent { ends: None });
-    extent.meet(event.first);
-    extent.meet(event.last);
+    extent.meet(event.ends.first);
+    extent.meet(event.ends.last);
     Ok(())
 }
 

@@ -9,17 +9,70 @@ use rs_csv_lines::{Cause, Misfit};
 use rs_protocol::put_parts;
 use std::io::Write;
 
-// What is wrong with a field, in words.
+/// How many bytes of a field are shown at the most.
+const SHOWN_BYTES: usize = 60;
+
+// What is wrong with a field that is shown before these words.
 fn cause_words(cause: Cause) -> &'static [u8] {
     match cause {
         Cause::Missing => b"no such field",
         Cause::NotText => b"not text",
-        Cause::NotName => b"not a name",
-        Cause::NotPosition => b"not a position",
-        Cause::NotNumber => b"not a number",
-        Cause::Decimal => b"not a whole number",
-        Cause::LargeNumber => b"number past 10^12",
+        Cause::NotName => b" is not a name",
+        Cause::NotPosition => b" is not a position",
+        Cause::NotNumber => b" is not a number",
+        Cause::Decimal => b" is not a whole number",
+        Cause::LargeNumber => b" is past 10^12",
+        Cause::Decimals(_) => b" has too many decimals",
+        Cause::BelowZero => b" is below 0",
+        Cause::PastGreatest => b" is past 999999.999",
     }
+}
+
+// A number of decimals, in a word.
+fn count_word(count: usize) -> Option<&'static [u8]> {
+    match count {
+        4 => Some(b"four"),
+        5 => Some(b"five"),
+        6 => Some(b"six"),
+        7 => Some(b"seven"),
+        8 => Some(b"eight"),
+        9 => Some(b"nine"),
+        _ => None,
+    }
+}
+
+// The beginning of a text, up to a whole character.
+fn beginning(text: &[u8]) -> &[u8] {
+    if text.len() <= SHOWN_BYTES {
+        return text;
+    }
+    let mut end = SHOWN_BYTES;
+    for place in 0..SHOWN_BYTES {
+        if text[place + 1] & 0xc0 != 0x80 {
+            end = place + 1;
+        }
+    }
+    text.get(..end).unwrap_or(text)
+}
+
+// Shows a field.
+fn show_field<E: Write>(errors: &mut E, field: &[u8]) {
+    let text = content(field);
+    if text.is_empty() {
+        let _ = put_parts(errors, &[b"an empty field"]);
+        return;
+    }
+    let shown = beginning(text);
+    let rest: &[u8] = if shown.len() < text.len() { b".." } else { b"" };
+    let _ = put_parts(errors, &[shown, rest]);
+}
+
+// Tells how many decimals a field has.
+fn tell_decimals<E: Write>(errors: &mut E, count: usize) {
+    let mut digits = Buffer::new();
+    let number = digits.format(count as u64).as_bytes();
+    let word = count_word(count).unwrap_or(number);
+    let _ = put_parts(errors, &[b" has ", word, b" decimals\n"]);
 }
 
 // The name of a column of the CSV.
@@ -30,25 +83,36 @@ fn column_name(header: &ByteRecord, place: usize) -> &[u8] {
     }
 }
 
-// Tells what is wrong with a field of a record.
-fn tell_field<E: Write>(
-    errors: &mut E,
-    header: &ByteRecord,
-    record: &[u8],
-    place: usize,
-    cause: Cause,
-) {
-    let _ = put_parts(errors, &[b"roadseg: record ", record, b", "]);
-    let _ = put_parts(errors, &[column_name(header, place)]);
-    let _ = put_parts(errors, &[b": ", cause_words(cause), b"\n"]);
+// Tells what is wrong with a field of a record, which is shown where it is text.
+fn tell_field<E: Write>(errors: &mut E, field: &[u8], cause: Cause) {
+    match cause {
+        Cause::Missing | Cause::NotText => {}
+        _ => show_field(errors, field),
+    }
+    match cause {
+        Cause::Decimals(count) => tell_decimals(errors, count),
+        _ => {
+            let _ = put_parts(errors, &[cause_words(cause), b"\n"]);
+        }
+    }
 }
 
 /// Tells that a record was left out, by its number and field.
-pub fn tell_misfit<E: Write>(errors: &mut E, header: &ByteRecord, number: u64, misfit: Misfit) {
+pub fn tell_misfit<E: Write>(
+    errors: &mut E,
+    header: &ByteRecord,
+    csv_record: &ByteRecord,
+    number: u64,
+    misfit: Misfit,
+) {
     let mut digits = Buffer::new();
     let record = digits.format(number).as_bytes();
     match misfit {
-        Misfit::Field(place, cause) => tell_field(errors, header, record, place, cause),
+        Misfit::Field(place, cause) => {
+            let _ = put_parts(errors, &[b"roadseg: record ", record, b", "]);
+            let _ = put_parts(errors, &[column_name(header, place), b": "]);
+            tell_field(errors, csv_record.get(place).unwrap_or(b""), cause);
+        }
         Misfit::LongLine => {
             let _ = put_parts(
                 errors,
@@ -105,4 +169,11 @@ pub fn tell_route<E: Write>(errors: &mut E, name: &str) {
             b": no measure met on the route\n",
         ],
     );
+}
+
+/// Tells how many measures were rounded.
+pub fn tell_rounded<E: Write>(errors: &mut E, count: u64) {
+    let mut digits = Buffer::new();
+    let number = digits.format(count).as_bytes();
+    let _ = put_parts(errors, &[b"roadseg: measures rounded: ", number, b"\n"]);
 }

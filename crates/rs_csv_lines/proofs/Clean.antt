@@ -1,5 +1,5 @@
 -- No control character is put into a line.
-use Rattle.std.proofs.Common.{◌≡◌, ◌∙◌, ℕ, zero, suc, ◌+◌, ◌/◌, ◌%◌, ◌<◌, Bool, true, false, not, ◌||◌, List, [], ◌∷◌, ◌++◌, take, drop, refl, sym, subst, arith}
+use Rattle.std.proofs.Common.{◌≡◌, ◌∙◌, ℕ, zero, suc, ◌+◌, ◌/◌, ◌%◌, ◌<◌, Bool, true, false, not, ◌||◌, List, [], ◌∷◌, ◌++◌, take, drop, refl, sym, subst, arith, inl, inr, decimal, ◌≤◌}
 use Rattle.std.specs.Prelude.{codes, ◌==◌, nat_lt, if◌then◌else◌, IsUtf8}
 use Rattle.std.specs.Char.{is_ascii_alphabetic}
 use Rattle.std.specs.List.{list_all, list_any}
@@ -7,10 +7,14 @@ use Rattle.std.specs.Str.{is_utf8}
 use Rattle.std.proofs.lemmas.Bool.{false≢true, and_parts}
 use Rattle.std.proofs.lemmas.Bool.Decides.{nat_tests}
 use Rattle.std.proofs.lemmas.List.Folds.{list_any-append}
+use Rattle.std.proofs.lemmas.Fmt.{digits_decimal}
 use Rattle.std.proofs.lemmas.Str.{is_utf8-from_IsUtf8}
 use Rattle.rs_grammar.specs.Words.{is_word_byte}
 use Rattle.rs_lexer.specs.declared.token.Token.{Token}
 use Rattle.rs_lexer.specs.Lexis.{token_text}
+use Rattle.rs_measure.specs.FixedPoint.{AreDigits, three_digits}
+use Rattle.rs_measure.specs.Measure.{measure_text}
+use Rattle.rs_measure.proofs.FixedPoint.{numerals}
 use Rattle.rs_methods.specs.PositionText.{IsWord}
 use Rattle.rs_methods.specs.Position.{PositionExpression}
 use Rattle.rs_value.specs.declared.column.ColumnType.{ColumnType}
@@ -25,7 +29,8 @@ use Rattle.rs_csv_lines.specs.declared.plan.Column.{Column}
 use Rattle.rs_csv_lines.specs.declared.plan.Place.{Place}
 use Rattle.rs_csv_lines.specs.declared.plan.Place.TheVariants as places
 use Rattle.rs_csv_lines.specs.Fields.{content, SaysName}
-use Rattle.rs_csv_lines.specs.Texts.{session_text, position_text, number_text, PutsDatum}
+use Rattle.rs_csv_lines.specs.Texts.{session_text, position_text, signed_text, PutsPosition, PutsNumber, PutsDatum}
+use Rattle.rs_csv_lines.proofs.NumberTexts.{three_are}
 use Rattle.rs_csv_lines.specs.Inserts.{PutsPositionAt, PutsPlace, PutsFurther, PutsRow, insert_line}
 
 abbrev pub IsClean : List ℕ → Type 0
@@ -105,26 +110,44 @@ position_clean field (written_positions.Beyond name measure) p =
 position_clean field (written_positions.Before name measure) p =
     clean_append (codes "@" ++ token_text field name ++ codes "-") (token_text field measure) (clean_append (codes "@" ++ token_text field name) (codes "-") (clean_token field name p) refl) (clean_token field measure p)
 
-number_clean : (field : List ℕ) (is_negative : Bool) (digits : Token) → IsClean field → IsClean (number_text field is_negative digits)
-number_clean field true digits p = clean_token field digits p
-number_clean field false digits p = clean_token field digits p
+digits_clean : (digits : List ℕ) → AreDigits digits → IsClean digits
+digits_clean [] are = refl
+digits_clean (d ∷ ds) are = neither _ _ (one d are.0 are.1) (digits_clean ds are.2)
+  where
+    one : (d : ℕ) → 48 ≤ d → d ≤ 57 → is_control d ≡ false
+    one d low high = grind (arith, nat_tests)
+
+measure_clean : (n : ℕ) → n ≤ 999999999 → IsClean (measure_text n)
+measure_clean n few =
+    clean_append (decimal (n / 1000) ++ codes ".") (three_digits (n % 1000)) (clean_append (decimal (n / 1000)) (codes ".") (digits_clean (decimal (n / 1000)) (digits_decimal numerals (n / 1000) (omega arith))) refl)
+    (digits_clean (three_digits (n % 1000)) (three_are (n % 1000) (omega arith)))
+
+signed_clean : (is_negative : Bool) (digits : List ℕ) → IsClean digits → IsClean (signed_text is_negative digits)
+signed_clean true digits p = p
+signed_clean false digits p = p
+
+number_clean : (field : List ℕ) (datum : Datum) (bytes : List ℕ) → IsClean field → PutsNumber field datum bytes → IsClean bytes
+number_clean field datum bytes p (inl puts) = subst IsClean (sym puts.4) (signed_clean puts.0 (token_text field puts.1) (clean_token field puts.1 p))
+number_clean field datum bytes p (inr puts) = subst IsClean (sym puts.4) (signed_clean puts.0 (decimal puts.1) (digits_clean (decimal puts.1) (digits_decimal numerals puts.1 (omega (arith, puts.2.few)))))
 
 datum_clean : (type : ColumnType) (field : List ℕ) (datum : Datum) (bytes : List ℕ) → IsClean (content field) → PutsDatum type field datum bytes → IsClean bytes
 datum_clean type [] datum bytes p puts = null_clean datum bytes puts
   where
     null_clean : (datum : Datum) (bytes : List ℕ) → (datum ≡ null) × (bytes ≡ codes "NULL") → IsClean bytes
     null_clean datum bytes puts = subst IsClean (sym puts.1) refl
-datum_clean types.Int (byte ∷ rest) datum bytes p puts = subst IsClean (sym puts.4) (number_clean (content (byte ∷ rest)) puts.0 puts.1 p)
+datum_clean types.Int (byte ∷ rest) datum bytes p puts = number_clean (content (byte ∷ rest)) datum bytes p puts
 datum_clean (types.Text most) (byte ∷ rest) datum bytes p puts =
     subst IsClean (sym puts.1) (clean_append (codes "'" ++ quotes_doubled (content (byte ∷ rest))) (codes "'") (doubled_clean (content (byte ∷ rest)) p) refl)
 
-module _ (fields : List (List ℕ)) where
-  position_put_clean : (i : ℕ) (position : PositionExpression) (bytes : List ℕ) → PutsPositionAt fields i position bytes → IsClean bytes
-  position_put_clean i position bytes puts =
-      let puts_it = puts.3 in
-      subst IsClean (sym puts_it.2) (position_clean (content puts.0) puts_it.0 (clean_text (content puts.0) puts.2))
+module _ (rounds : Bool) (fields : List (List ℕ)) where
+  position_put_clean : (i : ℕ) (position : PositionExpression) (bytes : List ℕ) → PutsPositionAt rounds fields i position bytes → IsClean bytes
+  position_put_clean i position bytes puts = of_field (content puts.0) (clean_text (content puts.0) puts.2) puts.3
+    where
+      of_field : (field : List ℕ) → IsClean field → PutsPosition rounds field position bytes → IsClean bytes
+      of_field field p (inl put) = subst IsClean (sym put.2) (position_clean field put.0 p)
+      of_field field p (inr put) = subst IsClean (sym put.3) (measure_clean put.0 put.1.in_range)
 
-  place_clean : (plan : Place) (location : EventLocationTree) (bytes : List ℕ) → PutsPlace fields plan location bytes → IsClean bytes
+  place_clean : (plan : Place) (location : EventLocationTree) (bytes : List ℕ) → PutsPlace rounds fields plan location bytes → IsClean bytes
   place_clean (places.Along from to) (along first second) bytes puts =
       subst IsClean (sym puts.4)
       (clean_append (codes " FROM " ++ puts.0 ++ codes " TO ") puts.1
@@ -152,7 +175,7 @@ module _ (fields : List (List ℕ)) where
 
   -- nor into a whole line
   pub line_clean : (session : ℕ) (table route place_bytes values : List ℕ) (plan : Place) (location : EventLocationTree) (columns : List Column) (row : Row) → session < 64 → IsWord table → IsClean route
-      → PutsPlace fields plan location place_bytes → PutsRow fields columns row values → IsClean (insert_line session table route place_bytes values)
+      → PutsPlace rounds fields plan location place_bytes → PutsRow fields columns row values → IsClean (insert_line session table route place_bytes values)
   line_clean session table route place_bytes values plan location columns row few word named puts_place puts_row =
       let tail : List ℕ = values ++ codes ")" in
       let after_place : List ℕ = codes " VALUES (" ++ tail in

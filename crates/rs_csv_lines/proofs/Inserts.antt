@@ -1,10 +1,11 @@
 -- The line that is put together is a session's, and says the INSERT of its record.
-use Rattle.std.proofs.Common.{◌≡◌, ◌∙◌, ℕ, ◌<◌, ◌≤◌, List, [], ◌∷◌, ◌++◌, length, Some, Ok, refl, sym, ap, subst, append_assoc, le-leb, arith}
+use Rattle.std.proofs.Common.{◌≡◌, ◌∙◌, ℕ, ◌<◌, ◌≤◌, Bool, inl, inr, List, [], ◌∷◌, ◌++◌, length, Some, Ok, refl, sym, ap, subst, append_assoc, le-leb, arith}
 use Rattle.std.specs.Prelude.{codes, IsUtf8}
 use Rattle.rs_grammar.specs.declared.kind.TokenKind.TheVariants as kinds
 use Rattle.rs_grammar.specs.declared.kind.TheConstants.{NAME_BYTES}
 use Rattle.rs_lexer.specs.Lexis.{token_kind, word_kind}
 use Rattle.rs_lexer.proofs.CutLaws.{cut_inside}
+use Rattle.rs_methods.specs.Position.{PositionExpression}
 use Rattle.rs_methods.specs.PositionText.{IsWord}
 use Rattle.rs_value.specs.declared.column.ColumnType.{ColumnType}
 use Rattle.rs_value.specs.declared.column.ColumnType.TheVariants as types
@@ -18,9 +19,9 @@ use Rattle.rs_csv_lines.specs.declared.plan.Column.{Column}
 use Rattle.rs_csv_lines.specs.declared.plan.Place.{Place}
 use Rattle.rs_csv_lines.specs.declared.plan.Place.TheVariants as places
 use Rattle.rs_csv_lines.specs.declared.plan.Plan.{Plan}
-use Rattle.rs_csv_lines.specs.Fields.{content, SaysName, TellsDatum}
-use Rattle.rs_csv_lines.specs.Texts.{session_text, PutsDatum}
-use Rattle.rs_csv_lines.specs.Inserts.{TellsRoute, TellsPlace, TellsRow, IsInsertOf, PutsPlace, PutsFurther, PutsRow, insert_line}
+use Rattle.rs_csv_lines.specs.Fields.{content, SaysName, TellsPosition, TellsNumber, TellsDatum}
+use Rattle.rs_csv_lines.specs.Texts.{session_text, PutsPosition, PutsNumber, PutsDatum}
+use Rattle.rs_csv_lines.specs.Inserts.{TellsRoute, TellsPositionAt, TellsPlace, TellsRow, IsInsertOf, PutsPositionAt, PutsPlace, PutsFurther, PutsRow, insert_line}
 use Rattle.rs_csv_lines.proofs.Clean.{is_clean_text, line_clean, route_clean}
 use Rattle.rs_csv_lines.proofs.Sessions.{session_begins, session_asks, no_return}
 use Rattle.rs_csv_lines.proofs.Lines.{line_reads}
@@ -43,22 +44,31 @@ pub kind_of_name : (name : List ℕ) → IsName name → token_kind name ≡ Som
 kind_of_name name is = kind_of_word name is.word (name_word name is)
 
 -- what is put says what is told
+position_told : (rounds : Bool) (field : List ℕ) (position : PositionExpression) (bytes : List ℕ) → PutsPosition rounds field position bytes → TellsPosition rounds field position
+position_told rounds field position bytes (inl puts) = inl (puts.0, puts.1)
+position_told rounds field position bytes (inr puts) = inr (puts.0, puts.1, puts.2)
+
+number_told : (field : List ℕ) (datum : Datum) (bytes : List ℕ) → PutsNumber field datum bytes → TellsNumber field datum
+number_told field datum bytes (inl puts) = inl (puts.0, puts.1, puts.2, puts.3)
+number_told field datum bytes (inr puts) = inr (puts.0, puts.1, puts.2, puts.3)
+
 datum_told : (type : ColumnType) (field : List ℕ) (datum : Datum) (bytes : List ℕ) → PutsDatum type field datum bytes → TellsDatum type field datum
 datum_told types.Int [] datum bytes puts = puts.0
 datum_told (types.Text most) [] datum bytes puts = puts.0
-datum_told types.Int (byte ∷ rest) datum bytes puts = (puts.0, puts.1, puts.2, puts.3)
+datum_told types.Int (byte ∷ rest) datum bytes puts = number_told (content (byte ∷ rest)) datum bytes puts
 datum_told (types.Text most) (byte ∷ rest) datum bytes puts = puts.0
 
-module _ (fields : List (List ℕ)) where
-  place_told : (plan : Place) (location : EventLocationTree) (bytes : List ℕ) → PutsPlace fields plan location bytes → TellsPlace fields plan location
-  place_told (places.Along from to) (along first second) bytes puts =
-      let one = puts.2 in
-      let other = puts.3 in
-      ((one.0, one.1, one.2, (one.3.0, one.3.1)), (other.0, other.1, other.2, (other.3.0, other.3.1)))
-  place_told (places.At at) (at_point position) bytes puts = let one = puts.1 in (one.0, one.1, one.2, (one.3.0, one.3.1))
+module _ (rounds : Bool) (fields : List (List ℕ)) where
+  position_at_told : (i : ℕ) (position : PositionExpression) (bytes : List ℕ) → PutsPositionAt rounds fields i position bytes → TellsPositionAt rounds fields i position
+  position_at_told i position bytes puts = (puts.0, puts.1, puts.2, position_told rounds (content puts.0) position bytes puts.3)
+
+  place_told : (plan : Place) (location : EventLocationTree) (bytes : List ℕ) → PutsPlace rounds fields plan location bytes → TellsPlace rounds fields plan location
+  place_told (places.Along from to) (along first second) bytes puts = (position_at_told from first puts.0 puts.2, position_at_told to second puts.1 puts.3)
+  place_told (places.At at) (at_point position) bytes puts = position_at_told at position puts.0 puts.1
   place_told (places.Along from to) (at_point position) bytes puts = elim puts [ ]
   place_told (places.At at) (along first second) bytes puts = elim puts [ ]
 
+module _ (fields : List (List ℕ)) where
   further_told : (columns : List Column) (row : Row) (bytes : List ℕ) → PutsFurther fields columns row bytes → TellsRow fields columns row
   further_told [] [] bytes puts = tt
   further_told (column ∷ columns) (datum ∷ row) bytes puts =
@@ -92,7 +102,7 @@ ends_plain session table route place_bytes values =
 
 pub line_asks : (plan : Plan) (fields : List (List ℕ)) (line route place_bytes values : List ℕ) (location : EventLocationTree) (row : Row)
     → plan.session < 64 → IsName plan.table.bytes → IsUtf8 line → length line ≤ LINE_BYTES
-    → TellsRoute fields plan.route route → PutsPlace fields plan.place location place_bytes → PutsRow fields plan.columns.items row values
+    → TellsRoute fields plan.route route → PutsPlace plan.rounds fields plan.place location place_bytes → PutsRow fields plan.columns.items row values
     → line ≡ insert_line plan.session plan.table.bytes route place_bytes values → AsksInsert plan fields line
 line_asks plan fields line route place_bytes values location row few named utf8 short puts_route puts_place puts_row is =
     let table = plan.table.bytes in
@@ -100,11 +110,11 @@ line_asks plan fields line route place_bytes values location row few named utf8 
     let tree = insert table route location row in
     let table_is : token_kind table ≡ Some kinds.Name = kind_of_name table named in
     let reads : Reads whole (length (session_text plan.session)) (Ok tree) =
-    line_reads plan.session table route place_bytes values fields plan.place location plan.columns.items row table_is (name_kind (content puts_route.0) route puts_route.3) puts_place puts_row in
+    line_reads plan.session table route place_bytes values plan.rounds fields plan.place location plan.columns.items row table_is (name_kind (content puts_route.0) route puts_route.3) puts_place puts_row in
     let text = is_clean_text whole (subst IsUtf8 is utf8)
-    (line_clean fields plan.session table route place_bytes values plan.place location plan.columns.items row few named.word (route_clean (content puts_route.0) route puts_route.2 puts_route.3) puts_place puts_row) in (
+    (line_clean plan.rounds fields plan.session table route place_bytes values plan.place location plan.columns.items row few named.word (route_clean (content puts_route.0) route puts_route.2 puts_route.3) puts_place puts_row) in (
       tree,
-      record { route = route; place = location; row = row; route_told = puts_route; place_told = place_told fields plan.place location place_bytes puts_place; row_told = row_told fields plan.columns.items row values puts_row; is = refl },
+      record { route = route; place = location; row = row; route_told = puts_route; place_told = place_told plan.rounds fields plan.place location place_bytes puts_place; row_told = row_told fields plan.columns.items row values puts_row; is = refl },
       subst (λ l. Asks l (command plan.session tree)) (sym is)
           (session_asks whole plan.session (length (session_text plan.session)) tree (subst (λ l. length l ≤ LINE_BYTES) is short) text (ends_plain plan.session table route place_bytes values)
           (session_begins plan.session _ few) reads),

@@ -1,3 +1,5 @@
+mod Units
+pub mod NumberTexts
 pub mod Cuts
 pub mod Lexemes
 pub mod Readings

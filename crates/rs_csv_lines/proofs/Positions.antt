@@ -4,13 +4,14 @@ use Rattle.std.specs.Prelude.{codes}
 use Rattle.rs_grammar.specs.declared.kind.TokenKind.{TokenKind}
 use Rattle.rs_grammar.specs.declared.kind.TokenKind.TheVariants as kinds
 use Rattle.rs_grammar.specs.Grammar as grammar
-use Rattle.rs_grammar.specs.Grammar.{rules, Derives, is_shallow}
+use Rattle.rs_grammar.specs.Grammar.{rules, Derives, nothing, this, that, part, is_shallow}
 use Rattle.rs_lexer.specs.declared.token.Token.{Token}
 use Rattle.rs_lexer.specs.Lexis.{kinds_of, token_kind, token_text, IsTokenOf, AreTokensFrom}
 use Rattle.rs_lexer.proofs.CutLaws.{cut_inside}
-use Rattle.rs_measure.specs.Measure.{SaysMeasure}
+use Rattle.rs_measure.specs.Measure.{IsMeasure, SaysMeasure, measure_text}
+use Rattle.rs_measure.proofs.MeasureText.{says_measure_text}
 use Rattle.rs_measure.specs.Part.{SaysPart}
-use Rattle.rs_methods.specs.Position.{PositionExpression, beyond, before}
+use Rattle.rs_methods.specs.Position.{PositionExpression, absolute, beyond, before}
 use Rattle.rs_syntax.specs.declared.written.WrittenPosition.{WrittenPosition}
 use Rattle.rs_syntax.specs.declared.written.WrittenPosition.TheVariants as written_positions
 use Rattle.rs_syntax.specs.Written.{mark, told, has_text, lexemes_of, position_lexemes, AreToldOf, SaysPosition}
@@ -19,6 +20,7 @@ use Rattle.rs_csv_lines.specs.Fields.{SpellsPosition}
 use Rattle.rs_csv_lines.specs.Texts.{position_text}
 use Rattle.rs_csv_lines.proofs.Cuts.{Stops, Ends, stops, token_here, text_here, after_here, cut_here, at_sign_kind, at_sign_stops, plus_kind, plus_stops, minus_kind, minus_stops, percent_kind, percent_stops, plus, minus, percent}
 use Rattle.rs_csv_lines.proofs.Lexemes.{lexeme_kind, kinds_spelled, have_texts, told_piece, flat, flat_told}
+use Rattle.rs_csv_lines.proofs.NumberTexts.{printed_measure}
 use Rattle.rs_csv_lines.proofs.Readings.{before_others}
 
 -- The tokens of a line from one place up to another are a position: however the line is cut from there on, its cut has
@@ -35,6 +37,23 @@ pub record PositionStands (line : List ℕ) (first last : ℕ) (position : Posit
 -- the tokens of the field that are told
 pub told_in : (field : List ℕ) (written : WrittenPosition) (position : PositionExpression) → SpellsPosition field written position → AreToldOf field (position_lexemes written)
 told_in field written position spells = subst (AreToldOf field) spells.spelled (told_of field spells.tokens (cut_inside field spells.cut))
+
+-- the printed text of a measure says it
+module _ (line : List ℕ) (place : ℕ) (rest : List ℕ) (ends : Ends rest) where
+  pub measure_text_stands : (n : ℕ) → IsMeasure n → drop place line ≡ measure_text n ++ rest → PositionStands line place (place + length (measure_text n)) (absolute n)
+  unfolding rules
+  measure_text_stands n few at =
+      let is = printed_measure n few in
+      let here = token_here place (measure_text n) kinds.Decimal in
+      record {
+        tokens = here ∷ [];
+        cut = λ tokens cut. cut_here line place (measure_text n) rest kinds.Decimal at is (stops (measure_text n) rest kinds.Decimal is ends) tokens cut;
+        derived = λ others. that (part (that (this nothing)) (that nothing));
+        shallow = λ others shallow. flat kinds.Decimal 0 others refl (omega arith) shallow;
+        written = written_positions.Measure here;
+        spelled = refl;
+        says = (n, subst (λ t. SaysMeasure t n) (sym (text_here line place (measure_text n) rest kinds.Decimal at)) (says_measure_text n few), refl);
+      }
 
 module _ (line : List ℕ) (place : ℕ) (field rest : List ℕ) (ends : Ends rest) where
   -- the kinds in the field, and so in the line

@@ -2,21 +2,17 @@
 use Rattle.std.proofs.Common.{◌≡◌, ◌∙◌, ℕ, Bool, true, false, List, [], ◌∷◌, ◌++◌, refl, sym, ap, subst, append_assoc, append-nil, length, arith}
 use Rattle.std.specs.Prelude.{◌↔◌, codes}
 use Rattle.std.proofs.lemmas.Bool.{false≢true}
-use Rattle.rs_lexer.specs.declared.token.Token.{Token}
-use Rattle.rs_lexer.specs.Lexis.{token_text}
-use Rattle.rs_measure.specs.FixedPoint.{number_of_digits}
 use Rattle.rs_methods.specs.Position.{PositionExpression}
 use Rattle.rs_value.specs.declared.column.ColumnType.{ColumnType}
 use Rattle.rs_value.specs.declared.column.ColumnType.TheVariants as types
-use Rattle.rs_value.specs.Row.{Datum, Row, number, text}
+use Rattle.rs_value.specs.Row.{Datum, Row, text}
 use Rattle.rs_value.specs.Text.{datum_text}
 use Rattle.rs_syntax.specs.Tree.{along, at_point}
-use Rattle.rs_syntax.specs.Written.{signed}
 use Rattle.rs_csv_lines.specs.declared.plan.Column.{Column}
 use Rattle.rs_csv_lines.specs.declared.plan.Place.{Place}
 use Rattle.rs_csv_lines.specs.declared.plan.Place.TheVariants as places
-use Rattle.rs_csv_lines.specs.Fields.{content, SpellsNumber}
-use Rattle.rs_csv_lines.specs.Texts.{session_text, number_text, PutsDatum}
+use Rattle.rs_csv_lines.specs.Fields.{content}
+use Rattle.rs_csv_lines.specs.Texts.{session_text, PutsNumber, PutsDatum}
 use Rattle.rs_csv_lines.specs.Inserts.{Field, PutsPositionAt, PutsPlace, PutsFurther, PutsRow, insert_line}
 
 -- the text of a field, and whether it has nothing
@@ -28,15 +24,14 @@ filled : (bytes : List ℕ) (is_empty : Bool) (field : List ℕ) (Puts : List �
 filled bytes is_empty [] Puts has other each = absurd (false≢true (sym other ∙ has.1.1 refl))
 filled bytes is_empty (byte ∷ rest) Puts has other each = each byte rest has.0
 
-pub puts_number : (fields : List (List ℕ)) (i : ℕ) (type : ColumnType) (bytes : List ℕ) (is_empty is_negative : Bool) (digits : Token) → Field fields i (HasText bytes is_empty) → is_empty ≡ false → type ≡ types.Int → SpellsNumber bytes is_negative digits
-    → Field fields i (λ field. PutsDatum type field (number (signed is_negative (number_of_digits (token_text bytes digits)))) (number_text bytes is_negative digits))
-puts_number fields i type bytes is_empty is_negative digits found other is spells = (
+pub puts_number : (fields : List (List ℕ)) (i : ℕ) (type : ColumnType) (bytes : List ℕ) (is_empty : Bool) (datum : Datum) (put : List ℕ) → Field fields i (HasText bytes is_empty) → is_empty ≡ false → type ≡ types.Int
+    → PutsNumber bytes datum put → Field fields i (λ field. PutsDatum type field datum put)
+puts_number fields i type bytes is_empty datum put found other is puts = (
   found.0,
   found.1,
   found.2,
-  subst (λ t. PutsDatum t found.0 (number (signed is_negative (number_of_digits (token_text bytes digits)))) (number_text bytes is_negative digits)) (sym is)
-      (filled bytes is_empty found.0 (λ field. PutsDatum types.Int field (number (signed is_negative (number_of_digits (token_text bytes digits)))) (number_text bytes is_negative digits)) found.3 other
-      (λ byte rest same. (is_negative, digits, subst (λ bs. SpellsNumber bs is_negative digits) same spells, ap (λ bs. number (signed is_negative (number_of_digits (token_text bs digits)))) same, ap (λ bs. number_text bs is_negative digits) same))),
+  subst (λ t. PutsDatum t found.0 datum put) (sym is)
+      (filled bytes is_empty found.0 (λ field. PutsDatum types.Int field datum put) found.3 other (λ byte rest same. subst (λ bs. PutsNumber bs datum put) same puts)),
 )
 
 pub puts_text : (fields : List (List ℕ)) (i most : ℕ) (type : ColumnType) (bytes : List ℕ) (is_empty : Bool) → Field fields i (HasText bytes is_empty) → is_empty ≡ false → type ≡ types.Text most
@@ -55,12 +50,12 @@ two_more old first last a b p q = q ∙ ap (λ bs. bs ++ b) p ∙ append_assoc o
 pub four_more : (old l1 l2 l3 l4 a b c d : List ℕ) → l1 ≡ old ++ a → l2 ≡ l1 ++ b → l3 ≡ l2 ++ c → l4 ≡ l3 ++ d → l4 ≡ old ++ (a ++ b ++ c ++ d)
 four_more old l1 l2 l3 l4 a b c d p q r s = two_more old l3 l4 (a ++ b ++ c) d (two_more old l2 l3 (a ++ b) c (two_more old l1 l2 a b p q) r) s
 
-pub puts_along : (fields : List (List ℕ)) (place : Place) (from to : ℕ) (first second : PositionExpression) (one other : List ℕ) → place ≡ places.Along from to → PutsPositionAt fields from first one → PutsPositionAt fields to second other
-    → PutsPlace fields place (along first second) (codes " FROM " ++ one ++ codes " TO " ++ other)
-puts_along fields place from to first second one other is p q = subst (λ pl. PutsPlace fields pl (along first second) (codes " FROM " ++ one ++ codes " TO " ++ other)) (sym is) (one, other, p, q, refl)
+pub puts_along : (rounds : Bool) (fields : List (List ℕ)) (place : Place) (from to : ℕ) (first second : PositionExpression) (one other : List ℕ) → place ≡ places.Along from to → PutsPositionAt rounds fields from first one → PutsPositionAt rounds fields to second other
+    → PutsPlace rounds fields place (along first second) (codes " FROM " ++ one ++ codes " TO " ++ other)
+puts_along rounds fields place from to first second one other is p q = subst (λ pl. PutsPlace rounds fields pl (along first second) (codes " FROM " ++ one ++ codes " TO " ++ other)) (sym is) (one, other, p, q, refl)
 
-pub puts_at : (fields : List (List ℕ)) (place : Place) (at : ℕ) (position : PositionExpression) (one : List ℕ) → place ≡ places.At at → PutsPositionAt fields at position one → PutsPlace fields place (at_point position) (codes " AT " ++ one)
-puts_at fields place at position one is p = subst (λ pl. PutsPlace fields pl (at_point position) (codes " AT " ++ one)) (sym is) (one, p, refl)
+pub puts_at : (rounds : Bool) (fields : List (List ℕ)) (place : Place) (at : ℕ) (position : PositionExpression) (one : List ℕ) → place ≡ places.At at → PutsPositionAt rounds fields at position one → PutsPlace rounds fields place (at_point position) (codes " AT " ++ one)
+puts_at rounds fields place at position one is p = subst (λ pl. PutsPlace rounds fields pl (at_point position) (codes " AT " ++ one)) (sym is) (one, p, refl)
 
 -- ---- a row
 

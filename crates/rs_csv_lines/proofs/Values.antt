@@ -1,5 +1,5 @@
 -- The text that is put for a value, and those for a row, say them wherever they stand in a line.
-use Rattle.std.proofs.Common.{◌≡◌, ◌∙◌, ℕ, ◌+◌, ◌≤◌, Bool, true, false, List, [], ◌∷◌, ◌++◌, length, drop, Some, refl, sym, ap, subst, append_assoc, length-append, eqb-true, arith}
+use Rattle.std.proofs.Common.{◌≡◌, ◌∙◌, ℕ, ◌+◌, ◌≤◌, Bool, true, false, List, [], ◌∷◌, ◌++◌, length, drop, Some, refl, sym, ap, subst, append_assoc, length-append, eqb-true, arith, inl, inr, decimal}
 use Rattle.std.specs.Prelude.{codes, ◌==◌, ◌^◌, if◌then◌else◌}
 use Rattle.std.proofs.lemmas.List.{map-append}
 use Rattle.rs_grammar.specs.declared.kind.TokenKind.{TokenKind}
@@ -20,10 +20,11 @@ use Rattle.rs_syntax.specs.Written.{mark, lexeme_of, lexemes_of, value_lexemes, 
 use Rattle.rs_syntax.proofs.VerdictLaws.{told_of}
 use Rattle.rs_csv_lines.specs.declared.plan.Column.{Column}
 use Rattle.rs_csv_lines.specs.Fields.{content, SpellsNumber}
-use Rattle.rs_csv_lines.specs.Texts.{number_text, PutsDatum}
+use Rattle.rs_csv_lines.specs.Texts.{signed_text, PutsNumber, PutsDatum}
 use Rattle.rs_csv_lines.specs.Inserts.{PutsFurther, PutsRow}
 use Rattle.rs_csv_lines.proofs.Cuts.{Ends, stops, token_here, text_here, after_here, cut_here, blank_here, null_kind, minus_kind, minus_stops, comma_kind, comma_stops, comma, closing}
 use Rattle.rs_csv_lines.proofs.Lexemes.{flat}
+use Rattle.rs_csv_lines.proofs.NumberTexts.{amount_said, printed_amount}
 
 -- The tokens of a line from one place up to another are a value: however the line is cut from there on, its cut has
 -- them before.
@@ -86,42 +87,56 @@ module _ (line : List ℕ) (place : ℕ) (rest : List ℕ) (ends : Ends rest) wh
         says = sym (ap unquoted (text_here line place quoted rest kinds.Quoted at) ∙ undoubled bytes);
       }
 
-  number_stands : (field : List ℕ) (is_negative : Bool) (digits : Token) → SpellsNumber field is_negative digits → drop place line ≡ number_text field is_negative digits ++ rest
-      → ValueStands line place (place + length (number_text field is_negative digits)) (number (signed is_negative (number_of_digits (token_text field digits))))
+  -- a sign and digits
+  digits_stand : (is_negative : Bool) (digits : List ℕ) → token_kind digits ≡ Some kinds.Whole → number_of_digits digits ≤ 10 ^ 12 → drop place line ≡ signed_text is_negative digits ++ rest
+      → ValueStands line place (place + length (signed_text is_negative digits)) (number (signed is_negative (number_of_digits digits)))
   unfolding rules
-  number_stands field false digits spells at =
-      let told_all : AreToldOf field (value_lexemes (written_values.Whole false digits)) = subst (AreToldOf field) spells.spelled (told_of field spells.tokens (cut_inside field spells.cut)) in
-      let bytes = token_text field digits in
-      let is : token_kind bytes ≡ Some kinds.Whole = told_all.0.0.kind ∙ ap (λ k. Some k) told_all.0.1 in
-      let here = token_here place bytes kinds.Whole in
-      let same = text_here line place bytes rest kinds.Whole at in
+  digits_stand false digits is few at =
+      let here = token_here place digits kinds.Whole in
+      let same = text_here line place digits rest kinds.Whole at in
       record {
         tokens = here ∷ [];
-        cut = λ tokens cut. cut_here line place bytes rest kinds.Whole at is (stops bytes rest kinds.Whole is ends) tokens cut;
+        cut = λ tokens cut. cut_here line place digits rest kinds.Whole at is (stops digits rest kinds.Whole is ends) tokens cut;
         derived = λ others. that (that (this nothing));
         shallow = λ others shallow. flat kinds.Whole 1 others refl (omega arith) shallow;
         written = written_values.Whole false here;
         spelled = refl;
-        says = (subst (λ t. number_of_digits t ≤ 10 ^ 12) (sym same) spells.few, ap (λ t. signed false (number_of_digits t)) (sym same));
+        says = (subst (λ t. number_of_digits t ≤ 10 ^ 12) (sym same) few, ap (λ t. signed false (number_of_digits t)) (sym same));
       }
-  number_stands field true digits spells at =
-      let told_all : AreToldOf field (value_lexemes (written_values.Whole true digits)) = subst (AreToldOf field) spells.spelled (told_of field spells.tokens (cut_inside field spells.cut)) in
-      let bytes = token_text field digits in
-      let is : token_kind bytes ≡ Some kinds.Whole = told_all.1.0.0.kind ∙ ap (λ k. Some k) told_all.1.0.1 in
-      let next : drop (place + 1) line ≡ bytes ++ rest = after_here line place (codes "-") (bytes ++ rest) at in
-      let here = token_here (place + 1) bytes kinds.Whole in
-      let end : place + 1 + length bytes ≡ place + length (codes "-" ++ bytes) = omega arith in
-      let same = text_here line (place + 1) bytes rest kinds.Whole next in
+  digits_stand true digits is few at =
+      let next : drop (place + 1) line ≡ digits ++ rest = after_here line place (codes "-") (digits ++ rest) at in
+      let here = token_here (place + 1) digits kinds.Whole in
+      let end : place + 1 + length digits ≡ place + length (codes "-" ++ digits) = omega arith in
+      let same = text_here line (place + 1) digits rest kinds.Whole next in
       record {
         tokens = token_here place (codes "-") kinds.MinusSign ∷ here ∷ [];
-        cut = λ tokens cut. cut_here line place (codes "-") (bytes ++ rest) kinds.MinusSign at minus_kind (minus_stops (bytes ++ rest)) _
-            (cut_here line (place + 1) bytes rest kinds.Whole next is (stops bytes rest kinds.Whole is ends) tokens (subst (λ n. AreTokensFrom line n tokens) (sym end) cut));
+        cut = λ tokens cut. cut_here line place (codes "-") (digits ++ rest) kinds.MinusSign at minus_kind (minus_stops (digits ++ rest)) _
+            (cut_here line (place + 1) digits rest kinds.Whole next is (stops digits rest kinds.Whole is ends) tokens (subst (λ n. AreTokensFrom line n tokens) (sym end) cut));
         derived = λ others. that (this (this nothing));
         shallow = λ others shallow. flat kinds.MinusSign 1 (kinds.Whole ∷ others) refl (omega arith) (flat kinds.Whole 1 others refl (omega arith) shallow);
         written = written_values.Whole true here;
         spelled = refl;
-        says = (subst (λ t. number_of_digits t ≤ 10 ^ 12) (sym same) spells.few, ap (λ t. signed true (number_of_digits t)) (sym same));
+        says = (subst (λ t. number_of_digits t ≤ 10 ^ 12) (sym same) few, ap (λ t. signed true (number_of_digits t)) (sym same));
       }
+
+  whole_of : (field : List ℕ) (is_negative : Bool) (digits : Token) → AreToldOf field (value_lexemes (written_values.Whole is_negative digits)) → token_kind (token_text field digits) ≡ Some kinds.Whole
+  whole_of field false digits all = all.0.0.kind ∙ ap (λ k. Some k) all.0.1
+  whole_of field true digits all = all.1.0.0.kind ∙ ap (λ k. Some k) all.1.0.1
+
+  spelled_kind : (field : List ℕ) (is_negative : Bool) (digits : Token) → SpellsNumber field is_negative digits → token_kind (token_text field digits) ≡ Some kinds.Whole
+  spelled_kind field is_negative digits spells = whole_of field is_negative digits (subst (AreToldOf field) spells.spelled (told_of field spells.tokens (cut_inside field spells.cut)))
+
+  number_stands : (field : List ℕ) (datum : Datum) (bytes : List ℕ) → PutsNumber field datum bytes → drop place line ≡ bytes ++ rest → ValueStands line place (place + length bytes) datum
+  number_stands field datum bytes (inl puts) at =
+      let digits = token_text field puts.1 in
+      subst (λ d. ValueStands line place (place + length bytes) d) (sym puts.3)
+      (subst (λ bs. ValueStands line place (place + length bs) (number (signed puts.0 (number_of_digits digits)))) (sym puts.4)
+      (digits_stand puts.0 digits (spelled_kind field puts.0 puts.1 puts.2) puts.2.few (at ∙ ap (λ bs. bs ++ rest) puts.4)))
+  number_stands field datum bytes (inr puts) at =
+      let said = amount_said puts.1 puts.2.few in
+      subst (λ d. ValueStands line place (place + length bytes) d) (ap (λ n. number (signed puts.0 n)) said ∙ sym puts.3)
+      (subst (λ bs. ValueStands line place (place + length bs) (number (signed puts.0 (number_of_digits (decimal puts.1))))) (sym puts.4)
+      (digits_stand puts.0 (decimal puts.1) (printed_amount puts.1 puts.2.few) (subst (λ n. n ≤ 10 ^ 12) (sym said) puts.2.few) (at ∙ ap (λ bs. bs ++ rest) puts.4)))
 
   pub value_stands : (type : ColumnType) (field : List ℕ) (datum : Datum) (bytes : List ℕ) → PutsDatum type field datum bytes → drop place line ≡ bytes ++ rest → ValueStands line place (place + length bytes) datum
   value_stands type [] datum bytes puts at = at_null datum bytes puts at
@@ -130,10 +145,7 @@ module _ (line : List ℕ) (place : ℕ) (rest : List ℕ) (ends : Ends rest) wh
       at_null datum bytes puts at =
           subst (λ d. ValueStands line place (place + length bytes) d) (sym puts.0)
           (subst (λ bs. ValueStands line place (place + length bs) null) (sym puts.1) (null_stands (at ∙ ap (λ bs. bs ++ rest) puts.1)))
-  value_stands types.Int (byte ∷ field) datum bytes puts at =
-      subst (λ d. ValueStands line place (place + length bytes) d) (sym puts.3)
-      (subst (λ bs. ValueStands line place (place + length bs) (number (signed puts.0 (number_of_digits (token_text (content (byte ∷ field)) puts.1))))) (sym puts.4)
-      (number_stands (content (byte ∷ field)) puts.0 puts.1 puts.2 (at ∙ ap (λ bs. bs ++ rest) puts.4)))
+  value_stands types.Int (byte ∷ field) datum bytes puts at = number_stands (content (byte ∷ field)) datum bytes puts at
   value_stands (types.Text most) (byte ∷ field) datum bytes puts at =
       subst (λ d. ValueStands line place (place + length bytes) d) (sym puts.0)
       (subst (λ bs. ValueStands line place (place + length bs) (text (content (byte ∷ field)))) (sym puts.1) (text_stands (content (byte ∷ field)) (at ∙ ap (λ bs. bs ++ rest) puts.1)))

@@ -1,19 +1,20 @@
 -- What a field of a record says. A field that stood in quotes was read with a quote before it, so that an empty one is
 -- told from one that has nothing.
-use Rattle.std.specs.Prelude.{◌≡◌, ℕ, ◌≤◌, ◌^◌, Bool, ◌==◌, if◌then◌else◌, List, [], ◌∷◌}
+use Rattle.std.specs.Prelude.{◌≡◌, ◌⊎◌, ℕ, ◌≤◌, ◌^◌, Bool, ◌==◌, if◌then◌else◌, List, [], ◌∷◌}
 use Rattle.rs_grammar.specs.Grammar as grammar
 use Rattle.rs_grammar.specs.Grammar.{rules, Derives}
 use Rattle.rs_grammar.specs.declared.kind.TokenKind.TheVariants as kinds
 use Rattle.rs_lexer.specs.declared.token.Token.{Token}
 use Rattle.rs_lexer.specs.Lexis.{kinds_of, token_text, AreTokensFrom}
 use Rattle.rs_measure.specs.FixedPoint.{number_of_digits}
-use Rattle.rs_methods.specs.Position.{PositionExpression}
+use Rattle.rs_methods.specs.Position.{PositionExpression, absolute}
 use Rattle.rs_value.specs.declared.column.ColumnType.{ColumnType}
 use Rattle.rs_value.specs.declared.column.ColumnType.TheVariants as types
 use Rattle.rs_value.specs.Row.{Datum, null, number, text}
 use Rattle.rs_syntax.specs.declared.written.WrittenValue.TheVariants as written_values
 use Rattle.rs_syntax.specs.declared.written.WrittenPosition.{WrittenPosition}
 use Rattle.rs_syntax.specs.Written.{lexemes_of, position_lexemes, value_lexemes, signed, SaysPosition}
+use Rattle.rs_csv_lines.specs.Numbers.{WritesMeasure, WritesWhole}
 
 -- the quote of a record
 abbrev pub QUOTE : ℕ
@@ -46,12 +47,19 @@ pub record SpellsNumber (text : List ℕ) (is_negative : Bool) (digits : Token) 
   pub spelled : lexemes_of tokens ≡ value_lexemes (written_values.Whole is_negative digits)
   pub few : number_of_digits (token_text text digits) ≤ 10 ^ 12
 
-abbrev pub TellsPosition : List ℕ → PositionExpression → Type 0
-TellsPosition bytes position = (written : WrittenPosition) × SpellsPosition bytes written position
+-- A field says a position of the grammar, or a measure as offices write it.
+abbrev pub TellsPosition : Bool → List ℕ → PositionExpression → Type 0
+TellsPosition rounds bytes position = ((written : WrittenPosition) × SpellsPosition bytes written position)
+    ⊎ ((thousandths : ℕ) × WritesMeasure rounds bytes thousandths × (position ≡ absolute thousandths))
+
+-- A field says a number of the grammar, or a whole number as offices write it.
+abbrev pub TellsNumber : List ℕ → Datum → Type 0
+TellsNumber bytes datum =
+    ((is_negative : Bool) × (digits : Token) × SpellsNumber bytes is_negative digits × (datum ≡ number (signed is_negative (number_of_digits (token_text bytes digits)))))
+    ⊎ ((is_negative : Bool) × (amount : ℕ) × WritesWhole bytes is_negative amount × (datum ≡ number (signed is_negative amount)))
 
 -- What a field says in a column: nothing is NULL; in a column of numbers it is a number, in one of texts its own text.
 abbrev pub TellsDatum : ColumnType → List ℕ → Datum → Type 0
 TellsDatum type [] datum = datum ≡ null
-TellsDatum types.Int (byte ∷ bytes) datum = (is_negative : Bool) × (digits : Token) × SpellsNumber (content (byte ∷ bytes)) is_negative digits
-    × (datum ≡ number (signed is_negative (number_of_digits (token_text (content (byte ∷ bytes)) digits))))
+TellsDatum types.Int (byte ∷ bytes) datum = TellsNumber (content (byte ∷ bytes)) datum
 TellsDatum (types.Text most) (byte ∷ bytes) datum = datum ≡ text (content (byte ∷ bytes))

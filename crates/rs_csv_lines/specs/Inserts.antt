@@ -1,5 +1,5 @@
 -- The INSERT of a record, and the line that is written for it.
-use Rattle.std.specs.Prelude.{◌≡◌, ℕ, IsTrue, List, [], ◌∷◌, ◌++◌, Some, codes}
+use Rattle.std.specs.Prelude.{◌≡◌, ℕ, Bool, IsTrue, List, [], ◌∷◌, ◌++◌, Some, codes}
 use Rattle.csv.specs.Records.{field_at}
 use Rattle.rs_methods.specs.Position.{PositionExpression}
 use Rattle.rs_value.specs.Row.{Row}
@@ -20,13 +20,13 @@ Field fields i IsSo = (field : List ℕ) × (field_at fields i ≡ Some field) �
 abbrev pub TellsRoute : List (List ℕ) → ℕ → List ℕ → Type 0
 TellsRoute fields i route = Field fields i (λ field. SaysName (content field) route)
 
-abbrev pub TellsPositionAt : List (List ℕ) → ℕ → PositionExpression → Type 0
-TellsPositionAt fields i position = Field fields i (λ field. TellsPosition (content field) position)
+abbrev pub TellsPositionAt : Bool → List (List ℕ) → ℕ → PositionExpression → Type 0
+TellsPositionAt rounds fields i position = Field fields i (λ field. TellsPosition rounds (content field) position)
 
-abbrev pub TellsPlace : List (List ℕ) → Place → EventLocationTree → Type 0
-TellsPlace fields (places.Along from to) (along first second) = TellsPositionAt fields from first × TellsPositionAt fields to second
-TellsPlace fields (places.At at) (at_point position) = TellsPositionAt fields at position
-TellsPlace fields _ _ = ⊥
+abbrev pub TellsPlace : Bool → List (List ℕ) → Place → EventLocationTree → Type 0
+TellsPlace rounds fields (places.Along from to) (along first second) = TellsPositionAt rounds fields from first × TellsPositionAt rounds fields to second
+TellsPlace rounds fields (places.At at) (at_point position) = TellsPositionAt rounds fields at position
+TellsPlace rounds fields _ _ = ⊥
 
 -- the values of the record, in the columns' order
 abbrev pub TellsRow : List (List ℕ) → List Column → Row → Type 0
@@ -40,22 +40,22 @@ pub record IsInsertOf (plan : Plan) (fields : List (List ℕ)) (tree : CommandTr
   pub place : EventLocationTree
   pub row : Row
   pub route_told : TellsRoute fields plan.route route
-  pub place_told : TellsPlace fields plan.place place
+  pub place_told : TellsPlace plan.rounds fields plan.place place
   pub row_told : TellsRow fields plan.columns.items row
   pub is : tree ≡ insert plan.table.bytes route place row
 
 -- ---- the line
 
-abbrev pub PutsPositionAt : List (List ℕ) → ℕ → PositionExpression → List ℕ → Type 0
-PutsPositionAt fields i position bytes = Field fields i (λ field. PutsPosition (content field) position bytes)
+abbrev pub PutsPositionAt : Bool → List (List ℕ) → ℕ → PositionExpression → List ℕ → Type 0
+PutsPositionAt rounds fields i position bytes = Field fields i (λ field. PutsPosition rounds (content field) position bytes)
 
 -- from FROM or AT on, up to VALUES
-abbrev pub PutsPlace : List (List ℕ) → Place → EventLocationTree → List ℕ → Type 0
-PutsPlace fields (places.Along from to) (along first second) bytes =
-    (one : List ℕ) × (other : List ℕ) × PutsPositionAt fields from first one × PutsPositionAt fields to second other
+abbrev pub PutsPlace : Bool → List (List ℕ) → Place → EventLocationTree → List ℕ → Type 0
+PutsPlace rounds fields (places.Along from to) (along first second) bytes =
+    (one : List ℕ) × (other : List ℕ) × PutsPositionAt rounds fields from first one × PutsPositionAt rounds fields to second other
     × (bytes ≡ codes " FROM " ++ one ++ codes " TO " ++ other)
-PutsPlace fields (places.At at) (at_point position) bytes = (one : List ℕ) × PutsPositionAt fields at position one × (bytes ≡ codes " AT " ++ one)
-PutsPlace fields _ _ _ = ⊥
+PutsPlace rounds fields (places.At at) (at_point position) bytes = (one : List ℕ) × PutsPositionAt rounds fields at position one × (bytes ≡ codes " AT " ++ one)
+PutsPlace rounds fields _ _ _ = ⊥
 
 -- the values, with a comma and a blank before each
 abbrev pub PutsFurther : List (List ℕ) → List Column → Row → List ℕ → Type 0

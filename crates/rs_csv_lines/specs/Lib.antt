@@ -1,3 +1,4 @@
+pub mod Numbers
 pub mod Fields
 pub mod Texts
 pub mod Inserts

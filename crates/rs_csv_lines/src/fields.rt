@@ -105,14 +105,6 @@ pub fn position_in(
     }
 }
 
-// Why tokens are no number.
-fn no_number(tokens: &[Token]) -> Cause {
-    match tokens {
-        [number] | [_, number] if number.kind == TokenKind::Decimal => Cause::Decimal,
-        _ => Cause::NotNumber,
-    }
-}
-
 /// The number that a text is: whether a minus sign stands before it, and its digits.
 pub fn number_in(alloc: Global, text: &str, place: usize) -> Result<(bool, Token), Misfit>
     ensures { IfOk result (λ found. SpellsNumber text.now found.0 found.1) }
@@ -122,10 +114,10 @@ pub fn number_in(alloc: Global, text: &str, place: usize) -> Result<(bool, Token
         Ok((WrittenValue::Whole(is_negative, digits), [])) => {
             match meaning::number(meaning::text(text, digits), GREATEST_NUMBER) {
                 Some(_) => Ok((is_negative, digits)),
-                None => Err(Misfit::Field(place, Cause::LargeNumber)),
+                None => Err(Misfit::Field(place, Cause::NotNumber)),
             }
         }
         Err(Stop::OutOfMemory) => Err(Misfit::OutOfMemory),
-        _ => Err(Misfit::Field(place, no_number(tokens.as_slice()))),
+        _ => Err(Misfit::Field(place, Cause::NotNumber)),
     }
 }

@@ -17,15 +17,24 @@ use rs_machine::limits::LINE_BYTES;
 use rs_methods::{Name, Position};
 use std::alloc::Global;
 
+/// Where an event begins and ends on its route.
+#[derive(Clone, Copy)]
+pub struct Ends {
+    /// Where it begins.
+    pub first: Position,
+    /// Where it ends, which is where it begins where it is at a position.
+    pub last: Position,
+    /// How many measures of it were rounded.
+    pub rounded: u64,
+}
+
 /// Where the event of a record is.
 #[derive(Clone, Copy)]
 pub struct Event {
     /// Its route.
     pub route: Name,
-    /// Where it begins.
-    pub first: Position,
-    /// Where it ends, which is where it begins where it is at a position.
-    pub last: Position,
+    /// Its ends.
+    pub ends: Ends,
 }
 
 // Puts the place of a record, from FROM or AT on, and gives where the event begins and ends.
@@ -33,24 +42,33 @@ fn put_place(
     alloc: Global,
     csv_record: &ByteRecord,
     place: Place,
+    rounds: bool,
     line: &mut String,
-) -> Result<(Position, Position), Misfit>
-    ensures { OnOk result ((location : EventLocationTree) × (bytes : List ℕ) × PutsPlace (fields_of csv_record.now) place location bytes
+) -> Result<Ends, Misfit>
+    ensures { OnOk result ((location : EventLocationTree) × (bytes : List ℕ) × PutsPlace rounds (fields_of csv_record.now) place location bytes
         × (string_bytes line.new ≡ string_bytes line.old ++ bytes)) }
 {
     match place {
         Place::Along { from, to } => {
             line.push_str(" FROM ")?;
-            let first = put_position(alloc, csv_record, from, line)?;
+            let (first, rounds_first) = put_position(alloc, csv_record, from, rounds, line)?;
             line.push_str(" TO ")?;
-            let last = put_position(alloc, csv_record, to, line)?;
-            Ok((first, last))
+            let (last, rounds_last) = put_position(alloc, csv_record, to, rounds, line)?;
+            Ok(Ends {
+                first,
+                last,
+                rounded: u64::from(rounds_first) + u64::from(rounds_last),
+            })
         }
         Place::At { at } => {
             line.push_str(" AT ")?;
-            let first = put_position(alloc, csv_record, at, line)?;
+            let (first, rounds_first) = put_position(alloc, csv_record, at, rounds, line)?;
             let last = first;
-            Ok((first, last))
+            Ok(Ends {
+                first,
+                last,
+                rounded: u64::from(rounds_first),
+            })
         }
     }
 }
@@ -117,7 +135,7 @@ pub fn write_insert(
     line.push_str(plan.table.as_str())?;
     line.push_str(" ON ")?;
     let route = put_route(alloc, csv_record, plan.route, line)?;
-    let (first, last) = put_place(alloc, csv_record, plan.place, line)?;
+    let ends = put_place(alloc, csv_record, plan.place, plan.rounds, line)?;
     line.push_str(" VALUES (")?;
     put_row(alloc, csv_record, plan.columns.as_slice(), line)?;
     line.push_str(")")?;
@@ -125,5 +143,5 @@ pub fn write_insert(
     if whole.len() > LINE_BYTES {
         return Err(Misfit::LongLine);
     }
-    Ok(Event { route, first, last })
+    Ok(Event { route, ends })
 }

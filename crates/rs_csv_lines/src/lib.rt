@@ -1,14 +1,15 @@
 //! The line of a record: what its fields say, written as the INSERT that they are.
 //!
-//! It promises that each line says the INSERT of its record.
+//! It promises that each line says the INSERT of its record. Measures and numbers are read as lines have them, and as offices write them.
 #![tactic(auto)]
 
 pub mod fields;
 pub mod insert;
+pub mod numbers;
 pub mod plan;
 pub mod put;
 pub mod words;
 
-pub use insert::{Event, write_insert};
+pub use insert::{Ends, Event, write_insert};
 pub use plan::{Cause, Column, Misfit, Place, Plan};
 pub use words::write_words;

@@ -45,6 +45,8 @@ pub struct Plan {
     pub route: usize,
     /// Which fields say the place.
     pub place: Place,
+    /// Whether measures are taken to the nearest thousandth.
+    pub rounds: bool,
 }
 
 /// What is wrong with a field.
@@ -64,6 +66,12 @@ pub enum Cause {
     Decimal,
     /// The number is past 10^12.
     LargeNumber,
+    /// The measure has so many decimals, the last of which is no zero.
+    Decimals(usize),
+    /// The measure is below 0.
+    BelowZero,
+    /// The measure is past the greatest one.
+    PastGreatest,
 }
 
 /// Why there is no line for a record.

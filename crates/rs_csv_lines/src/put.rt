@@ -1,23 +1,28 @@
 //! What is put into a line: the session, the tokens of a position, a value.
 //!
+//! What a line may not have, as `.5` or `2012.0`, is put as the measure or the number that it is.
+//!
 //! Where memory runs out, a part may have been put.
 
-ghost use Rattle.std.specs.Prelude.{◌≡◌, ◌++◌, ◌<◌, OnOk, IfOk, ℕ, List, string_bytes};
+ghost use Rattle.std.specs.Prelude.{◌≡◌, ◌++◌, ◌<◌, OnOk, IfOk, ℕ, Bool, List, string_bytes, decimal};
 ghost use Rattle.csv.specs.Records.{fields_of};
-ghost use Rattle.rs_methods.specs.Position.{expression_of};
+ghost use Rattle.rs_measure.specs.Measure.{measure_text};
+ghost use Rattle.rs_methods.specs.Position.{absolute, expression_of};
 ghost use Rattle.rs_value.specs.Row.{Datum};
 ghost use Rattle.rs_value.specs.Row as rows;
 ghost use Rattle.rs_value.specs.Text.{datum_text};
-ghost use Rattle.rs_lexer.specs.Lexis.{IsTokenOf};
 ghost use Rattle.rs_syntax.specs.Written.{position_lexemes, AreToldOf};
-ghost use Rattle.rs_csv_lines.specs.Texts.{session_text, position_text, number_text, PutsDatum};
+ghost use Rattle.rs_csv_lines.specs.Numbers.{WritesMeasure, WritesWhole};
+ghost use Rattle.rs_csv_lines.specs.Texts.{session_text, position_text, signed_text, PutsNumber, PutsDatum};
 ghost use Rattle.rs_csv_lines.specs.Inserts.{Field, TellsRoute, PutsPositionAt};
 
 use crate::fields::{field_text, name_in, number_in, position_in};
+use crate::numbers::{written_measure, written_whole};
 use crate::plan::Misfit;
 use csv::ByteRecord;
-use rs_lexer::Token;
+use itoa::Buffer;
 use rs_meaning::meaning::text;
+use rs_measure::write_measure;
 use rs_methods::{Name, Position};
 use rs_syntax::written::WrittenPosition;
 use rs_value::{ColumnType, push_doubled};
@@ -73,20 +78,14 @@ fn put_written(line: &mut String, field: &str, written: WrittenPosition) -> Resu
     }
 }
 
-// Puts the sign and the digits of a number that a field spells.
-fn put_number(
-    line: &mut String,
-    field: &str,
-    is_negative: bool,
-    digits: Token,
-) -> Result<(), AllocError>
-    requires { IsTokenOf field.now digits }
-    ensures { OnOk result (string_bytes line.new ≡ string_bytes line.old ++ number_text field.now is_negative digits) }
+// Puts the sign and the digits of a number.
+fn put_signed(line: &mut String, is_negative: bool, digits: &str) -> Result<(), AllocError>
+    ensures { OnOk result (string_bytes line.new ≡ string_bytes line.old ++ signed_text is_negative digits.now) }
 {
     if is_negative {
         line.push_str("-")?;
     }
-    line.push_str(text(field, digits))
+    line.push_str(digits)
 }
 
 /// Puts the route that a field names, and gives it.
@@ -105,20 +104,73 @@ pub fn put_route(
     Ok(name)
 }
 
-/// Puts the position that a field says, and gives it.
+// Puts a measure as an office wrote it, and gives it, and whether it was rounded.
+fn put_measure(
+    text: &str,
+    place: usize,
+    rounds: bool,
+    line: &mut String,
+) -> Result<(Position, bool), Misfit>
+    ensures { IfOk result (λ found. (thousandths : ℕ) × WritesMeasure rounds text.now thousandths × (expression_of found.0 ≡ absolute thousandths)
+        × (string_bytes line.new ≡ string_bytes line.old ++ measure_text thousandths)) }
+{
+    match written_measure(text.as_bytes(), rounds) {
+        Ok((measure, is_rounded)) => {
+            line.push_str(write_measure(measure).as_str())?;
+            Ok((Position::Absolute(measure), is_rounded))
+        }
+        Err(cause) => Err(Misfit::Field(place, cause)),
+    }
+}
+
+/// Puts the position that a field says, and gives it, and whether it was rounded.
 pub fn put_position(
     alloc: Global,
     csv_record: &ByteRecord,
     place: usize,
+    rounds: bool,
     line: &mut String,
-) -> Result<Position, Misfit>
-    ensures { IfOk result (λ position. (bytes : List ℕ) × PutsPositionAt (fields_of csv_record.now) place (expression_of position) bytes
+) -> Result<(Position, bool), Misfit>
+    ensures { IfOk result (λ found. (bytes : List ℕ) × PutsPositionAt rounds (fields_of csv_record.now) place (expression_of found.0) bytes
         × (string_bytes line.new ≡ string_bytes line.old ++ bytes)) }
 {
     let field = field_text(csv_record, place)?;
-    let (written, position) = position_in(alloc, field.text, place)?;
-    put_written(line, field.text, written)?;
-    Ok(position)
+    match position_in(alloc, field.text, place) {
+        Ok((written, position)) => {
+            put_written(line, field.text, written)?;
+            Ok((position, false))
+        }
+        Err(Misfit::OutOfMemory) => Err(Misfit::OutOfMemory),
+        Err(_) => put_measure(field.text, place, rounds, line),
+    }
+}
+
+// Puts a whole number as an office wrote it.
+fn put_amount(text: &str, place: usize, line: &mut String) -> Result<(), Misfit>
+    ensures { OnOk result ((is_negative : Bool) × (amount : ℕ) × WritesWhole text.now is_negative amount
+        × (string_bytes line.new ≡ string_bytes line.old ++ signed_text is_negative (decimal amount))) }
+{
+    match written_whole(text.as_bytes()) {
+        Ok((is_negative, amount)) => {
+            put_signed(line, is_negative, Buffer::new().format(amount))?;
+            Ok(())
+        }
+        Err(cause) => Err(Misfit::Field(place, cause)),
+    }
+}
+
+// Puts the number that a field says.
+fn put_number(alloc: Global, field: &str, place: usize, line: &mut String) -> Result<(), Misfit>
+    ensures { OnOk result ((datum : Datum) × (bytes : List ℕ) × PutsNumber field.now datum bytes × (string_bytes line.new ≡ string_bytes line.old ++ bytes)) }
+{
+    match number_in(alloc, field, place) {
+        Ok((is_negative, digits)) => {
+            put_signed(line, is_negative, text(field, digits))?;
+            Ok(())
+        }
+        Err(Misfit::OutOfMemory) => Err(Misfit::OutOfMemory),
+        Err(_) => put_amount(field, place, line),
+    }
 }
 
 /// Puts the value that a field says in a column.
@@ -139,10 +191,7 @@ pub fn put_value(
         return Ok(());
     }
     match column_type {
-        ColumnType::Int => {
-            let (is_negative, digits) = number_in(alloc, field.text, place)?;
-            put_number(line, field.text, is_negative, digits)?;
-        }
+        ColumnType::Int => put_number(alloc, field.text, place, line)?,
         ColumnType::Text(_) => put_text(line, field.text)?,
     }
     Ok(())

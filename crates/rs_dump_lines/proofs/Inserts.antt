@@ -26,11 +26,12 @@ use Rattle.rs_machine_laws.specs.ViewLines.{IsReadable}
 use Rattle.rs_csv_lines.proofs.Cuts.{at_word_kind, blank, from_kind, insert_kind, into_kind, minus_kind, minus_stops, null_kind, on_kind, to_kind, token_here, values_kind}
 use Rattle.rs_csv_lines.proofs.Inserts.{kind_of_name}
 use Rattle.rs_csv_lines.proofs.Lexemes.{flat_told, told_piece}
+use Rattle.rs_csv_lines.proofs.NumberTexts.{whole_token}
 use Rattle.rs_dump_laws.specs.Lines.{IsSaid, dump_line, shortest_text}
 use Rattle.rs_dump_lines.proofs.Alignments.{span_joined}
 use Rattle.rs_dump_lines.proofs.Defining.{measure_derived, measure_has_text, measure_word, position_of, word_at_bracket}
 use Rattle.rs_dump_lines.proofs.ListWords.{AreJoined, IsItem, closed, closed_cut, closed_derived, closed_said, closed_shallow, closed_spelled, closed_text}
-use Rattle.rs_dump_lines.proofs.MeasureTexts.{measure_kind, measure_text_is, whole_token}
+use Rattle.rs_dump_lines.proofs.MeasureTexts.{measure_kind, measure_text_is}
 use Rattle.rs_dump_lines.proofs.Words.{AreCut, Word, asks_it, end_at, ending, kinds_at, kinds_in, mark, next, none, opening_bracket, tokens_at, word, words_said, words_text}
 
 -- ---- values

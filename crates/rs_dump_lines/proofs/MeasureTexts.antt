@@ -1,18 +1,16 @@
 -- The shortest text of a measure: what it says, and which token it is.
-use Rattle.std.proofs.Common.{◌≡◌, ℕ, ◌+◌, ◌-◌, ◌*◌, ◌/◌, ◌%◌, ◌<◌, ◌≤◌, ◌^◌, Bool, true, false, ◌&&◌, inl, inr, List, [], ◌∷◌, ◌++◌, length, codes, decimal, Some, refl, sym, subst, arith, append-nil, append_assoc}
+use Rattle.std.proofs.Common.{◌≡◌, ℕ, ◌+◌, ◌-◌, ◌*◌, ◌/◌, ◌%◌, ◌<◌, ◌≤◌, ◌^◌, true, false, inl, inr, List, [], ◌∷◌, ◌++◌, length, codes, decimal, Some, refl, sym, subst, arith, append-nil, append_assoc}
 use Rattle.std.specs.Prelude.{◌==◌, if◌then◌else◌}
-use Rattle.std.specs.Char.{is_ascii_alphabetic, is_ascii_digit}
-use Rattle.std.specs.List.{list_all}
 use Rattle.std.proofs.lemmas.Bool.{eqb-true}
-use Rattle.std.proofs.lemmas.Bool.Decides.{nat_tests}
 use Rattle.std.proofs.lemmas.Fmt.{digits_decimal, digits_value-decimal, decimal_nonempty}
 use Rattle.rs_grammar.specs.declared.kind.TokenKind.{TokenKind}
 use Rattle.rs_grammar.specs.declared.kind.TokenKind.TheVariants as kinds
-use Rattle.rs_lexer.specs.Lexis.{is_fraction, is_whole, token_kind}
-use Rattle.rs_measure.specs.FixedPoint.{AreDigits, AreDigitsUpTo, number_of_digits, three_digits}
+use Rattle.rs_lexer.specs.Lexis.{token_kind}
+use Rattle.rs_measure.specs.FixedPoint.{AreDigitsUpTo, number_of_digits, three_digits}
 use Rattle.rs_measure.specs.Measure.{SaysMeasure}
 use Rattle.rs_measure.proofs.FixedPoint.{numerals}
 use Rattle.rs_measure.proofs.MeasureText.{whole_digits_short}
+use Rattle.rs_csv_lines.proofs.NumberTexts.{whole_token, decimal_token}
 use Rattle.rs_dump_laws.specs.Lines.{decimals_text, shortest_text}
 
 -- ---- decimals
@@ -45,43 +43,6 @@ decimals n few = elim (n % 100 == 0) as (λ b. n % 100 == 0 ≡ b → AreDecimal
 -- which token it is: whole where there are no decimals
 abbrev pub measure_kind : ℕ → TokenKind
 measure_kind k = if k % 1000 == 0 then kinds.Whole else kinds.Decimal
-
-digit-alphabetic : (byte : ℕ) → 48 ≤ byte → byte ≤ 57 → is_ascii_alphabetic byte ≡ false
-digit-alphabetic byte low high = grind (arith, nat_tests)
-
-digit-digit : (byte : ℕ) → 48 ≤ byte → byte ≤ 57 → is_ascii_digit byte ≡ true
-digit-digit byte low high = grind (arith, nat_tests)
-
-all_digits : (digits : List ℕ) → AreDigits digits → list_all is_ascii_digit digits ≡ true
-all_digits [] are = refl
-all_digits (d ∷ ds) are = rw (digit-digit d are.0 are.1) (all_digits ds are.2)
-
-and_right : (a b : Bool) → b ≡ false → a && b ≡ false
-and_right true b e = e
-and_right false b e = refl
-
-not_all_digits : (digits more : List ℕ) → list_all is_ascii_digit (digits ++ 46 ∷ more) ≡ false
-not_all_digits [] more = refl
-not_all_digits (d ∷ ds) more = and_right (is_ascii_digit d) _ (not_all_digits ds more)
-
-whole-all : (digits : List ℕ) → AreDigits digits → 1 ≤ length digits → is_whole digits ≡ true
-whole-all [] are some = absurd (omega arith)
-whole-all (d ∷ ds) are some = rw (digit-digit d are.0 are.1) (all_digits ds are.2)
-
-fraction-is : (whole rest : List ℕ) → AreDigits whole → is_whole rest ≡ true → is_fraction (whole ++ 46 ∷ rest) ≡ true
-fraction-is [] rest are is = is
-fraction-is (d ∷ ds) rest are is = rw (digit-digit d are.0 are.1) (fraction-is ds rest are.2 is)
-
-pub whole_token : (digits : List ℕ) → AreDigits digits → 1 ≤ length digits → token_kind digits ≡ Some kinds.Whole
-unfolding token_kind
-whole_token [] are some = absurd (omega arith)
-whole_token (d ∷ ds) are some = rw (digit-alphabetic d are.0 are.1, digit-digit d are.0 are.1, all_digits ds are.2) refl
-
-decimal_token : (whole parts : List ℕ) → AreDigits whole → 1 ≤ length whole → AreDigits parts → 1 ≤ length parts → token_kind (whole ++ 46 ∷ parts) ≡ Some kinds.Decimal
-unfolding token_kind
-decimal_token [] parts are some digits more = absurd (omega arith)
-decimal_token (d ∷ ds) parts are some digits more =
-    rw (digit-alphabetic d are.0 are.1, digit-digit d are.0 are.1, not_all_digits ds parts, fraction-is ds parts are.2 (whole-all parts digits more)) refl
 
 -- the text says the measure, and is a token of this kind
 pub record IsMeasureText (k : ℕ) (text : List ℕ) (kind : TokenKind) : Type 0 where

@@ -8,11 +8,12 @@ use Rattle.clap.specs.declared.error.kind.ErrorKind.{ErrorKind}
 use Rattle.clap.specs.declared.error.kind.ErrorKind.TheVariants as kinds
 use Rattle.std.specs.Io.KnownBytes.{Keeps}
 use Rattle.std.specs.Borrow.{Bor}
-use Rattle.rs_command_line.specs.Asked.{Said, given_text, said_by, watches}
+use Rattle.rs_command_line.specs.Asked.{Said, csv_said, given_text, said_by}
+use Rattle.rs_command_line.specs.declared.command_line.CsvWords.{CsvWords}
 use Rattle.rs_command_line.specs.declared.command_line.Asked.{Asked}
 use Rattle.rs_command_line.specs.declared.command_line.Asked.TheVariants as asked
 use Rattle.rs_server.specs.declared.report.TheConstants.{MISUSE}
-use Rattle.rs_server.specs.Ending.{ShowsHelp, RefusesWords, LacksMemory, EndsBy, EndsOn, EndsAs, IsQuiet, IsQuietAs}
+use Rattle.rs_server.specs.Ending.{ShowsHelp, RefusesWords, LacksMemory, EndsBy, EndsOn, EndsAs, IsQuiet, IsQuietAs, SaysMore}
 
 -- the one kind of a list
 only : (kind other : ErrorKind) → IsAmong kind (other ∷ []) → kind ≡ other
@@ -87,15 +88,20 @@ pub quiet_watched : (file : Option (Bor (List ℕ))) (bails reports : Bool) (a b
 quiet_watched file bails true a b keeps = tt
 quiet_watched file bails false a b keeps = keeps refl
 
+-- where it rounds, it says of how many
+quiet_csv : (words : Option Said) (said : CsvWords) (a b : Option (List ℕ)) → words ≡ Some (said_by (asked.Csv said)) → (said.rounds ≡ false → Keeps a b) → (rounds : Bool) → said.rounds ≡ rounds → Keeps a b ⊎ SaysMore words
+quiet_csv words said a b asks quiet true is = inr (inr (csv_said said, asks, is))
+quiet_csv words said a b asks quiet false is = inl (quiet is)
+
 pub quiet_as : (words : Option Said) (read : Result Asked Error) (a b : Option (List ℕ)) → IfOk read (λ it. words ≡ Some (said_by it)) → IsQuietAs read a b
-    → Keeps a b ⊎ ((file : Option (List ℕ)) × (bails : Bool) × (words ≡ Some (watches file bails true)))
+    → Keeps a b ⊎ SaysMore words
 quiet_as words (Err error) a b asks quiet = inl quiet
-quiet_as words (Ok (asked.RunWatched file bails true)) a b asks quiet = inr (given_text file, bails, asks)
+quiet_as words (Ok (asked.RunWatched file bails true)) a b asks quiet = inr (inl (given_text file, bails, asks))
 quiet_as words (Ok (asked.RunWatched file bails false)) a b asks quiet = inl quiet
 quiet_as words (Ok (asked.Create file)) a b asks quiet = inl quiet
 quiet_as words (Ok asked.Run) a b asks quiet = inl quiet
 quiet_as words (Ok (asked.RunFile file)) a b asks quiet = inl quiet
-quiet_as words (Ok (asked.Csv said)) a b asks quiet = inl quiet
+quiet_as words (Ok (asked.Csv said)) a b asks quiet = quiet_csv words said a b asks quiet said.rounds refl
 quiet_as words (Ok (asked.Dump file table omits_rows)) a b asks quiet = inl quiet
 quiet_as words (Ok (asked.Explain refusal)) a b asks quiet = inl quiet
 quiet_as words (Ok (asked.Serve file address connections)) a b asks quiet = inl quiet

@@ -6,6 +6,7 @@ use Rattle.clap.specs.declared.error.kind.ErrorKind.{ErrorKind}
 use Rattle.clap.specs.declared.error.kind.ErrorKind.TheVariants.{DisplayHelp, DisplayVersion, OutOfMemory}
 use Rattle.clap.specs.declared.error.Error.{Error}
 use Rattle.clap.specs.Values.{kind_of}
+use Rattle.rs_command_line.specs.Asked.{CsvSaid, Said, converts, watches}
 use Rattle.rs_command_line.specs.declared.command_line.Asked.{Asked}
 use Rattle.rs_command_line.specs.declared.command_line.Asked.TheVariants.{Create, Csv, Dump, Explain, Run, RunFile, RunWatched, Serve}
 use Rattle.rs_csv.specs.Output.{Ends, IsAsked}
@@ -68,7 +69,7 @@ abbrev pub Runs : Option Failure → Option (List ℕ) → Option (List ℕ) →
 Runs failure unread unread_now before after = ServesLines failure unread unread_now before after ⊎ LacksMachine failure unread unread_now before after
 
 -- `csv` writes what is made of the records of what the input told, or a front of it, as lines of the table that some words define; of the
--- whole input, and nothing was told on the errors stream, where the status is 0. With another status it may read and write nothing.
+-- whole input, and nothing was told and left out, where the status is 0. With another status it may read and write nothing.
 abbrev pub WritesLines : ℕ → Option (List ℕ) → Option (List ℕ) → Option (List ℕ) → Option (List ℕ) → Type 0
 WritesLines status unread unread_now before after =
     ((status ≢ SUCCESS) × Keeps unread unread_now × Keeps before after)
@@ -96,10 +97,16 @@ EndsDoing (Explain refusal) status unread unread_now before after errors errors_
 EndsDoing asked status unread unread_now before after errors errors_now =
     (failure : Option Failure) × Does asked failure unread unread_now before after × EndsWith failure status errors errors_now
 
--- it says nothing on the errors stream, but where it is asked to report
+-- it says nothing on the errors stream, but where it is asked to report, or to round
 abbrev pub IsQuiet : Asked → Option (List ℕ) → Option (List ℕ) → Type 0
 IsQuiet (RunWatched file bails true) errors errors_now = Unit {0}
+IsQuiet (Csv words) errors errors_now = words.rounds ≡ false → Keeps errors errors_now
 IsQuiet asked errors errors_now = Keeps errors errors_now
+
+-- the words ask to report, or to round
+abbrev pub SaysMore : Option Said → Type 0
+SaysMore asked = ((file : Option (List ℕ)) × (bails : Bool) × (asked ≡ Some (watches file bails true)))
+    ⊎ ((said : CsvSaid) × (asked ≡ Some (converts said)) × (said.rounds ≡ true))
 
 abbrev pub IsQuietAs : Result Asked Error → Option (List ℕ) → Option (List ℕ) → Type 0
 IsQuietAs (Ok asked) errors errors_now = IsQuiet asked errors errors_now

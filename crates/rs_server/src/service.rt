@@ -2,14 +2,14 @@
 //!
 //! The status says how it ended: 0, 1 for a failure, 2 for a command line that is refused. The first failure alone is told.
 
-ghost use Rattle.std.specs.Prelude.{◌≡◌, ◌⊎◌, ℕ, Bool, List, Option, None, Some, false, true, map, IfSome, OnOk};
+ghost use Rattle.std.specs.Prelude.{◌≡◌, ◌⊎◌, Option, None, Some, false, true, map, IfSome, OnOk};
 ghost use Rattle.std.specs.Io.KnownBytes.{Appends, Keeps};
 ghost use Rattle.clap.specs.Words.{fault_of};
-ghost use Rattle.rs_command_line.specs.Asked.{asked_of, said_by, watches};
+ghost use Rattle.rs_command_line.specs.Asked.{asked_of, said_by};
 ghost use Rattle.rs_command_line.specs.CommandLine.{command_line};
 ghost use Rattle.rs_command_line.specs.declared.command_line.Asked.{Asked};
 ghost use Rattle.rs_server.specs.Disks.{told_of};
-ghost use Rattle.rs_server.specs.Ending.{EndsAs, EndsBy, EndsDoing, EndsWith, IsQuiet, IsQuietAs, Runs};
+ghost use Rattle.rs_server.specs.Ending.{EndsAs, EndsBy, EndsDoing, EndsWith, IsQuiet, IsQuietAs, Runs, SaysMore};
 
 use crate::connection::{CannotAccept, serve_connections};
 use crate::disks::{close_after, create_on, failure_after, serve_disk};
@@ -58,8 +58,7 @@ pub fn program<
     ensures ends { EndsBy (fault_of command_line (map S.text words.now)) (λ asked. asked_of (map S.text words.now) ≡ Some (said_by asked)) result
         (R.remaining input.old) (R.remaining input.new) (W.contents output.old) (W.contents output.new)
         (E.contents errors.old) (E.contents errors.new) }
-    ensures quiet { result ≡ SUCCESS → Keeps (E.contents errors.old) (E.contents errors.new)
-        ⊎ ((file : Option (List ℕ)) × (bails : Bool) × (asked_of (map S.text words.now) ≡ Some (watches file bails true))) }
+    ensures quiet { result ≡ SUCCESS → Keeps (E.contents errors.old) (E.contents errors.new) ⊎ SaysMore (asked_of (map S.text words.now)) }
 {
     let asked = read_words(rt.alloc(), words);
     do_as_asked(rt, asked, input, output, errors)

@@ -1,6 +1,6 @@
 //! The words `csv` and `explain`: what they do, and how they end.
 
-ghost use Rattle.std.specs.Prelude.{◌≡◌, ◌<◌, IfSome};
+ghost use Rattle.std.specs.Prelude.{◌≡◌, ◌<◌, IfSome, false};
 ghost use Rattle.std.specs.Io.KnownBytes.{Keeps};
 ghost use Rattle.rs_server.specs.Ending.{WritesLines};
 
@@ -16,7 +16,7 @@ use std::io::{Read, Write};
 
 /// Makes the CSV of the input into lines on the output, and gives the exit status.
 ///
-/// 0 where nothing was told; 1 where something was told and left out, where the header lacks a column, or for a failure; 2 where the
+/// 0 where nothing was told and left out; 1 where something was told and left out, where the header lacks a column, or for a failure; 2 where the
 /// words define no table, or name no session.
 pub(crate) fn convert<R: Read, W: Write, E: Write>(
     alloc: Global,
@@ -26,7 +26,7 @@ pub(crate) fn convert<R: Read, W: Write, E: Write>(
     errors: &mut E,
 ) -> u8
     ensures lines { WritesLines result (R.remaining input.old) (R.remaining input.new) (W.contents output.old) (W.contents output.new) }
-    ensures quiet { result ≡ SUCCESS → Keeps (E.contents errors.old) (E.contents errors.new) }
+    ensures quiet { result ≡ SUCCESS → words.now.rounds ≡ false → Keeps (E.contents errors.old) (E.contents errors.new) }
 {
     let Some(session) = session_of(words.session.unwrap_or("0")) else {
         return refuse(errors, b"error: the session is no number from 0 to 63\n");
@@ -41,6 +41,7 @@ pub(crate) fn convert<R: Read, W: Write, E: Write>(
         columns: words.columns.as_slice(),
         defines_table: !words.omits_definition,
         defines_routes: words.defines_routes,
+        rounds: words.rounds,
     };
     match write_lines(alloc, wanted, input, output, errors) {
         Ok(false) => SUCCESS,

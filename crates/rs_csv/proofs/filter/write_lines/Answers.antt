@@ -28,4 +28,4 @@ returns-clause-wrote g c =
     let told = strip_bom input.0 in
     let took =
     subst (λ (filter : FilterParts). TookAll c.args.wanted table (g.W.Write.contents c.args.output.now) filter.progress told (g.W.Write.contents c.read_all.new.output)) (sym c.filter.view_is) input.2.1 in
-    (table, inl (asked c.args.wanted c.in-Ok.definition c.in-Ok.ensures.defines c.in-Ok.ensures.line), (input.0, input.1, ends_whole c.args.wanted table c.write_rest.result c.filter.inside.progress told _ _ _ _ input.2.0 took c.write_rest.ensures.wrote c.write_rest.ensures.told))
+    (table, inl (asked c.args.wanted c.in-Ok.definition c.in-Ok.ensures.defines c.in-Ok.ensures.line), (input.0, input.1, ends_whole c.args.wanted table c.end_lines.result c.filter.inside.progress told _ _ _ _ input.2.0 took c.end_lines.ensures.wrote c.end_lines.ensures.told))

@@ -25,6 +25,7 @@ returns-clause-plan g c =
       named = c.requires.defines.sound.0;
       some = subst (λ n. 0 < n) (sym count) (omega (arith, c.requires.defines.sound.1));
       session_is = refl;
+      rounds_is = refl;
       in_range = c.requires.in_range;
     }
 

@@ -11,7 +11,7 @@ pub returns : goal.returns
 returns c =
     let plan = c.args.plan.now in
     let fields = fields_of c.args.csv_record.now in
-    let place = c.in_ok-first.ensures in
+    let place = c.in_ok-ends.ensures in
     let row = c.in_ok-put_row.ensures in
     let short : length (string_bytes c.push_str-5.new.self) ≤ LINE_BYTES = subst (λ bs. length bs ≤ LINE_BYTES) c.as_str-whole.ensures.value c.if-whole-gt-LINE_BYTES.false in
     line_asks plan fields (string_bytes c.push_str-5.new.self) c.in_ok-route.route.bytes place.1 row.1 place.0 row.0 c.requires.session c.requires.named (subst IsUtf8 c.as_str-whole.ensures.value c.as_str-whole.utf8) short

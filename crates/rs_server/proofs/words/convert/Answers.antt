@@ -10,6 +10,9 @@ returns-in-Ok-false-clause-lines g c =
     let all = c.write_lines.ensures.wrote in
     inr (_, all.0, all.1, c.write_lines.result, all.2.0, all.2.1, all.2.2, λ is. c.in-Ok-false.is ∙ ap Ok c.in-Ok-false.field-0-test)
 
+pub returns-in-Ok-false-clause-quiet : goal.returns-in-Ok-false-clause-quiet
+returns-in-Ok-false-clause-quiet g c = λ is none. c.write_lines.ensures.quiet (c.in-Ok-false.is ∙ ap Ok c.in-Ok-false.field-0-test) none
+
 pub returns-in-Ok-true-clause-lines : goal.returns-in-Ok-true-clause-lines
 returns-in-Ok-true-clause-lines g c =
     let all = c.write_lines.ensures.wrote in
