@@ -45,6 +45,7 @@ pub fn complete<D: Disk, C: Copies>(
         → EveryImage D.Disk (StageImage stage.old kept (journal_of C.Copies first copies.now) checkpoint) disk.old
         → OnErr result (stage.new ≡ Fresh → Meanwhile D.Disk (λ image. Recovers image kept) disk.old disk.new) }
     ensures goes_on { stage.old ≢ Fresh → OnErr result (stage.new ≢ Fresh) }
+    ensures fresh { OnOk result (stage.new ≡ Fresh) }
     ensures calls { SyncsDisk D.Disk result disk.old disk.new }
 {
     match *stage {
@@ -72,6 +73,7 @@ fn from_fresh<D: Disk, C: Copies>(
     ensures untouched { (kept checkpoint : FilePages) → MakesPages (journal_of C.Copies first copies.now) kept checkpoint
         → EveryImage D.Disk (IsQuiet kept) disk.old
         → OnErr result (stage.new ≡ Fresh → Meanwhile D.Disk (λ image. Recovers image kept) disk.old disk.new) }
+    ensures fresh { OnOk result (stage.new ≡ Fresh) }
     ensures calls { SyncsDisk D.Disk result disk.old disk.new }
 {
     begin(disk, first, copies)?;
@@ -88,6 +90,7 @@ fn from_gate<D: Disk, C: Copies>(disk: &mut D, stage: &mut Stage, copies: &C) ->
         → EndsOrStops D.Disk kept (journal_of C.Copies first copies.now) checkpoint
         (IsEither kept checkpoint) result stage.new disk.old disk.new }
     ensures goes_on { OnErr result (stage.new ≢ Fresh) }
+    ensures fresh { OnOk result (stage.new ≡ Fresh) }
     ensures calls { SyncsDisk D.Disk result disk.old disk.new }
 {
     open_gate(disk)?;
@@ -104,6 +107,7 @@ fn from_home<D: Disk, C: Copies>(disk: &mut D, stage: &mut Stage, copies: &C) ->
         → EndsOrStops D.Disk kept (journal_of C.Copies first copies.now) checkpoint
         (λ image. Recovers image checkpoint) result stage.new disk.old disk.new }
     ensures goes_on { OnErr result (stage.new ≢ Fresh) }
+    ensures fresh { OnOk result (stage.new ≡ Fresh) }
     ensures calls { SyncsDisk D.Disk result disk.old disk.new }
 {
     bring_home(disk, copies)?;
@@ -118,6 +122,7 @@ fn from_closing<D: Disk>(disk: &mut D, stage: &mut Stage) -> Result<(), Refusal>
         → EveryImage D.Disk (IsClosing journal checkpoint) disk.old
         → EndsOrStops D.Disk kept journal checkpoint (λ image. Recovers image checkpoint) result stage.new disk.old disk.new }
     ensures goes_on { OnErr result (stage.new ≢ Fresh) }
+    ensures fresh { OnOk result (stage.new ≡ Fresh) }
     ensures calls { SyncsDisk D.Disk result disk.old disk.new }
 {
     close_gate(disk)?;
