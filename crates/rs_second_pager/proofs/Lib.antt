@@ -1,0 +1,17 @@
+pub mod Allocated
+pub mod AllocatedFree
+pub mod Checkpoints
+pub mod Composed
+pub mod Copied
+pub mod Cut
+pub mod DiskBytes
+pub mod Edited
+pub mod Headers
+pub mod Keeping
+pub mod Lent
+pub mod Loaded
+pub mod Made
+pub mod Readied
+pub mod Released
+pub mod Taken
+pub mod Zeros

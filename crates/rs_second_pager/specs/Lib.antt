@@ -1,0 +1,10 @@
+pub mod Below
+pub mod Copying
+pub mod Found
+pub mod Lasts
+pub mod Maps
+pub mod Opened
+pub mod Paged
+pub mod SecondHeader
+pub mod Stored
+pub mod Taking

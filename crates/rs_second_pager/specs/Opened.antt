@@ -1,0 +1,59 @@
+-- What a pager is once it was made, opened, written out, or its changes ended.
+use Rattle.std.specs.Prelude.{◌≡◌, ◌≢◌, ◌≤◌, ℕ, false, [], ◌↔◌}
+use Rattle.rs_refusal.specs.declared.refusal.Refusal.{Refusal}
+use Rattle.rs_refusal.specs.declared.refusal.Refusal.TheVariants as refusal
+use Rattle.rs_refusal.specs.Counts.{counted_on}
+use Rattle.rs_page_cache.specs.Changes.{committed_held, abandoned_held}
+use Rattle.rs_page_cache.specs.declared.clean.TheConstants.{MOST_CLEAN}
+use Rattle.rs_journal.specs.declared.stage.Stage.TheVariants.{Fresh}
+use Rattle.rs_second_pager.specs.Paged.{Paged, held}
+use Rattle.rs_second_pager.specs.Maps.{HoldsNoChange}
+
+-- a refusal that says that a call of the disk failed counts one failure, and no other does
+pub record CountsFault (why : Refusal) (old new : ℕ) : Type 0 where
+  pub disk : why ≡ refusal.Disk → new ≡ counted_on old
+  pub other : why ≢ refusal.Disk → new ≡ old
+
+-- nothing is begun and nothing is held, no page was refused, the limit is this, the count of pages is within it, and as many
+-- clean pages may be held as at any time but while a whole file is read
+pub record IsFresh {D : Type 0} (most : ℕ) (p : Paged D) : Type 0 where
+  pub limit : p.limit ≡ most
+  pub shut : p.is_begun ≡ false
+  pub full : p.full_refusals ≡ 0
+  pub same : p.working ≡ p.committed_fields
+  pub no_change : HoldsNoChange p
+  pub no_held : p.changes ≡ []
+  pub no_clean : p.clean ≡ []
+  pub most_clean : p.most_clean ≡ MOST_CLEAN
+  pub least : 2 ≤ p.committed_fields.pages
+  pub greatest : p.committed_fields.pages ≤ most
+  pub fresh : p.under_way.stage ≡ Fresh
+
+-- each working copy is a committed page now that the disk lacks, and page 0 is changed exactly where it was or its fields
+-- are others
+pub record Commits {D : Type 0} (old new : Paged D) : Type 0 where
+  pub held : (number : ℕ) → held new number ≡ committed_held (held old number)
+  pub committed_fields : new.committed_fields ≡ old.working
+  pub working : new.working ≡ old.working
+  pub lacks : (new.is_header_changed ≡ false) ↔ ((old.is_header_changed ≡ false) × (old.committed_fields ≡ old.working))
+  pub clean : new.clean ≡ old.clean
+  pub most_clean : new.most_clean ≡ old.most_clean
+  pub shut : new.is_begun ≡ false
+  pub disk : new.disk ≡ old.disk
+  pub limit : new.limit ≡ old.limit
+  pub full : new.full_refusals ≡ old.full_refusals
+  pub under_way : new.under_way ≡ old.under_way
+
+-- the working copies are gone
+pub record Abandons {D : Type 0} (old new : Paged D) : Type 0 where
+  pub held : (number : ℕ) → held new number ≡ abandoned_held (held old number)
+  pub committed_fields : new.committed_fields ≡ old.committed_fields
+  pub working : new.working ≡ old.committed_fields
+  pub lacks : new.is_header_changed ≡ old.is_header_changed
+  pub clean : new.clean ≡ old.clean
+  pub most_clean : new.most_clean ≡ old.most_clean
+  pub shut : new.is_begun ≡ false
+  pub disk : new.disk ≡ old.disk
+  pub limit : new.limit ≡ old.limit
+  pub full : new.full_refusals ≡ old.full_refusals
+  pub under_way : new.under_way ≡ old.under_way
