@@ -26,7 +26,7 @@ use Rattle.rs_csv_lines.proofs.Inserts.{kind_of_name}
 use Rattle.rs_dump_laws.specs.Lines.{IsSaid, column_text, dump_line, kind_word}
 use Rattle.rs_dump_lines.proofs.Defining.{define_kind, name_at_bracket, word_at_bracket}
 use Rattle.rs_dump_lines.proofs.ListWords.{AreJoined, IsItem, closed, closed_cut, closed_derived, closed_said, closed_shallow, closed_spelled, closed_text}
-use Rattle.rs_dump_lines.proofs.MeasureTexts.{whole_token}
+use Rattle.rs_csv_lines.proofs.NumberTexts.{whole_token}
 use Rattle.rs_dump_lines.proofs.Words.{AreCut, Word, asks_it, closing_bracket, end_at, ending, kinds_at, kinds_in, mark, next, none, opening_bracket, tokens_at, word, words_said, words_text}
 
 int_kind : token_kind (codes "INT") ≡ Some kinds.Int
