@@ -4,7 +4,7 @@
 //! next, before any change: meanwhile what it copies is held as it is. The clean pages are dropped first, since after a failed write they
 //! may be other than the disk's.
 
-ghost use Rattle.std.specs.Prelude.{◌≡◌, ◌≢◌, ◌⊎◌, ℕ, OnOk, OnErr, IfErr, IsOkUnless, MatchResult, true, false, []};
+ghost use Rattle.std.specs.Prelude.{IsOk, Err, ◌≡◌, ◌≢◌, ◌⊎◌, ℕ, OnOk, OnErr, IfErr, IsOkUnless, MatchResult, true, false, []};
 ghost use Rattle.rs_disk.specs.Counts.{Counts};
 ghost use Rattle.rs_journal.specs.FilePages.{FilePages};
 ghost use Rattle.rs_journal.specs.declared.stage.Stage.TheVariants.{Fresh};
@@ -27,6 +27,8 @@ impl<D: Disk> Pager<D> {
     pub fn checkpoint(&mut self) -> Result<(), Refusal>
         requires { self.old.is_begun ≡ false }
         ensures checkpoints { Checkpoints D.Disk result self.old self.new }
+        ensures idle { self.old.under_way.stage ≡ Fresh → self.old.changes ≡ [] → self.old.is_header_changed ≡ false → IsOk result × (self.new ≡ self.old) }
+        ensures memory { result ≡ Err Refusal.OutOfMemory → (self.old.under_way.stage ≡ Fresh) × (self.new ≡ record self.old { clean = []; under_way = self.new.under_way }) }
         ensures no_change { OnOk result (HoldsNoChange self.new) }
         ensures no_held { OnOk result (self.new.changes ≡ []) }
         ensures fresh { OnOk result (self.new.under_way.stage ≡ Fresh) }
@@ -48,7 +50,8 @@ impl<D: Disk> Pager<D> {
 
     /// Whether no checkpoint is under way and the disk has all that is committed.
     fn lacks_nothing(&self) -> bool
-        ensures { result ≡ true → (self.now.under_way.stage ≡ Fresh) × (self.now.changes ≡ []) × (self.now.is_header_changed ≡ false) }
+        ensures yes { result ≡ true → (self.now.under_way.stage ≡ Fresh) × (self.now.changes ≡ []) × (self.now.is_header_changed ≡ false) }
+        ensures no { self.now.under_way.stage ≡ Fresh → self.now.changes ≡ [] → self.now.is_header_changed ≡ false → result ≡ true }
     {
         self.under_way.stage() == Stage::Fresh
             && !self.is_header_changed
@@ -63,6 +66,7 @@ impl<D: Disk> Pager<D> {
         ensures alone { self.new ≡ record self.old { clean = []; under_way = self.new.under_way } }
         ensures stage { self.new.under_way.stage ≡ self.old.under_way.stage }
         ensures resumed { self.old.under_way.stage ≢ Fresh → self.new.under_way ≡ self.old.under_way }
+        ensures memory { OnErr result (self.old.under_way.stage ≡ Fresh) }
         ensures refusal { IsOkUnless result Refusal.OutOfMemory }
     {
         self.clean.clear();

@@ -4,7 +4,7 @@
 //! are the committed ones with the changes since `begin`. Clean pages are held too, a bounded number of them, which is
 //! greater while a whole file is read.
 
-ghost use Rattle.std.specs.Prelude.{◌≡◌, ◌⊎◌, ◌≤◌, ◌^◌, ◌-◌, min, ℕ, true, false, None, IsOk, OnOk, OnErr, IfErr, MatchResult, length, []};
+ghost use Rattle.std.specs.Prelude.{◌≡◌, ◌≢◌, ◌⊎◌, ◌<◌, ◌≤◌, ◌^◌, ◌-◌, min, ℕ, true, false, None, IsOk, OnOk, OnErr, IfErr, MatchResult, length, []};
 ghost use Rattle.rs_journal.specs.FilePages.{FilePages};
 ghost use Rattle.rs_pages.specs.PageMap.{SamePages};
 ghost use Rattle.rs_page_cache.specs.Changes.{ListsHeld};
@@ -73,6 +73,7 @@ impl<D: Disk> Pager<D> {
         ensures lasts { Lasts D.Disk self.old self.new }
         ensures same { SamePages (working D.Disk self.new) (committed D.Disk self.new) }
         ensures few { self.old.under_way.stage ≡ Fresh → length self.old.changes ≤ MOST_CHANGED → IsOk result × (self.new ≡ self.old) }
+        ensures many { (MOST_CHANGED < length self.old.changes) ⊎ (self.old.under_way.stage ≢ Fresh) → OnOk result (HoldsNoChange self.new × (self.new.changes ≡ [])) }
         ensures shut { self.new.is_begun ≡ false }
         ensures fresh { OnOk result (self.new.under_way.stage ≡ Fresh) }
         ensures bound { OnOk result (length self.new.changes ≤ MOST_CHANGED) }

@@ -13,7 +13,7 @@ pub returns-then-lacks_nothing-clause-checkpoints : goal.returns-then-lacks_noth
 returns-then-lacks_nothing-clause-checkpoints g c =
     let old = c.args.self.now in
     let sound = subst (λ (p : Paged _). IsSound p.limit p.changes p.committed_fields p.working p.is_begun p.under_way.stage) c.self.view_is c.self.invariant in
-    let nothing = c.lacks_nothing.ensures c.if-lacks_nothing.true in
+    let nothing = c.lacks_nothing.ensures.yes c.if-lacks_nothing.true in
     lacking_checkpoints g.D.Disk {T = Unit {0}} {E = Refusal} (Ok (tt {0})) old sound nothing.0 nothing.1 nothing.2
 
 pub returns-in_err-ready-clause-checkpoints : goal.returns-in_err-ready-clause-checkpoints
