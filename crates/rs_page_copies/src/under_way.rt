@@ -72,6 +72,7 @@ impl UnderWay {
         first_page: &Page,
         is_header_changed: bool,
     ) -> Result<(), Refusal>
+        requires fresh { self.old.stage ≡ Fresh }
         requires after { (number : ℕ) → IsSome (held_at changes.now number).committed → 0 < number }
         requires below { (number : ℕ) → IsSome (held_at changes.now number).committed → number < GREATEST_LIMIT }
         ensures lists { OnOk result (ListsCommitted changes.now is_header_changed self.new.numbers) }

@@ -3,6 +3,7 @@
 ghost use Rattle.std.specs.Prelude.{◌≡◌, ◌+◌, ◌≤◌, ℕ, length, IfSome, IfNone, IsTrue, ◌↔◌};
 ghost use Rattle.rs_page.specs.declared.file_header.FileHeader.{FileHeader};
 ghost use Rattle.rs_page.specs.declared.header.PageKind.TheVariants.{Header};
+ghost use Rattle.rs_journal.specs.declared.limits.TheConstants.{GATE};
 ghost use Rattle.rs_page.specs.Number.{number_at};
 ghost use Rattle.rs_second_pager.specs.SecondHeader.{IsSecondHeader, HasSecondMarks, EndsInOwnZeros};
 
@@ -37,6 +38,7 @@ pub fn read_second_header(page: &[u8]) -> Option<FileHeader>
 pub fn second_page(fields: &FileHeader) -> Page
     ensures header { IsSecondHeader result.bytes fields.now }
     ensures size { length result.bytes ≡ PAGE_SIZE }
+    ensures own { (k : ℕ) → GATE ≤ k → number_at k 1 result.bytes ≡ 0 }
 {
     let mut page = fields.page();
     put_four(&mut page.bytes, 24, SECOND_FORMAT);
