@@ -16,6 +16,7 @@ NAMES = ("chromium", "chromium-browser", "google-chrome", "chrome", "headless_sh
 PATIENCE = 300  # seconds for an answer, on a machine that is busy
 WORDS = ("--headless", "--no-sandbox", "--disable-gpu", "--hide-scrollbars", "--no-first-run", "--disable-extensions")
 WORDS += ("--disable-background-networking", "--disable-dev-shm-usage", "--remote-debugging-pipe")
+KEYS = {"Tab": 9, "Enter": 13, "ArrowUp": 38, "ArrowDown": 40}  # what these do goes by their codes
 
 
 def path_of_browser():
@@ -137,9 +138,10 @@ class Browser:
         self.ask("Input.dispatchTouchEvent", type="touch" + kind, touchPoints=told)
 
     def key(self, key, modifiers=0):
-        text = {"text": key} if len(key) == 1 else {}
-        self.ask("Input.dispatchKeyEvent", type="keyDown", key=key, modifiers=modifiers, **text)
-        self.ask("Input.dispatchKeyEvent", type="keyUp", key=key, modifiers=modifiers)
+        more = {"text": key} if len(key) == 1 else {"text": "\r"} if key == "Enter" else {}
+        code = {"windowsVirtualKeyCode": KEYS[key]} if key in KEYS else {}
+        self.ask("Input.dispatchKeyEvent", type="keyDown", key=key, modifiers=modifiers, **code, **more)
+        self.ask("Input.dispatchKeyEvent", type="keyUp", key=key, modifiers=modifiers, **code)
 
     def picture(self, *part):
         """A picture of what is seen, or of a part of it (x, y, width, height), as PNG."""

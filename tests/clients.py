@@ -34,6 +34,7 @@ from document_scripts import DOCUMENT_TESTS
 from files_and_peers import LONGEST, NO_FILE, Program, not_opened, put, serving
 from harness import expect, run_tests
 from page_browser import BROWSER_TESTS, PAGE_SPEED_TESTS
+from page_pictures import PICTURE_TESTS
 from page_steps import STEP_TESTS
 from pages import PAGE_TESTS
 from programs import PROGRAM
@@ -280,6 +281,7 @@ TESTS = [
     an_error_of_the_caller_closes_the_cursors,
     *DIAGRAM_TESTS,
     *PAGE_TESTS,
+    *PICTURE_TESTS,
     *STEP_TESTS,
     *BROWSER_TESTS,
     *DOCUMENT_TESTS,

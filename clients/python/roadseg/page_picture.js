@@ -9,6 +9,7 @@ const drawing = (() => {
   const TEXT = 12, PAD = 4, ROW = 15;
   const LANE = 24, MARK_LANE = 16, MARK = 5, BETWEEN = 12, OVERVIEW = 6;
   const LABELLED_LANES = 4, PILE = 40, REFERENT_ROWS = 3, MANY_REFERENTS = 20;
+  const CROWDED = 10; // the lines of referents that are nearer together than this would be a grey wall: they are left out
   const THIN = 1.5; // narrower spans are drawn together, pixel by pixel
   const OUTLINED = 4;
 
@@ -174,7 +175,7 @@ const drawing = (() => {
 
   const fillOf = (data, style) => (data.styles[style][1] ? "url(#fill-" + style + ")" : data.styles[style][0]);
 
-  /** What pictures and legends refer to: the fills with hatches, and the shapes of marks. */
+  /** What pictures and legends refer to: the fills with hatches. */
   function definitions(data) {
     const fills = data.styles.map(([colour, hatch, , ink], k) =>
       hatch
@@ -182,12 +183,14 @@ const drawing = (() => {
           `<path d="${HATCHES[hatch]}" stroke="${ink}" stroke-opacity="0.6" stroke-width="1"/></pattern>`
         : "",
     );
-    const shapes = SHAPES.map((shape, k) => `<path id="mark-${k}" class="mark" d="${shape}"/>`);
-    return `<defs>${fills.join("")}${shapes.join("")}</defs>`;
+    return `<defs>${fills.join("")}</defs>`;
   }
 
-  const markAt = (data, x, y, style) =>
-    `<use href="#mark-${data.styles[style][2]}" x="${plain(x)}" y="${plain(y)}" fill="${data.styles[style][0]}"/>`;
+  /** A mark with its shape in it: one that refers to a shape takes a browser twice the time. */
+  const markAt = (data, x, y, style) => {
+    const [fill, , shape] = data.styles[style];
+    return `<path class="mark" transform="translate(${plain(x)},${plain(y)})" d="${SHAPES[shape]}" fill="${fill}"/>`;
+  };
 
   function swatch(data, style, isLine) {
     const inside = isLine
@@ -214,7 +217,7 @@ const drawing = (() => {
       this.right = width - MARGIN;
       [this.ground, this.boxes, this.lines, this.parts] = [[], [], [], []]; // from the back to the front
       this.bands = [];
-      this.thin = this.piled = this.unlabelled = 0;
+      this.thin = this.piled = this.unlabelled = this.referentCount = 0;
     }
 
     x(place) {
@@ -229,7 +232,10 @@ const drawing = (() => {
 
     draw() {
       const { from, to } = this.state.view, inView = this.route.referents.filter(([, at]) => at >= from && at <= to);
-      this.cuts = byPixel(inView.map(([, at]) => this.x(at)));
+      this.referentCount = inView.length;
+      this.signs = byPixel(inView.map(([, at]) => this.x(at)));
+      this.isCrowded = this.signs.length * CROWDED > this.right - this.left;
+      this.cuts = this.isCrowded ? [] : this.signs;
       this.overview();
       this.referents(inView);
       this.axis();
@@ -271,9 +277,9 @@ const drawing = (() => {
           this.parts.push(textAt(spot.start, y, texts[k], "name"), lineFrom(x, y + 3, x, this.y, "leader"));
         }
       });
-      for (const x of this.cuts) {
-        this.parts.push(`<path class="sign" transform="translate(${plain(x)},${plain(this.y)})" d="M-4,-7 4,-7 0,0Z"/>`);
-      }
+      const shape = this.isCrowded ? ["leader", "v-5"] : ["sign", "l-4,-7 8,0Z"];
+      const signs = this.signs.map((x) => `M${plain(x)},${plain(this.y)}${shape[1]}`);
+      if (signs.length) this.parts.push(`<path class="${shape[0]}" d="${signs.join("")}"/>`);
       this.unlabelled = spots.filter((spot) => !spot).length;
     }
 
@@ -343,7 +349,7 @@ const drawing = (() => {
       this.y += Math.max(rows.depth, 1) * LANE;
       if (over) {
         this.piled += over;
-        this.parts.push(textAt(this.left + PAD, this.y + 12, "+" + over + (over === 1 ? " row" : " rows"), "faint"));
+        this.parts.push(textAt(this.left + PAD, this.y + 12, "+" + over + (over === 1 ? " row" : " rows"), "pile faint"));
         this.y += ROW + 2;
       }
     }
@@ -359,8 +365,15 @@ const drawing = (() => {
       const text = this.label(b, i, column, x2 - x1 - 2 * PAD);
       if (!text) return;
       const [fill, hatch, , ink] = this.data.styles[style], width = textWidth(text), x = this.middle(x1, x2, width + 2 * PAD);
-      if (hatch) this.parts.push(boxAt(x - width / 2 - 2, y + 4, width + 4, LANE - 8, "plate", ` fill="${fill}"`));
+      const isPlain = !hatch && !this.isCut(x - width / 2, x + width / 2);
+      if (!isPlain) this.parts.push(boxAt(x - width / 2 - 2, y + 4, width + 4, LANE - 8, "plate", ` fill="${fill}"`));
       this.parts.push(textAt(x, y + 16, text, "label middle", ` fill="${ink}"`));
+    }
+
+    /** Whether a referent's line goes through this part. */
+    isCut(x1, x2) {
+      const first = firstWhere(this.cuts.length, (k) => this.cuts[k] > x1);
+      return first < this.cuts.length && this.cuts[first] < x2;
     }
 
     /** Where the middle of a label is in a span: in the widest part between referents' lines, where it has room there. */
@@ -398,14 +411,19 @@ const drawing = (() => {
         if (side) this.parts.push(textAt(x + side * (MARK + PAD), y + 4, text, side > 0 ? "label" : "label end"));
       }
       this.y += Math.max(ends.length * MARK_LANE + 2, LANE);
-      this.piled += over.length;
-      for (let k = 0; k < over.length; ) {
-        let next = k;
-        while (next < over.length && over[next] < over[k] + PILE) next++;
-        this.parts.push(textAt(Math.min(over[k], this.right - PILE), this.y + 12, "+" + (next - k), "faint"));
-        k = next;
+      if (over.length) this.piles(over);
+    }
+
+    /** Counts marks without room, pile by pile; the last pile has all that are left where no other has room after it. */
+    piles(over) {
+      const width = Math.max(PILE, textWidth("+" + over.length) + PAD);
+      for (let k = 0, next; k < over.length; k = next) {
+        const start = Math.min(over[k], this.right - width), end = start + 2 * width > this.right ? Infinity : start + width;
+        for (next = k; next < over.length && over[next] < end; ) next++;
+        this.parts.push(textAt(start, this.y + 12, "+" + (next - k), "pile faint"));
       }
-      this.y += over.length ? ROW + 2 : 0;
+      this.piled += over.length;
+      this.y += ROW + 2;
     }
 
     /** The lane of a mark, and the side on which its label has room: 1 after it, -1 before it, 0 for none. */
@@ -431,7 +449,8 @@ const drawing = (() => {
 
     notes() {
       const told = [];
-      if (this.route.referents.length) told.push("Dashed lines are referents.");
+      if (this.isCrowded) told.push(`Referents in view: ${this.referentCount}; zoom in for their dashed lines.`);
+      else if (this.route.referents.length) told.push("Dashed lines are referents.");
       if (this.unlabelled) told.push(`Names of referents without room: ${this.unlabelled}.`);
       if (this.thin) told.push(`Rows narrower than ${THIN} pixels, drawn together: ${this.thin}; zoom in to tell them apart.`);
       if (this.piled) told.push(`Rows without room, counted as +N: ${this.piled}.`);

@@ -127,14 +127,15 @@ const roadseg = (() => {
       return found;
     }
 
-    /** The names of a band's columns, the route and the places first, and its rows in view as texts and numbers. */
-    table(b, r, from, to) {
+    /** The names of a band's columns, the route and the places first, its rows in view as texts and numbers, at most so many, and
+     * how many there are. */
+    table(b, r, from, to, most = Infinity) {
       const band = this.data.bands[b], isLine = band.kind === LINE, name = this.route(r).name;
       const header = ["route", ...(isLine ? ["from", "to"] : ["at"]), ...band.columns.map((column) => column.name)];
-      const rows = this.rowsIn(b, r, from, to).map(({ i, start, end }) => [
+      const found = this.rowsIn(b, r, from, to), rows = found.slice(0, most).map(({ i, start, end }) => [
         name, measure(start), ...(isLine ? [measure(end)] : []), ...this.values(b, r, i),
       ]);
-      return { header, rows };
+      return { header, rows, count: found.length };
     }
 
     /** What the legend of a band says of a route: the entries that it has there, in order. */

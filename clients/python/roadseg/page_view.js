@@ -167,7 +167,7 @@
     const own = found.findIndex(({ r, at }) => r === state.r && at === null);
     box.selectedIndex = own;
     const count = found.length + more;
-    find("found").textContent = `${count} ${count === 1 ? "is" : "are"} found${more ? `, the first ${found.length} are here` : ""}`;
+    find("found").textContent = `${count} found${more ? `, the first ${found.length} are here` : ""}`;
   }
 
   function chooseOption() {
@@ -202,27 +202,27 @@
 
   // Rows in view.
 
-  function inView() {
+  function inView(most) {
     const { from, to } = wholeOf(state.view);
-    return book.table(Number(find("band").value), state.r, from, to);
+    return book.table(Number(find("band").value), state.r, from, to, most);
   }
 
   function showTable() {
     if (!data.bands.length) return;
-    const { header, rows } = inView(), some = rows.slice(0, MOST_ROWS);
-    const isNumber = header.map((_, k) => some.length > 0 && some.every((row) => row[k] === null || /^-?[\d.]+$/.test(row[k])));
+    const { header, rows, count } = inView(MOST_ROWS);
+    const isNumber = header.map((_, k) => rows.length > 0 && rows.every((row) => row[k] === null || /^-?[\d.]+$/.test(row[k])));
     const kind = (k, value) => ` class="${isNumber[k] ? "number" : ""}${value === null ? " null" : ""}"`;
     const head = header.map((name, k) => `<th scope="col"${kind(k, "")}>${escaped(name)}</th>`).join("");
-    const body = some.map((row) => `<tr>${row.map((value, k) => `<td${kind(k, value)}>${escaped(shown(value))}</td>`).join("")}</tr>`);
+    const body = rows.map((row) => `<tr>${row.map((value, k) => `<td${kind(k, value)}>${escaped(shown(value))}</td>`).join("")}</tr>`);
     const { from, to } = wholeOf(state.view), { title } = data.bands[Number(find("band").value)];
     const caption = `<caption>${escaped(title)}, ${escaped(route().name)} from ${measure(from)} to ${measure(to)}</caption>`;
     find("table").innerHTML = `${caption}<thead><tr>${head}</tr></thead><tbody>${body.join("")}</tbody>`;
-    const count = `${rows.length} row${rows.length === 1 ? "" : "s"} in view, cut at its ends`;
-    find("more").textContent = rows.length > MOST_ROWS ? `${count}; the first ${MOST_ROWS} are shown, and all are copied` : count;
+    const told = `${count} row${count === 1 ? "" : "s"} in view, cut at its ends`;
+    find("more").textContent = count > MOST_ROWS ? `${told}; the first ${MOST_ROWS} are shown, and all are copied` : told;
   }
 
   async function copy() {
-    const text = csv(inView());
+    const table = inView(), text = csv(table);
     try {
       await navigator.clipboard.writeText(text);
     } catch {
@@ -232,7 +232,7 @@
       document.execCommand("copy");
       area.remove();
     }
-    find("copied").textContent = `${inView().rows.length} rows are copied`;
+    find("copied").textContent = `${table.count} rows are copied`;
   }
 
   function save() {
