@@ -8,10 +8,16 @@ pub mod DiskBytes
 pub mod Edited
 pub mod Headers
 pub mod Keeping
+pub mod Lasting
 pub mod Lent
 pub mod Loaded
 pub mod Made
+pub mod OneMap
+pub mod Opened
 pub mod Readied
+pub mod Recovered
 pub mod Released
+pub mod Reread
 pub mod Taken
+pub mod Versions
 pub mod Zeros

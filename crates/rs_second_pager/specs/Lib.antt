@@ -4,7 +4,9 @@ pub mod Found
 pub mod Lasts
 pub mod Maps
 pub mod Opened
+pub mod Opening
 pub mod Paged
 pub mod SecondHeader
 pub mod Stored
 pub mod Taking
+pub mod Versions

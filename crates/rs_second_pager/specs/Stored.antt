@@ -21,10 +21,6 @@ pub record Stores (content : Content) (map : PageMap) : Type 0 where
   pub size : PAGE_SIZE * map.fields.pages ≤ content.size
   pub pages : SamePages map (stored_map content map.fields)
 
--- the content stands for no pages of a file within this limit
-pub record IsNoFile (content : Content) (limit : ℕ) : Type 0 where
-  pub none : (map : PageMap) → Stores content map → 2 ≤ map.fields.pages → map.fields.pages ≤ limit → ⊥
-
 -- the bytes of a file's pages
 abbrev pub content_of_pages : FilePages → Content
 content_of_pages pages = record { size = PAGE_SIZE * pages.count; byte = pages.byte }

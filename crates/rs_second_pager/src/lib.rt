@@ -5,6 +5,9 @@
 #![tactic(auto)]
 
 mod checkpointing;
+pub mod laws;
+pub mod limits;
+mod opening;
 pub mod pager;
 mod paging;
 mod reading;

@@ -188,6 +188,13 @@ impl<D: Disk> Pager<D> {
         (changed as u32, self.clean.len() as u32)
     }
 
+    /// Whether the disk lacks page 0 as it is committed. Once a file was opened, it does where the file is one of version 1.
+    pub fn lacks_first_page(&self) -> bool
+        ensures { result ≡ self.now.is_header_changed }
+    {
+        self.is_header_changed
+    }
+
     /// How often a page was refused because the file is full. The count stops at 2^64 - 1.
     pub fn full_refusals(&self) -> u64
         ensures { result ≡ self.now.full_refusals }

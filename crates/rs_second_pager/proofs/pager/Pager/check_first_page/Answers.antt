@@ -1,0 +1,121 @@
+-- Page 0 is read.
+use Rattle.std.proofs.Common.{subst}
+use Rattle.rs_second_pager.specs.Maps.{KeepsBelow, KeepsMaps}
+use Rattle.rs_second_pager.specs.Paged.{Paged}
+use Rattle.rs_second_pager.proofs.Keeping.{with_clean}
+use Rattle.rs_second_pager.proofs.Reread.{reread-below, reread-maps}
+use Rattle.rs_second_pager.proofs.pager.Pager.check_first_page.Goals as goal
+
+pub returns-in_err-fields-clause-keeps : goal.returns-in_err-fields-clause-keeps
+returns-in_err-fields-clause-keeps g c =
+    let d = g.D.Disk in
+    let i = c.self.inside in
+    let s : Paged _ = record {
+      disk = i.disk;
+      limit = i.limit;
+      changes = i.changes;
+      clean = i.clean.pages;
+      most_clean = i.clean.most;
+      committed_fields = i.committed_fields;
+      working = i.working;
+      is_header_changed = i.is_header_changed;
+      is_begun = i.is_begun;
+      full_refusals = i.full_refusals;
+      under_way = i.under_way;
+    } in
+    subst (λ (old : Paged _). KeepsMaps d old (with_clean s c.read_second_fields.new.disk s.clean)) c.self.view_is (reread-maps d s c.read_second_fields.new.disk c.read_second_fields.ensures.reaches c.self.invariant)
+
+pub returns-in_err-fields-clause-below : goal.returns-in_err-fields-clause-below
+returns-in_err-fields-clause-below g c =
+    let d = g.D.Disk in
+    let i = c.self.inside in
+    let s : Paged _ = record {
+      disk = i.disk;
+      limit = i.limit;
+      changes = i.changes;
+      clean = i.clean.pages;
+      most_clean = i.clean.most;
+      committed_fields = i.committed_fields;
+      working = i.working;
+      is_header_changed = i.is_header_changed;
+      is_begun = i.is_begun;
+      full_refusals = i.full_refusals;
+      under_way = i.under_way;
+    } in
+    subst (λ (old : Paged _). KeepsBelow d old (with_clean s c.read_second_fields.new.disk s.clean)) c.self.view_is (reread-below d s c.read_second_fields.new.disk c.read_second_fields.ensures.reaches)
+
+pub returns-then-ne-clause-keeps : goal.returns-then-ne-clause-keeps
+returns-then-ne-clause-keeps g c =
+    let d = g.D.Disk in
+    let i = c.self.inside in
+    let s : Paged _ = record {
+      disk = i.disk;
+      limit = i.limit;
+      changes = i.changes;
+      clean = i.clean.pages;
+      most_clean = i.clean.most;
+      committed_fields = i.committed_fields;
+      working = i.working;
+      is_header_changed = i.is_header_changed;
+      is_begun = i.is_begun;
+      full_refusals = i.full_refusals;
+      under_way = i.under_way;
+    } in
+    subst (λ (old : Paged _). KeepsMaps d old (with_clean s c.read_second_fields.new.disk s.clean)) c.self.view_is (reread-maps d s c.read_second_fields.new.disk c.read_second_fields.ensures.reaches c.self.invariant)
+
+pub returns-then-ne-clause-below : goal.returns-then-ne-clause-below
+returns-then-ne-clause-below g c =
+    let d = g.D.Disk in
+    let i = c.self.inside in
+    let s : Paged _ = record {
+      disk = i.disk;
+      limit = i.limit;
+      changes = i.changes;
+      clean = i.clean.pages;
+      most_clean = i.clean.most;
+      committed_fields = i.committed_fields;
+      working = i.working;
+      is_header_changed = i.is_header_changed;
+      is_begun = i.is_begun;
+      full_refusals = i.full_refusals;
+      under_way = i.under_way;
+    } in
+    subst (λ (old : Paged _). KeepsBelow d old (with_clean s c.read_second_fields.new.disk s.clean)) c.self.view_is (reread-below d s c.read_second_fields.new.disk c.read_second_fields.ensures.reaches)
+
+pub returns-clause-keeps : goal.returns-clause-keeps
+returns-clause-keeps g c =
+    let d = g.D.Disk in
+    let i = c.self.inside in
+    let s : Paged _ = record {
+      disk = i.disk;
+      limit = i.limit;
+      changes = i.changes;
+      clean = i.clean.pages;
+      most_clean = i.clean.most;
+      committed_fields = i.committed_fields;
+      working = i.working;
+      is_header_changed = i.is_header_changed;
+      is_begun = i.is_begun;
+      full_refusals = i.full_refusals;
+      under_way = i.under_way;
+    } in
+    subst (λ (old : Paged _). KeepsMaps d old (with_clean s c.read_second_fields.new.disk s.clean)) c.self.view_is (reread-maps d s c.read_second_fields.new.disk c.read_second_fields.ensures.reaches c.self.invariant)
+
+pub returns-clause-below : goal.returns-clause-below
+returns-clause-below g c =
+    let d = g.D.Disk in
+    let i = c.self.inside in
+    let s : Paged _ = record {
+      disk = i.disk;
+      limit = i.limit;
+      changes = i.changes;
+      clean = i.clean.pages;
+      most_clean = i.clean.most;
+      committed_fields = i.committed_fields;
+      working = i.working;
+      is_header_changed = i.is_header_changed;
+      is_begun = i.is_begun;
+      full_refusals = i.full_refusals;
+      under_way = i.under_way;
+    } in
+    subst (λ (old : Paged _). KeepsBelow d old (with_clean s c.read_second_fields.new.disk s.clean)) c.self.view_is (reread-below d s c.read_second_fields.new.disk c.read_second_fields.ensures.reaches)
