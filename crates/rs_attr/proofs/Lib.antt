@@ -21,3 +21,5 @@ pub mod Tabled
 pub mod Together
 pub mod Values
 pub mod Within
+pub use Rattle.rs_cell_versions.proofs.Refusing
+pub use Rattle.rs_tree_whole.proofs.Joins

@@ -24,9 +24,9 @@ use Rattle.rs_tree.specs.Tree.{IsNoTree, IsTree}
 use Rattle.rs_tree.proofs.Below.{AllBelow, ascends_across, ascends_first, below_one_way}
 use Rattle.rs_tree.proofs.Framed.{kept_tree_stays}
 use Rattle.rs_tree.proofs.Lists.{take_next}
-use Rattle.rs_tree_edit.proofs.Between.{above_none, below_all}
-use Rattle.rs_tree_edit.proofs.Pieces.{list_at}
-use Rattle.rs_tree_insert.proofs.Ascending.{ascends_filter}
+use Rattle.rs_cell_versions.proofs.Between.{above_none, below_all}
+use Rattle.rs_cell_versions.proofs.Pieces.{list_at}
+use Rattle.rs_cell_versions.proofs.Ascending.{ascends_filter}
 use Rattle.rs_value.specs.declared.column.ColumnType.{ColumnType}
 use Rattle.rs_versioned.specs.Events.{Event, SaysEvent, event_width, kept_events}
 use Rattle.rs_versioned.specs.Records.{HoldsRecords}

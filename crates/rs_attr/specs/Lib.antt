@@ -7,3 +7,6 @@ pub mod Meant
 pub mod Opening
 pub mod OpeningCalls
 pub mod Tables
+pub use Rattle.rs_cell_versions.specs.Version
+pub use Rattle.rs_cell_versions.specs.Versioned
+pub use Rattle.rs_cell_versions.specs.declared.told.ToldRecords

@@ -20,7 +20,7 @@ ghost use Rattle.rs_value.specs.View.{datum_of};
 
 use crate::entry::{entry_of, followed_by, value_bytes, write_entry_and_zero};
 use crate::ordered::by_value;
-use rs_btree::Tree;
+use rs_cell_versions::rs_btree::Tree;
 use rs_page::PageNumber;
 use rs_page_marks::Reached;
 use rs_pages::Pages;

@@ -14,7 +14,7 @@ ghost use Rattle.rs_versioned.specs.Calls.{Leaves};
 ghost use Rattle.rs_versioned.specs.Events.{kept_events};
 
 use crate::attr_index::AttrIndex;
-use rs_btree::Tree;
+use rs_cell_versions::rs_btree::Tree;
 use rs_interval::GreatestEnd;
 use rs_page::PageNumber;
 use rs_pages::Pages;

@@ -16,3 +16,8 @@ pub mod Staying
 pub mod Steps
 pub mod Tallying
 pub mod Widths
+pub use Rattle.rs_btree.proofs.Ascending
+pub use Rattle.rs_btree.proofs.Between
+pub use Rattle.rs_btree.proofs.Pieces
+pub use Rattle.rs_btree.proofs.Entries
+pub use Rattle.rs_btree.proofs.Joins

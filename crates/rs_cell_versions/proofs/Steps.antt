@@ -14,7 +14,7 @@ use Rattle.rs_tree.specs.Calls.{Becomes, Changes, IsNotShared}
 use Rattle.rs_tree.specs.Cells.{with_cell, without_cell}
 use Rattle.rs_tree.specs.Form.{Form}
 use Rattle.rs_tree.specs.Tree.{IsTree}
-use Rattle.rs_tree_whole.proofs.Sizes.{tree_le}
+use Rattle.rs_btree.proofs.Sizes.{tree_le}
 use Rattle.rs_cell_versions.specs.Changes.{with_end, without_cells}
 use Rattle.rs_cell_versions.specs.Inner.{Adds, EndsOne, HoldsNoneFirst, TakesOut, standing, with_last}
 use Rattle.rs_cell_versions.specs.Version.{born_of, ended, is_dead, is_living}

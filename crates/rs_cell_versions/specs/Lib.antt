@@ -9,3 +9,5 @@ pub mod OpeningCalls
 pub mod Tallies
 pub mod Version
 pub mod Versioned
+pub use Rattle.rs_btree.specs.Calls as BtreeCalls
+pub use Rattle.rs_btree.specs.Validating

@@ -13,7 +13,7 @@ use Rattle.rs_tree.specs.Form.{Form}
 use Rattle.rs_tree.specs.Forms.{form}
 use Rattle.rs_tree.specs.Tree.{IsTree}
 use Rattle.rs_tree.specs.declared.summary.Summary.{Ghosts as Summaries}
-use Rattle.rs_tree_whole.specs.Validating.{HasNoFreshTree, Validates}
+use Rattle.rs_btree.specs.Validating.{HasNoFreshTree, Validates}
 use Rattle.rs_cell_versions.specs.declared.told.ToldRecords.{ToldRecords}
 use Rattle.rs_cell_versions.specs.Opening.{HasPassed, Looked, StandsOtherwise, StandsTold, Told, told_of}
 use Rattle.rs_cell_versions.specs.Version.{HaveDiedBy, IsDated}

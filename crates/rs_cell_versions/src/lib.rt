@@ -18,5 +18,6 @@ pub mod versions;
 
 pub use cell::{LIVING, born_of, died_of, end_at, is_living, sees};
 pub use opening::Opening;
+pub use rs_btree;
 pub use told::ToldRecords;
 pub use versions::Versions;

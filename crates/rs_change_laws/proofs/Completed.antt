@@ -8,8 +8,8 @@ use Rattle.rs_catalog_pages.specs.Items.{CatalogueItems}
 use Rattle.rs_facts.specs.Fact.{Names}
 use Rattle.rs_facts.specs.Runs.{Stretch}
 use Rattle.rs_facts.specs.Spans.{places_of}
-use Rattle.rs_file.specs.Contents.{Contents, TableContents}
-use Rattle.rs_file.specs.declared.opened.OpenedFile.{OpenedFile}
+use Rattle.rs_file_parts.specs.Contents.{Contents, TableContents}
+use Rattle.rs_file_parts.specs.OpenedFile.{OpenedFile}
 use Rattle.rs_file_parts.specs.Clearing.{ClearsParts, ClearsTable}
 use Rattle.rs_change_laws.specs.Changing.{Becomes, Completes, GivesState, next_of}
 use Rattle.rs_change_laws.specs.Standing.{AreInMemory, StandsAt}

@@ -14,8 +14,8 @@ use Rattle.rs_catalog_pages.specs.Items.{CatalogueItems, RouteItem, TableItem}
 use Rattle.rs_catalog_pages.proofs.Counting.{times-cons}
 use Rattle.rs_cell_versions.specs.declared.cell.TheConstants.{LIVING}
 use Rattle.rs_facts.specs.Fact.{Name, Names}
-use Rattle.rs_file.specs.Contents.{Contents, IsTable, ReferentContents, TableContents}
-use Rattle.rs_file.specs.declared.opened.OpenedFile.{OpenedFile}
+use Rattle.rs_file_parts.specs.Contents.{Contents, IsTable, ReferentContents, TableContents}
+use Rattle.rs_file_parts.specs.OpenedFile.{OpenedFile}
 use Rattle.rs_machine.specs.Lawful.{AreDistinct, Each, IsLawful}
 use Rattle.rs_machine.specs.State.{State, no_cursors}
 use Rattle.rs_page_owners.specs.Counts.{one_at, times}

@@ -5,7 +5,7 @@ use Rattle.rs_catalog.specs.Referents.{HeldReferents}
 use Rattle.rs_catalog_pages.specs.Items.{CatalogueItems}
 use Rattle.rs_change_laws.specs.Clearing.{HoldsFewer, StandsFewer}
 use Rattle.rs_change_laws.specs.Standing.{AreInMemory, StandsAt}
-use Rattle.rs_file.specs.declared.opened.OpenedFile.{OpenedFile}
+use Rattle.rs_file_parts.specs.OpenedFile.{OpenedFile}
 use Rattle.rs_file_meaning.specs.Live.{KeepsRecords}
 use Rattle.rs_file_meaning.specs.Meant.{IsMeant}
 use Rattle.rs_file_meaning.specs.Seen.{referents_seen}

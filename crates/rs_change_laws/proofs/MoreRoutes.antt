@@ -16,8 +16,8 @@ use Rattle.rs_change_laws.specs.Standing.{StandsAt}
 use Rattle.rs_facts.specs.Fact.{Name, Names}
 use Rattle.rs_facts.specs.Runs.{Stretch}
 use Rattle.rs_facts.specs.Spans.{places_of}
-use Rattle.rs_file.specs.Contents.{Contents}
-use Rattle.rs_file.specs.declared.opened.OpenedFile.{OpenedFile}
+use Rattle.rs_file_parts.specs.Contents.{Contents}
+use Rattle.rs_file_parts.specs.OpenedFile.{OpenedFile}
 use Rattle.rs_file_meaning.specs.Changed.{RoutesComeAfter}
 use Rattle.rs_file_meaning.specs.Seen.{spans_seen}
 use Rattle.rs_file_meaning.specs.States.{routes_named}

@@ -17,8 +17,8 @@ use Rattle.rs_catalog_laws.specs.Rest.{one_more}
 use Rattle.rs_catalog_meaning.specs.Meaning.{AreMeant}
 use Rattle.rs_catalog_pages.specs.Items.{CatalogueItems, RouteItem, TableItem}
 use Rattle.rs_cell_versions.specs.declared.cell.TheConstants.{LIVING}
-use Rattle.rs_file.specs.Contents.{AreGivenOnce, Contents, HoldsAll, ReferentContents}
-use Rattle.rs_file.specs.declared.opened.OpenedFile.{OpenedFile}
+use Rattle.rs_file_parts.specs.Contents.{AreGivenOnce, Contents, HoldsAll, ReferentContents}
+use Rattle.rs_file_parts.specs.OpenedFile.{OpenedFile}
 use Rattle.rs_stored_catalog.specs.Listing.{listed_table, listing_of}
 use Rattle.rs_stored_catalog.specs.Relisting.{AreLawful, IsPutBetween}
 use Rattle.rs_table_changes.specs.Turns.{ReferentsTurn}

@@ -10,7 +10,7 @@ use Rattle.rs_catalog_meaning.specs.Meaning.{AreMeant}
 use Rattle.rs_catalog_meaning.specs.Stating.{kind_of}
 use Rattle.rs_catalog_pages.specs.Items.{RouteItem, TableItem}
 use Rattle.rs_facts.specs.Spans.{places_of}
-use Rattle.rs_file.specs.Contents.{Contents, TableContents}
+use Rattle.rs_file_parts.specs.Contents.{Contents, TableContents}
 use Rattle.rs_versioned.specs.Events.{Event, sees_event, span_of, spans_at}
 use Rattle.rs_versioned.specs.Meant.{HasRoute, IsPlaceOf, IsReferentMeant, IsSpanOf}
 use Rattle.rs_versioned.specs.Records.{is_seen}

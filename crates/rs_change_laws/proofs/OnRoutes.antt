@@ -10,7 +10,7 @@ use Rattle.rs_catalog.specs.Events.{behind}
 use Rattle.rs_catalog_meaning.specs.Meaning.{ends_of}
 use Rattle.rs_catalog_pages.specs.Items.{RouteItem}
 use Rattle.rs_facts.specs.Runs.{Stretch}
-use Rattle.rs_file.specs.Meant.{span_of_route}
+use Rattle.rs_file_parts.specs.Meant.{span_of_route}
 use Rattle.rs_file_meaning.specs.Seen.{born_by, routes_at}
 use Rattle.rs_page_owners.specs.Counts.{times}
 use Rattle.rs_spans.specs.Within.{AllLieWithin, LiesWithin}

@@ -13,8 +13,8 @@ use Rattle.rs_facts.specs.Fact.{Name, Names}
 use Rattle.rs_facts.specs.Query.{Piece}
 use Rattle.rs_facts.specs.Runs.{Stretch}
 use Rattle.rs_facts.specs.WellFormed.{ArePiecesOn}
-use Rattle.rs_file.specs.Contents.{Contents}
-use Rattle.rs_file.specs.declared.opened.OpenedFile.{OpenedFile}
+use Rattle.rs_file_parts.specs.Contents.{Contents}
+use Rattle.rs_file_parts.specs.OpenedFile.{OpenedFile}
 use Rattle.rs_file_meaning.specs.Changed.{RoutesComeAfter}
 use Rattle.rs_file_meaning.specs.Seen.{spans_seen}
 use Rattle.rs_file_meaning.specs.States.{HasLine}

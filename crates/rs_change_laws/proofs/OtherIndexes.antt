@@ -14,8 +14,8 @@ use Rattle.rs_catalog_laws.proofs.Tables.{state_with_index, state_without_index}
 use Rattle.rs_catalog_pages.specs.Items.{CatalogueItems, RouteItem}
 use Rattle.rs_cell_versions.specs.declared.cell.TheConstants.{LIVING}
 use Rattle.rs_facts.specs.Fact.{Name, Names}
-use Rattle.rs_file.specs.Contents.{Contents, TableContents}
-use Rattle.rs_file.specs.declared.opened.OpenedFile.{OpenedFile}
+use Rattle.rs_file_parts.specs.Contents.{Contents, TableContents}
+use Rattle.rs_file_parts.specs.OpenedFile.{OpenedFile}
 use Rattle.rs_machine.specs.Lawful.{Each, IsLawful}
 use Rattle.rs_machine.specs.State.{State}
 use Rattle.rs_machine.specs.Step as machine

@@ -19,8 +19,8 @@ use Rattle.rs_catalog_pages.specs.Items.{CatalogueItems, RouteItem}
 use Rattle.rs_cell_versions.specs.declared.cell.TheConstants.{LIVING}
 use Rattle.rs_facts.specs.Fact.{Name, Names}
 use Rattle.rs_facts.specs.Runs.{Stretch}
-use Rattle.rs_file.specs.Contents.{AreGivenOnce, Contents, HoldsAll, ReferentContents}
-use Rattle.rs_file.specs.declared.opened.OpenedFile.{OpenedFile}
+use Rattle.rs_file_parts.specs.Contents.{AreGivenOnce, Contents, HoldsAll, ReferentContents}
+use Rattle.rs_file_parts.specs.OpenedFile.{OpenedFile}
 use Rattle.rs_machine.specs.Lawful as lawful
 use Rattle.rs_machine.specs.Lawful.{IsLawful}
 use Rattle.rs_machine.specs.State.{State, no_cursors}

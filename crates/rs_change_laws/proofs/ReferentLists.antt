@@ -10,7 +10,7 @@ use Rattle.std.proofs.lemmas.List.Sorted.{IsPermutation-map, IsPermutation-refl,
 use Rattle.rs_catalog.proofs.NameOrder.{name_cmp-total}
 use Rattle.rs_cell_versions.specs.declared.cell.TheConstants.{LIVING}
 use Rattle.rs_facts.specs.Fact.{Name, Names, name_cmp}
-use Rattle.rs_file.specs.Contents.{Contents}
+use Rattle.rs_file_parts.specs.Contents.{Contents}
 use Rattle.rs_file_meaning.specs.Live.{HaveOwnNames, KeepsReferents, SeesTheSame}
 use Rattle.rs_file_meaning.specs.Seen.{referents_seen, seen_referent, seen_referents}
 use Rattle.rs_file_parts.specs.Calls.{EndsOne}

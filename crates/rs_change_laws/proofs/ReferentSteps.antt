@@ -11,8 +11,8 @@ use Rattle.rs_catalog.specs.Definitions.{Definitions, Numbered}
 use Rattle.rs_catalog.specs.Referents.{HeldReferents, at_number, referents_on}
 use Rattle.rs_catalog.proofs.NameOrder.{name_cmp-total}
 use Rattle.rs_cell_versions.specs.declared.cell.TheConstants.{LIVING}
-use Rattle.rs_file.specs.Contents.{Contents}
-use Rattle.rs_file.specs.declared.opened.OpenedFile.{OpenedFile}
+use Rattle.rs_file_parts.specs.Contents.{Contents}
+use Rattle.rs_file_parts.specs.OpenedFile.{OpenedFile}
 use Rattle.rs_table_changes.specs.Turns.{ReferentsTurn}
 use Rattle.rs_facts.specs.Fact.{Name, Names}
 use Rattle.rs_file_meaning.specs.Live.{HaveOwnNames, KeepsReferents}

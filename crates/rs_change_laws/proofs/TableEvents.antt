@@ -5,7 +5,7 @@ use Rattle.std.specs.List.{AllZip}
 use Rattle.std.proofs.lemmas.Bool.{eqb-true}
 use Rattle.rs_catalog_pages.specs.Items.{TableItem}
 use Rattle.rs_catalog_pages.proofs.Counting.{times-cons}
-use Rattle.rs_file.specs.Contents.{TableContents}
+use Rattle.rs_file_parts.specs.Contents.{TableContents}
 use Rattle.rs_page_owners.specs.Counts.{one_at, times}
 use Rattle.rs_page_owners.proofs.Moving.{one_at-same}
 use Rattle.rs_versioned.specs.Events.{Event}

@@ -16,7 +16,7 @@ use Rattle.rs_catalog_meaning.specs.Meaning.{AreMeant, ends_of}
 use Rattle.rs_catalog_meaning.specs.Stating.{kind_of}
 use Rattle.rs_catalog_pages.specs.Items.{CatalogueItems, RouteItem, TableItem}
 use Rattle.rs_cell_versions.specs.declared.cell.TheConstants.{LIVING}
-use Rattle.rs_file.specs.Contents.{AreGivenOnce, Contents, HoldsAll, TableContents, table_numbers}
+use Rattle.rs_file_parts.specs.Contents.{AreGivenOnce, Contents, HoldsAll, TableContents, table_numbers}
 use Rattle.rs_table_changes.specs.Changes.{ChangesRoute, Inserts, Removes}
 use Rattle.rs_table_changes.specs.Turns.{EventsTurn}
 use Rattle.rs_spans.specs.Removal.{goes_by}

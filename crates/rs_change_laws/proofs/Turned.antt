@@ -2,7 +2,7 @@
 use Rattle.std.proofs.Common.{◌≡◌, inl, ℕ, List, sym, subst}
 use Rattle.std.specs.Prelude.{Contains}
 use Rattle.rs_catalog_pages.specs.Items.{TableItem}
-use Rattle.rs_file.specs.Contents.{Contents}
+use Rattle.rs_file_parts.specs.Contents.{Contents}
 use Rattle.rs_table_changes.specs.Turns.{EventsTurn, ReferentsTurn}
 use Rattle.rs_change_laws.specs.Changing.{HasTurned}
 use Rattle.rs_file_meaning.specs.Seen.{events_of}

@@ -5,8 +5,8 @@ use Rattle.rs_catalog.specs.Referents.{HeldReferents}
 use Rattle.rs_catalog_pages.specs.Items.{CatalogueItems, TableItem}
 use Rattle.rs_change_laws.specs.Standing.{AreInMemory, IsOpenedFile, StandsAt}
 use Rattle.rs_facts.specs.Fact.{Name}
-use Rattle.rs_file.specs.Contents.{Contents, HoldsAll}
-use Rattle.rs_file.specs.declared.opened.OpenedFile.{OpenedFile}
+use Rattle.rs_file_parts.specs.Contents.{Contents, HoldsAll}
+use Rattle.rs_file_parts.specs.OpenedFile.{OpenedFile}
 use Rattle.rs_file_meaning.specs.Live.{KeepsLive}
 use Rattle.rs_file_meaning.specs.Meant.{IsMeant}
 use Rattle.rs_file_meaning.specs.Seen.{events_of}

@@ -3,8 +3,8 @@ use Rattle.std.specs.Prelude.{◌≡◌, ℕ}
 use Rattle.rs_catalog.specs.Definitions.{Definitions, Numbered}
 use Rattle.rs_catalog.specs.Referents.{HeldReferents}
 use Rattle.rs_change_laws.specs.Standing.{IsOpenedFile, StandsAt}
-use Rattle.rs_file.specs.Contents.{Contents, HoldsAll}
-use Rattle.rs_file.specs.declared.opened.OpenedFile.{OpenedFile}
+use Rattle.rs_file_parts.specs.Contents.{Contents, HoldsAll}
+use Rattle.rs_file_parts.specs.OpenedFile.{OpenedFile}
 use Rattle.rs_file_meaning.specs.Live.{KeepsLive}
 use Rattle.rs_file_parts.specs.Clearing.{ClearsAsMany}
 use Rattle.rs_machine.specs.State.{State}

@@ -4,7 +4,7 @@ use Rattle.rs_catalog_pages.specs.Items.{CatalogueItems}
 use Rattle.rs_cell_versions.specs.declared.cell.TheConstants.{LIVING}
 use Rattle.rs_facts.specs.Runs.{Stretch}
 use Rattle.rs_facts.specs.declared.condition.Condition.{Condition}
-use Rattle.rs_file.specs.Contents.{Contents, TableContents}
+use Rattle.rs_file_parts.specs.Contents.{Contents, TableContents}
 use Rattle.rs_file_parts.specs.Calls.{ChangesDefinitions, ChangesReferents, EndsNamed}
 use Rattle.rs_table_changes.specs.Changes.{Inserts, Removes}
 use Rattle.rs_value.specs.declared.column.ColumnType.{ColumnType}

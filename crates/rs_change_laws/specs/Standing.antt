@@ -4,9 +4,9 @@ use Rattle.std.specs.List.{AllZip}
 use Rattle.rs_catalog.specs.Definitions.{Definitions, Numbered}
 use Rattle.rs_catalog.specs.Referents.{HeldReferents, referents_on}
 use Rattle.rs_catalog_pages.specs.Said.{said_catalogue}
-use Rattle.rs_file.specs.Contents.{Contents, HoldsAll}
-use Rattle.rs_file.specs.Opening.{IsOpened}
-use Rattle.rs_file.specs.declared.opened.OpenedFile.{OpenedFile}
+use Rattle.rs_file_parts.specs.Contents.{Contents, HoldsAll}
+use Rattle.rs_file_parts.specs.Opening.{IsOpened}
+use Rattle.rs_file_parts.specs.OpenedFile.{OpenedFile}
 use Rattle.rs_file_meaning.specs.Meant.{IsMeant}
 use Rattle.rs_file_meaning.specs.Seen.{referents_seen}
 use Rattle.rs_file_meaning.specs.States.{AreDefinitionsAt, IsState}

@@ -3,7 +3,7 @@
 ghost use Rattle.std.specs.Prelude.{◌≤◌, ℕ};
 ghost use Rattle.rs_catalog.specs.Definitions.{Definitions, Numbered};
 ghost use Rattle.rs_catalog.specs.Referents.{HeldReferents};
-ghost use Rattle.rs_file.specs.declared.opened.OpenedFile.{OpenedFile};
+ghost use Rattle.rs_file_parts.specs.OpenedFile.{OpenedFile};
 ghost use Rattle.rs_machine.specs.State.{State};
 ghost use Rattle.rs_pages.specs.PageMap.{PageMap};
 ghost use Rattle.rs_change_laws.specs.Clearing.{HoldsFewer, StandsFewer};

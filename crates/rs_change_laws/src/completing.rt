@@ -3,8 +3,8 @@
 ghost use Rattle.std.specs.Prelude.{◌≡◌, ◌≤◌, ◌+◌, ℕ};
 ghost use Rattle.rs_catalog.specs.Definitions.{Definitions, Numbered, Rest, state_from};
 ghost use Rattle.rs_catalog.specs.Referents.{HeldReferents, referents_on};
-ghost use Rattle.rs_file.specs.Contents.{Contents};
-ghost use Rattle.rs_file.specs.declared.opened.OpenedFile.{OpenedFile};
+ghost use Rattle.rs_file_parts.specs.Contents.{Contents};
+ghost use Rattle.rs_file_parts.specs.OpenedFile.{OpenedFile};
 ghost use Rattle.rs_machine.specs.Lawful.{AreViewsMeant};
 ghost use Rattle.rs_machine.specs.State.{State, no_cursors};
 ghost use Rattle.rs_pages.specs.PageMap.{PageMap};

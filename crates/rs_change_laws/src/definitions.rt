@@ -7,8 +7,8 @@ ghost use Rattle.rs_catalog.specs.Definitions.{AreDefinitions, Definitions, IsFr
 ghost use Rattle.rs_catalog.specs.Referents.{HeldReferents, at_number, referents_on};
 ghost use Rattle.rs_catalog.specs.Uses.{some_piece_on};
 ghost use Rattle.rs_cell_versions.specs.declared.cell.TheConstants.{LIVING};
-ghost use Rattle.rs_file.specs.Contents.{Contents};
-ghost use Rattle.rs_file.specs.declared.opened.OpenedFile.{OpenedFile};
+ghost use Rattle.rs_file_parts.specs.Contents.{Contents};
+ghost use Rattle.rs_file_parts.specs.OpenedFile.{OpenedFile};
 ghost use Rattle.rs_stored_catalog.specs.Listing.{listing_of};
 ghost use Rattle.rs_facts.specs.Fact.{Name};
 ghost use Rattle.rs_facts.specs.Query.{Piece};

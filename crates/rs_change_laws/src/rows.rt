@@ -6,8 +6,8 @@ ghost use Rattle.rs_catalog.specs.Definitions.{Definitions, Numbered, RouteItem,
 ghost use Rattle.rs_catalog.specs.Events.{behind};
 ghost use Rattle.rs_catalog.specs.Referents.{HeldReferents};
 ghost use Rattle.rs_cell_versions.specs.declared.cell.TheConstants.{LIVING};
-ghost use Rattle.rs_file.specs.Contents.{Contents, table_numbers};
-ghost use Rattle.rs_file.specs.declared.opened.OpenedFile.{OpenedFile};
+ghost use Rattle.rs_file_parts.specs.Contents.{Contents, table_numbers};
+ghost use Rattle.rs_file_parts.specs.OpenedFile.{OpenedFile};
 ghost use Rattle.rs_spans.specs.Removal.{goes_by};
 ghost use Rattle.rs_facts.specs.Fact.{Name};
 ghost use Rattle.rs_facts.specs.Insert.{new_facts};

@@ -4,3 +4,7 @@ pub mod Ending
 pub mod Garbage
 pub mod InPlace
 pub mod Tables
+pub use Rattle.rs_change_laws.specs.Changing
+pub use Rattle.rs_change_laws.specs.Clearing
+pub use Rattle.rs_change_laws.specs.Parts
+pub use Rattle.rs_change_laws.specs.Standing

@@ -18,4 +18,5 @@ pub use counting::garbage;
 pub use definitions::{drop_route, redefine};
 pub use referents::{define_referent, drop_referent, move_referent};
 pub use rows::{Insertion, Removal, insert, remove};
+pub use rs_change_laws;
 pub use tables::{IndexPlace, NewIndex, define_index, define_table, drop_index, drop_table};

@@ -10,7 +10,7 @@ use Rattle.rs_engine.specs.Kept.{EngineState, IsMachine, IsOldestIn}
 use Rattle.rs_engine.specs.Serving.{IsServed}
 use Rattle.rs_engine.specs.declared.engine.open.OpenCursors.{OpenCursors}
 use Rattle.rs_file.specs.Contents.{Contents}
-use Rattle.rs_change_laws.specs.Changing.{ClearsEnough}
+use Rattle.rs_store_source.specs.ChangeLawsChanging.{ClearsEnough}
 use Rattle.rs_engine.proofs.Filing.{changes_of}
 use Rattle.rs_facts.specs.Fact.{Names}
 use Rattle.rs_file_parts.specs.Clearing.{clearable}
@@ -20,8 +20,8 @@ use Rattle.rs_machine.specs.State.{State}
 use Rattle.rs_machine.specs.Step.{Effect}
 use Rattle.rs_machine.specs.declared.limits.TheConstants.{CHANGES}
 use Rattle.rs_refusal.specs.declared.refusal.Refusal.{Refusal}
-use Rattle.rs_store.specs.Changing.{HasBecome}
-use Rattle.rs_store.specs.Releasing.{HasReleased}
+use Rattle.rs_store_source.specs.Changing.{HasBecome}
+use Rattle.rs_store_source.specs.Releasing.{HasReleased}
 use Rattle.rs_syntax.specs.View.{tree_of}
 use Rattle.rs_syntax.specs.declared.commands.Command.{Command}
 

@@ -45,8 +45,8 @@ use Rattle.rs_refusal.specs.Counts.{Rose}
 use Rattle.rs_refusal.specs.declared.refusal.Refusal.{Refusal}
 use Rattle.rs_file_meaning.specs.Meant.{IsMeant}
 use Rattle.rs_refusal.specs.declared.refusal.Refusal.TheVariants.{NoSuchCursor}
-use Rattle.rs_store.specs.Kept.{Keeps, StoreState}
-use Rattle.rs_store.specs.Releasing.{HasReleased, LeavesReleased}
+use Rattle.rs_store_source.specs.Kept.{Keeps, StoreState}
+use Rattle.rs_store_source.specs.Releasing.{HasReleased, LeavesReleased}
 
 some_of : {X : Type 0} (o : Option X) → is_some o ≡ true → (x : X) × (o ≡ Some x)
 some_of None e = cc e

@@ -27,9 +27,9 @@ use Rattle.rs_refusal.specs.Counts.{Rose}
 use Rattle.rs_refusal.specs.declared.refusal.Refusal.{Refusal}
 use Rattle.rs_file_meaning.specs.Meant.{IsMeant}
 use Rattle.rs_refusal.specs.declared.refusal.Refusal.TheVariants as refusal
-use Rattle.rs_store.specs.Standing.{Stands}
-use Rattle.rs_store.specs.Calls.{OpensState}
-use Rattle.rs_store.specs.Kept.{Keeps, StandsIn, StoreState}
+use Rattle.rs_store_source.specs.Standing.{Stands}
+use Rattle.rs_store_source.specs.Calls.{OpensState}
+use Rattle.rs_store_source.specs.Kept.{Keeps, StandsIn, StoreState}
 
 abbrev pub engine_with : {D : Type 0} → StoreState D → ℕ → OpenCursors → EngineState D
 engine_with store oldest cursors = record { store = store; oldest = oldest; cursors = cursors }

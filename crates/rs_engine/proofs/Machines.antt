@@ -30,8 +30,8 @@ use Rattle.rs_cursor.proofs.MachineCursors.{cursors_by-agree}
 use Rattle.rs_file_meaning.specs.Live.{KeepsLive}
 use Rattle.rs_file_meaning.specs.Meant.{IsMeant}
 use Rattle.rs_file_meaning.specs.Seen.{spans_seen}
-use Rattle.rs_store.specs.Changing.{HasBecome, LeavesStore}
-use Rattle.rs_store.specs.Kept.{Keeps, StandsIn, StoreState}
+use Rattle.rs_store_source.specs.Changing.{HasBecome, LeavesStore}
+use Rattle.rs_store_source.specs.Kept.{Keeps, StandsIn, StoreState}
 
 -- ---- counts
 

@@ -20,8 +20,8 @@ use Rattle.rs_machine.specs.Served.{Machine}
 use Rattle.rs_machine.specs.State.{State, world_of}
 use Rattle.rs_plan.specs.declared.counts.Index.{Index}
 use Rattle.rs_planning.specs.Basis.{IndexedColumn, present_basis, runs_counted}
-use Rattle.rs_store.specs.Kept.{StandsIn, StoreState}
-use Rattle.rs_store.specs.Reading.{living_of}
+use Rattle.rs_store_source.specs.Kept.{StandsIn, StoreState}
+use Rattle.rs_store_source.specs.Reading.{living_of}
 use Rattle.rs_store_source.specs.Shown.{Shows, numbered_as, shown_from}
 
 module _ {D : Type 0} (d : disk.Ghosts D) where

@@ -28,7 +28,7 @@ use Rattle.rs_machine.specs.State.{State}
 use Rattle.rs_page_owners.specs.Counts.{times}
 use Rattle.rs_file_meaning.proofs.Named.{first_there, get_there, item_of, later_there}
 use Rattle.rs_file_meaning.proofs.Picked.{same_numbered}
-use Rattle.rs_store.specs.Kept.{StandsIn, StoreState}
+use Rattle.rs_store_source.specs.Kept.{StandsIn, StoreState}
 use Rattle.rs_store_source.specs.Shown.{is_table, table_there}
 use Rattle.rs_versioned.specs.Events.{Event, spans_at}
 use Rattle.rs_versioned.specs.Referents.{referents_at}

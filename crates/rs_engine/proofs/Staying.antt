@@ -24,12 +24,12 @@ use Rattle.rs_machine.specs.State.{RowText, State}
 use Rattle.rs_methods.specs.declared.position.Method.{Method}
 use Rattle.rs_pager.specs.Maps.{KeepsChanges}
 use Rattle.rs_refusal.specs.declared.refusal.Refusal.{Refusal}
-use Rattle.rs_store.specs.Calls.{KeepsStore, Reopens}
-use Rattle.rs_store.specs.Changing.{LeavesStore, StillHolds}
-use Rattle.rs_store.specs.Kept.{StoreState}
-use Rattle.rs_store.specs.Releasing.{LeavesReleased}
-use Rattle.rs_store.proofs.HeldChanges.{changes-refl, still_after, still_as_it_was, still_by_changes}
-use Rattle.rs_store.proofs.Results.{err_always}
+use Rattle.rs_store_source.specs.Calls.{KeepsStore, Reopens}
+use Rattle.rs_store_source.specs.Changing.{LeavesStore, StillHolds}
+use Rattle.rs_store_source.specs.Kept.{StoreState}
+use Rattle.rs_store_source.specs.Releasing.{LeavesReleased}
+use Rattle.rs_store_source.proofs.HeldChanges.{changes-refl, still_after, still_as_it_was, still_by_changes}
+use Rattle.rs_store_source.proofs.Results.{err_always}
 use Rattle.rs_store_source.proofs.Passing.{passes_refl}
 use Rattle.rs_store_source.specs.Reads.{Passes}
 use Rattle.rs_syntax.specs.Tree as tree

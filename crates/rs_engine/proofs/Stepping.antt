@@ -18,7 +18,7 @@ use Rattle.rs_machine.specs.Step.{Effect, counted, outcome}
 use Rattle.rs_machine.specs.declared.limits.TheConstants.{SESSIONS}
 use Rattle.rs_refusal.specs.declared.refusal.Refusal.{Refusal}
 use Rattle.rs_refusal.specs.declared.refusal.Refusal.TheVariants.{OutOfMemory}
-use Rattle.rs_store.specs.Changing.{HasBecome, LeavesStore}
+use Rattle.rs_store_source.specs.Changing.{HasBecome, LeavesStore}
 use Rattle.rs_syntax.specs.Sound.{IsSound}
 use Rattle.rs_syntax.specs.Tree.{CommandTree, reopen}
 

@@ -14,7 +14,7 @@ use Rattle.rs_refusal.specs.Counts.{Rose}
 use Rattle.rs_refusal.specs.declared.refusal.Refusal.{Refusal}
 use Rattle.rs_file_meaning.specs.Seen.{referents_seen}
 use Rattle.rs_refusal.specs.declared.refusal.Refusal.TheVariants as refusal
-use Rattle.rs_store.specs.Kept.{StandsIn, StoreState}
+use Rattle.rs_store_source.specs.Kept.{StandsIn, StoreState}
 use Rattle.rs_store_source.specs.Reads.{WantsReading}
 
 module _ {D : Type 0} (d : disk.Ghosts D) (oldest : ℕ) (old new : StoreState D) where

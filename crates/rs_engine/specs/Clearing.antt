@@ -1,6 +1,6 @@
 -- What an accepted change and an accepted CLOSE clear: records that no version sees any more that is looked at.
 use Rattle.std.specs.Prelude.{◌≡◌, ◌≤◌, ◌+◌, Result, min}
-use Rattle.rs_change_laws.specs.Changing.{ClearsEnough, HasTurned}
+use Rattle.rs_store_source.specs.ChangeLawsChanging.{ClearsEnough, HasTurned}
 use Rattle.rs_disk.specs.declared.disk.Disk as disk
 use Rattle.rs_engine.specs.Kept.{EngineState, IsMachine, IsOldestIn}
 use Rattle.rs_engine.specs.Serving.{IsServed}
@@ -10,7 +10,7 @@ use Rattle.rs_machine.specs.Served.{Machine, Reply, done, refused}
 use Rattle.rs_machine.specs.State.{State}
 use Rattle.rs_machine.specs.Step.{Effect}
 use Rattle.rs_refusal.specs.declared.refusal.Refusal.{Refusal}
-use Rattle.rs_store.specs.Kept.{Keeps}
+use Rattle.rs_store_source.specs.Kept.{Keeps}
 use Rattle.rs_syntax.specs.Tree.{CommandTree, close_cursor, explain, fetch, open_cursor, reopen, save, select, total, translate}
 
 -- ---- what a step itself makes of the records, before any are cleared

@@ -8,9 +8,9 @@ use Rattle.rs_machine.specs.State.{State, fresh}
 use Rattle.rs_machine.specs.Step.{without_cursors}
 use Rattle.rs_refusal.specs.declared.refusal.Refusal.{Refusal}
 use Rattle.rs_refusal.specs.declared.refusal.Refusal.TheVariants as refusal
-use Rattle.rs_store.specs.Standing.{Stands}
-use Rattle.rs_store.specs.Calls.{IsLeftOpen, IsNoFileOfAny}
-use Rattle.rs_store.specs.Kept.{StoreState}
+use Rattle.rs_store_source.specs.Standing.{Stands}
+use Rattle.rs_store_source.specs.Calls.{IsLeftOpen, IsNoFileOfAny}
+use Rattle.rs_store_source.specs.Kept.{StoreState}
 use Rattle.rs_syntax.specs.Tree.{CommandTree, reopen, save}
 
 -- ---- stores of engines

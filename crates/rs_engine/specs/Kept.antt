@@ -19,7 +19,7 @@ use Rattle.rs_machine.specs.Lawful.{IsLawful}
 use Rattle.rs_machine.specs.Served.{Machine}
 use Rattle.rs_machine.specs.State.{Cursors, State}
 use Rattle.rs_pages.specs.declared.pages.TheConstants.{GREATEST_LIMIT}
-use Rattle.rs_store.specs.Kept.{StandsIn, StoreState}
+use Rattle.rs_store_source.specs.Kept.{StandsIn, StoreState}
 use Rattle.rs_store_source.specs.Shown.{snapshot_at}
 
 -- the store of the file, the oldest version that is looked at, and the cursors of each session with lines that one gives next

@@ -7,7 +7,7 @@ use Rattle.rs_engine.specs.Kept.{seen_at}
 use Rattle.rs_file_meaning.specs.Live.{KeepsLive}
 use Rattle.rs_file_meaning.specs.Seen.{spans_seen}
 use Rattle.rs_machine.specs.State.{State, no_cursors}
-use Rattle.rs_store.specs.Kept.{StandsIn, StoreState}
+use Rattle.rs_store_source.specs.Kept.{StandsIn, StoreState}
 
 module _ {D : Type 0} (d : disk.Ghosts D) where
   -- The state is that of what is in memory and of the spans that the version accepted last sees. After a change that keeps what live

@@ -10,3 +10,5 @@ pub mod Replied
 pub mod Reads
 pub mod Single
 pub mod Staying
+pub use Rattle.rs_store_source.specs.Calls
+pub use Rattle.rs_store_source.specs.Standing

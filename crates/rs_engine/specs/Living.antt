@@ -18,7 +18,7 @@ use Rattle.rs_machine.specs.declared.limits.TheConstants.{ROUTES}
 use Rattle.rs_refusal.proofs.CountLemmas.{Rose-after_le}
 use Rattle.rs_refusal.specs.declared.refusal.Refusal.{Refusal}
 use Rattle.rs_file_meaning.proofs.Named.{len_by, order_kept}
-use Rattle.rs_store.specs.Kept.{StandsIn, StoreState}
+use Rattle.rs_store_source.specs.Kept.{StandsIn, StoreState}
 use Rattle.rs_store_source.proofs.Passing.{stands_on}
 use Rattle.rs_store_source.proofs.States.{stands_shown}
 use Rattle.rs_store_source.specs.Shown.{Shows, no_snapshot, places_seen, shown_from, snapshot_at, table_there}

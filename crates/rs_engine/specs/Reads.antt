@@ -14,8 +14,8 @@ use Rattle.rs_plan.specs.declared.counts.Index.{Index}
 use Rattle.rs_refusal.specs.Counts.{Rose}
 use Rattle.rs_refusal.specs.declared.refusal.Refusal.{Refusal}
 use Rattle.rs_refusal.specs.declared.refusal.Refusal.TheVariants as refusal
-use Rattle.rs_store.specs.Kept.{StandsIn, StoreState}
-use Rattle.rs_store.specs.Reading.{living_of}
+use Rattle.rs_store_source.specs.Kept.{StandsIn, StoreState}
+use Rattle.rs_store_source.specs.Reading.{living_of}
 use Rattle.rs_store_source.specs.Reads.{Passes}
 use Rattle.rs_store_source.specs.Shown.{Shows}
 

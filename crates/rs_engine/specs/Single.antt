@@ -21,7 +21,7 @@ use Rattle.rs_file_meaning.specs.States.{routes_named, tables_named}
 use Rattle.rs_machine.specs.Served.{Machine}
 use Rattle.rs_machine.specs.State.{State, no_cursors}
 use Rattle.rs_pager.specs.Maps.{committed}
-use Rattle.rs_store.specs.Kept.{StoreState}
+use Rattle.rs_store_source.specs.Kept.{StoreState}
 use Rattle.rs_store_source.specs.Shown.{table_there}
 use Rattle.rs_versioned.specs.Events.{Event, spans_at}
 use Rattle.rs_versioned.specs.Referents.{referents_at}

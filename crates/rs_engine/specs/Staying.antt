@@ -14,7 +14,7 @@ use Rattle.rs_machine.specs.Served.{Reply, done, refused}
 use Rattle.rs_methods.specs.declared.position.Method.{Method}
 use Rattle.rs_pager.specs.Maps.{KeepsChanges}
 use Rattle.rs_refusal.specs.declared.refusal.Refusal.{Refusal}
-use Rattle.rs_store.specs.Changing.{StillHolds}
+use Rattle.rs_store_source.specs.Changing.{StillHolds}
 use Rattle.rs_syntax.specs.Tree.{CommandTree, close_cursor, explain, fetch, open_cursor, reopen, select, total, translate}
 
 -- ---- the cursors of sessions

@@ -6,3 +6,4 @@
 pub mod engine;
 
 pub use engine::Engine;
+pub use rs_store_source::rs_store;

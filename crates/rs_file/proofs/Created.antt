@@ -25,7 +25,7 @@ use Rattle.rs_pages.specs.PageMap.{IsEmptyFile, PageMap}
 use Rattle.rs_pages.specs.Store.{Store}
 use Rattle.rs_versioned.specs.Records.{HoldsRecords}
 use Rattle.rs_versioned.specs.Referents.{kept_referents}
-use Rattle.rs_cell_versions.specs.Versioned.{nothing_stands}
+use Rattle.rs_attr.specs.Versioned.{nothing_stands}
 
 zeros_tree : SaysTree (replicate 20 0) no_tree
 zeros_tree = (replicate 4 0, replicate 16 0, refl, (omega arith, refl), (replicate 8 0, replicate 8 0, refl, (omega arith, refl), (omega arith, refl)))

@@ -12,3 +12,5 @@ pub mod Slotted
 pub mod TablesOpened
 pub mod Walked
 pub mod Widths
+pub use Rattle.rs_attr.proofs.Values
+pub use Rattle.rs_attr.proofs.Within

@@ -32,7 +32,7 @@ use Rattle.rs_versioned.specs.Opening.{OpensNone, OpensRecords, StandsAs}
 use Rattle.rs_versioned.specs.Records.{HoldsRecords}
 use Rattle.rs_versioned.specs.Referents.{kept_referents}
 use Rattle.rs_versioned.specs.Tables.{ReferentTableState}
-use Rattle.rs_cell_versions.specs.Versioned.{Standing}
+use Rattle.rs_attr.specs.Versioned.{Standing}
 
 -- the same fields and the same pages are one map
 pub same_map : (one other : PageMap) → SamePages one other → one ≡ other

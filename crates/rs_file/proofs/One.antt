@@ -21,7 +21,7 @@ use Rattle.rs_versioned.specs.Referents.{kept_referents}
 use Rattle.rs_versioned.proofs.KeptRecords.{events_are_kept}
 use Rattle.rs_versioned.proofs.KeptReferents.{referents_are_kept}
 use Rattle.rs_versioned.proofs.Staying.{held_one}
-use Rattle.rs_cell_versions.specs.Versioned.{Standing}
+use Rattle.rs_attr.specs.Versioned.{Standing}
 
 -- what is there, where it is known that something is
 abbrev pub or_else : {A : Type 0} → A → Option A → A

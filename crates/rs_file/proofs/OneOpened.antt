@@ -7,7 +7,7 @@ use Rattle.rs_attr.specs.Tables.{AreOn, HoldIndexes, HoldsTable, IndexState}
 use Rattle.rs_catalog_pages.specs.Directory.{DirectoryItems, TreeItem}
 use Rattle.rs_attr.specs.declared.told.ToldTable.{ToldTable}
 use Rattle.rs_catalog_pages.specs.Items.{CatalogueItems, IndexItem, TableItem, kind_of}
-use Rattle.rs_cell_versions.specs.declared.told.ToldRecords.{ToldRecords}
+use Rattle.rs_attr.specs.ToldRecords.{ToldRecords}
 use Rattle.rs_file.specs.Contents.{IsIndex, item_of, no_tree, type_of}
 use Rattle.rs_file.specs.Opening.{IsTableOf, OpensNotOne, OpensOne, told_of}
 use Rattle.rs_file.specs.declared.opened.OpenedTable.{OpenedTable}

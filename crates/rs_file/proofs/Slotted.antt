@@ -29,7 +29,7 @@ use Rattle.rs_pages.proofs.PlainStore.{at_set, beside_set}
 use Rattle.rs_tree.proofs.Lists.{all_at, has_inside, inside_has, take_next, zip_lengths}
 use Rattle.rs_value.specs.declared.column.ColumnType.{ColumnType}
 use Rattle.rs_versioned.specs.Events.{event_width}
-use Rattle.rs_cell_versions.specs.Versioned.{Standing}
+use Rattle.rs_attr.specs.Versioned.{Standing}
 
 -- the numbers of items that two tests select, of which no item passes both
 pub times-both : {X : Type 0} (number : X → ℕ) (p q : X → Bool) → ((x : X) → p x ≡ true → q x ≡ true → ⊥) → (xs : List X) (n : ℕ)

@@ -15,7 +15,7 @@ use Rattle.rs_file.proofs.Selected.{each_push, zip_push}
 use Rattle.rs_pages.specs.PageMap.{PageMap}
 use Rattle.rs_tree.proofs.Lists.{all_at, has_inside, inside_has, map_at, sum_upto, take_next, zip_at, zip_lengths}
 use Rattle.rs_versioned.specs.declared.route_span.RouteSpan.{RouteSpan}
-use Rattle.rs_tree_whole.proofs.Joins.{all_take, map_take, zip_take}
+use Rattle.rs_attr.proofs.Joins.{all_take, map_take, zip_take}
 
 -- the first pairs and the next one
 pub zip_next : {X Y : Type 0} (R : X → Y → Type 0) (xs : List X) (k : ℕ) (x : X) (ys : List Y) (y : Y) → slice_get xs k ≡ Some x → AllZip R (take k xs) ys → R x y

@@ -17,7 +17,7 @@ use Rattle.rs_value.specs.declared.column.ColumnType.TheVariants as types
 use Rattle.rs_versioned.specs.Events.{Event, event_width}
 use Rattle.rs_versioned.specs.Records.{HoldsRecords}
 use Rattle.rs_versioned.specs.Referents.{ReferentRecord, kept_referents}
-use Rattle.rs_cell_versions.specs.Versioned.{Standing}
+use Rattle.rs_attr.specs.Versioned.{Standing}
 
 -- a table: the types of its columns, how its records stand, its indexes, its events, and the pages of its records and of each index
 pub record TableContents : Type 0 where

@@ -5,7 +5,7 @@ use Rattle.rs_catalog_pages.specs.Items.{CatalogueItems}
 use Rattle.rs_catalog_pages.specs.declared.directory_items.TheConstants.{INDEXES, TABLES}
 use Rattle.rs_file.specs.Contents.{Contents, no_tree}
 use Rattle.rs_page_owners.specs.Counts.{no_pages}
-use Rattle.rs_cell_versions.specs.Versioned.{nothing_stands}
+use Rattle.rs_attr.specs.Versioned.{nothing_stands}
 
 abbrev pub no_definitions : CatalogueItems
 no_definitions = record { routes = []; tables = []; indexes = []; views = []; alignments = [] }

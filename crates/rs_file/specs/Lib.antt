@@ -6,3 +6,6 @@ pub mod Meant
 pub mod Opening
 pub mod OpeningCalls
 pub mod Slots
+pub use Rattle.rs_attr.specs.Entries
+pub use Rattle.rs_attr.specs.Finding
+pub use Rattle.rs_attr.specs.Tables

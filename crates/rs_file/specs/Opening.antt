@@ -17,14 +17,14 @@ use Rattle.rs_page_owners.specs.Counts.{◌&◌, one_at, times}
 use Rattle.rs_pages.specs.PageMap.{PageMap}
 use Rattle.rs_page_marks.specs.Marks.{taken}
 use Rattle.rs_value.specs.declared.column.TheConstants.{COLUMNS}
-use Rattle.rs_cell_versions.specs.declared.told.ToldRecords.{ToldRecords}
+use Rattle.rs_attr.specs.ToldRecords.{ToldRecords}
 use Rattle.rs_versioned.specs.Events.{event_width}
 use Rattle.rs_versioned.specs.Meant.{AreReferentsMeant}
 use Rattle.rs_versioned.specs.declared.route_span.RouteSpan.{RouteSpan}
 use Rattle.rs_versioned.specs.Opening.{OpensRecords}
 use Rattle.rs_versioned.specs.Referents.{kept_referents}
 use Rattle.rs_versioned.specs.Tables.{ReferentTableState}
-use Rattle.rs_cell_versions.specs.Version.{died_of}
+use Rattle.rs_attr.specs.Version.{died_of}
 
 -- what the directory says of a tree of records, with the version that was accepted last
 abbrev pub told_of : TreeItem → ℕ → ToldRecords

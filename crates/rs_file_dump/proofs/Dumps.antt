@@ -14,9 +14,9 @@ use Rattle.rs_file_dump.specs.Files.{DumpsDisk, ShowsFile}
 use Rattle.rs_file_dump.proofs.Files.{is_state_of, shown_of, shows_its_state}
 use Rattle.rs_machine.specs.Lawful.{IsLawful}
 use Rattle.rs_machine.specs.State.{State}
-use Rattle.rs_store.specs.Calls.{OpensState}
-use Rattle.rs_store.specs.Kept.{StoreState}
-use Rattle.rs_store.specs.Standing.{Stands}
+use Rattle.rs_store_source.specs.Calls.{OpensState}
+use Rattle.rs_store_source.specs.Kept.{StoreState}
+use Rattle.rs_store_source.specs.Standing.{Stands}
 use Rattle.rs_store_source.proofs.States.{StateIs}
 use Rattle.rs_store_source.proofs.Within.{NoneLeftOut, RowsWithin}
 

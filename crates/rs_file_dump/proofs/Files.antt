@@ -19,9 +19,9 @@ use Rattle.rs_machine.specs.Lawful.{IsLawful}
 use Rattle.rs_machine.specs.State.{State, no_cursors}
 use Rattle.rs_table_reads.specs.Read.{spans_in}
 use Rattle.rs_file_meaning.proofs.Picked.{beside}
-use Rattle.rs_store.specs.Kept.{StandsIn, StoreState}
-use Rattle.rs_store.specs.Reading.{ReadsStore}
-use Rattle.rs_store.proofs.Placed.{entry_there}
+use Rattle.rs_store_source.specs.Kept.{StandsIn, StoreState}
+use Rattle.rs_store_source.specs.Reading.{ReadsStore}
+use Rattle.rs_store_source.proofs.Placed.{entry_there}
 use Rattle.rs_store_source.proofs.Facts.{runs_at, whole_read}
 use Rattle.rs_store_source.proofs.Passing.{passes_refl, passes_trans, stands_on}
 use Rattle.rs_store_source.proofs.States.{StateIs}

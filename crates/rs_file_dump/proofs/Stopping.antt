@@ -27,9 +27,9 @@ use Rattle.rs_machine.specs.State.{State}
 use Rattle.rs_refusal.specs.Counts.{Rose}
 use Rattle.rs_refusal.specs.declared.refusal.Refusal.{Refusal}
 use Rattle.rs_refusal.specs.declared.refusal.Refusal.TheVariants as refusal
-use Rattle.rs_store.specs.Calls.{OpensState}
-use Rattle.rs_store.specs.Kept.{StoreState}
-use Rattle.rs_store.specs.Standing.{Stands}
+use Rattle.rs_store_source.specs.Calls.{OpensState}
+use Rattle.rs_store_source.specs.Kept.{StoreState}
+use Rattle.rs_store_source.specs.Standing.{Stands}
 use Rattle.rs_store_source.proofs.States.{StateIs}
 use Rattle.rs_store_source.proofs.Within.{NoneLeftOut, RowsWithin}
 use Rattle.rs_store_source.specs.Reads.{WantsReading}

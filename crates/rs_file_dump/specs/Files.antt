@@ -18,9 +18,9 @@ use Rattle.rs_table_reads.specs.Read.{spans_in}
 use Rattle.rs_table_reads.specs.declared.window.RouteWindow.{RouteWindow}
 use Rattle.rs_file_meaning.specs.Seen.{events_of}
 use Rattle.rs_refusal.specs.declared.refusal.Refusal.TheVariants as refusal
-use Rattle.rs_store.specs.Calls.{IsLeftOpen, IsNoFileOfAny, WantsOpening}
-use Rattle.rs_store.specs.Kept.{StandsIn, StoreState}
-use Rattle.rs_store.specs.Standing.{Stands}
+use Rattle.rs_store_source.specs.Calls.{IsLeftOpen, IsNoFileOfAny, WantsOpening}
+use Rattle.rs_store_source.specs.Kept.{StandsIn, StoreState}
+use Rattle.rs_store_source.specs.Standing.{Stands}
 use Rattle.rs_value.specs.declared.column.Kind.{Kind}
 
 -- all of a route at a version

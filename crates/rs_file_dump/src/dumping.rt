@@ -8,15 +8,15 @@ ghost use Rattle.rs_machine.specs.State.{State};
 ghost use Rattle.rs_pages.specs.declared.pages.TheConstants.{GREATEST_LIMIT};
 ghost use Rattle.rs_refusal.specs.Counts.{Rose};
 ghost use Rattle.rs_refusal.specs.declared.refusal.Refusal.TheVariants as refusal;
-ghost use Rattle.rs_store.specs.Standing.{Stands};
+ghost use Rattle.rs_store_source.specs.Standing.{Stands};
 
 use crate::held::HeldFile;
 use rs_disk::Disk;
 use rs_dump::laws::{state_that_passes_is_dumped_whole, what_is_written_is_a_dump};
 use rs_dump::{Stop, Wanted, dump};
 use rs_pages::GREATEST_LIMIT;
-use rs_store::Store;
-use rs_store::laws::{
+use rs_store_source::rs_store::Store;
+use rs_store_source::rs_store::laws::{
     disk_stands_for_one_state, state_of_a_disk_is_lawful, store_stands_in_one_state,
 };
 use rs_table_reads::laws::spans_within_hold_what_the_table_holds;

@@ -9,7 +9,7 @@ use rs_dump::{Held, NamedRoute, NamedTable};
 use rs_facts::Span;
 use rs_methods::Referent;
 use rs_refusal::Refusal;
-use rs_store::Store;
+use rs_store_source::rs_store::Store;
 use rs_table_reads::RouteWindow;
 use rs_value::Kind;
 use std::alloc::Global;
@@ -22,7 +22,7 @@ pub struct HeldFile<D: Disk> {
 
 impl<D: Disk> Held for HeldFile<D> {
     ghost use Rattle.rs_file_dump.specs.Files.{ShowsFile};
-    ghost use Rattle.rs_store.specs.Reading.{ReadsStore};
+    ghost use Rattle.rs_store_source.specs.Reading.{ReadsStore};
     ghost use Rattle.rs_store_source.proofs.Passing.{wants_later};
     ghost use Rattle.rs_store_source.specs.Reads.{WantsReading};
 

@@ -9,7 +9,7 @@ use Rattle.rs_catalog_meaning.specs.Meaning.{AreMeant}
 use Rattle.rs_catalog_meaning.specs.Stating.{kind_of}
 use Rattle.rs_catalog_pages.specs.Items.{CatalogueItems, RouteItem, TableItem}
 use Rattle.rs_catalog_pages.proofs.Counting.{times-cons}
-use Rattle.rs_cell_versions.specs.declared.cell.TheConstants.{LIVING}
+use Rattle.rs_versioned.specs.TheConstants.{LIVING}
 use Rattle.rs_file.specs.Contents.{Contents, HoldsAll, LiesTable, SameContents, SameTable, TableContents}
 use Rattle.rs_pages.specs.PageMap.{PageMap}
 use Rattle.rs_versioned.specs.Events.{Event, kept_events, sees_event}

@@ -8,7 +8,7 @@ use Rattle.rs_catalog.specs.Definitions as catalog
 use Rattle.rs_catalog.specs.Definitions.{state_from, table_from}
 use Rattle.rs_catalog.specs.Names.{map_values}
 use Rattle.rs_catalog_pages.specs.Items.{RouteItem, TableItem}
-use Rattle.rs_cell_versions.specs.declared.cell.TheConstants.{LIVING}
+use Rattle.rs_versioned.specs.TheConstants.{LIVING}
 use Rattle.rs_facts.specs.Fact.{Names}
 use Rattle.rs_facts.specs.Query.{World}
 use Rattle.rs_facts.specs.Runs.{Stretch}

@@ -4,7 +4,7 @@ use Rattle.std.proofs.lemmas.Bool.Decides.{nat_tests}
 use Rattle.std.proofs.lemmas.List.Sorted.{IsPermutation-map, IsPermutation-refl, IsPermutation-trans}
 use Rattle.std.specs.List.{Contains}
 use Rattle.std.specs.List.Sorted.{IsPermutation}
-use Rattle.rs_cell_versions.specs.declared.cell.TheConstants.{LIVING}
+use Rattle.rs_versioned.specs.TheConstants.{LIVING}
 use Rattle.rs_versioned.specs.Records.{HasCleared, HasEnded, HasOneMore, Kept, is_seen}
 use Rattle.rs_versioned.proofs.SeenAfter.{EndsAs, before_birth, before_end_or_twice, unseen_cleared}
 use Rattle.rs_versioned.proofs.Shuffles.{IsPermutation-filter}

@@ -3,7 +3,7 @@ use Rattle.std.proofs.Common.{◌≡◌, ◌<◌, ℕ, List, [], ◌∷◌, map,
 use Rattle.std.specs.Prelude.{◌≢◌}
 use Rattle.std.specs.List.Sorted.{IsPermutation}
 use Rattle.std.proofs.lemmas.List.Sorted.{IsPermutation-sym, length_permutation}
-use Rattle.rs_cell_versions.specs.declared.cell.TheConstants.{LIVING}
+use Rattle.rs_versioned.specs.TheConstants.{LIVING}
 use Rattle.rs_facts.specs.Fact.{Name}
 use Rattle.rs_facts.specs.Runs.{Stretch}
 use Rattle.rs_facts.specs.Spans.{AreOnce}

@@ -7,7 +7,7 @@ ghost use Rattle.std.specs.Prelude.{◌≡◌, ◌≤◌, ◌<◌, ◌++◌, ◌
 ghost use Rattle.rs_catalog_meaning.specs.Meaning.{AreMeant};
 ghost use Rattle.rs_catalog_pages.specs.Directory.{DirectoryItems};
 ghost use Rattle.rs_catalog_pages.specs.Items.{CatalogueItems, TableItem};
-ghost use Rattle.rs_cell_versions.specs.declared.cell.TheConstants.{LIVING};
+ghost use Rattle.rs_versioned.specs.TheConstants.{LIVING};
 ghost use Rattle.rs_file.specs.Contents.{Contents, ReferentContents, TableContents};
 ghost use Rattle.rs_facts.specs.Spans.{places_of};
 ghost use Rattle.rs_machine.specs.Lawful.{AreDistinct};

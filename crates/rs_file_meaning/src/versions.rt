@@ -1,7 +1,7 @@
 //! These laws say that a change keeps what versions before it mean, and that the next version begins as the present one.
 
 ghost use Rattle.std.specs.Prelude.{◌≡◌, ◌≤◌, ◌<◌, ◌+◌, ℕ};
-ghost use Rattle.rs_cell_versions.specs.declared.cell.TheConstants.{LIVING};
+ghost use Rattle.rs_versioned.specs.TheConstants.{LIVING};
 ghost use Rattle.rs_file.specs.Contents.{Contents, HoldsAll};
 ghost use Rattle.rs_machine.specs.State.{State};
 ghost use Rattle.rs_pages.specs.PageMap.{PageMap};

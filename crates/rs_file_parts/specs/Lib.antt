@@ -3,3 +3,7 @@ pub mod Clearing
 pub mod Inner
 pub mod Parts
 pub mod Slots
+pub use Rattle.rs_file.specs.Contents
+pub use Rattle.rs_file.specs.Meant
+pub use Rattle.rs_file.specs.Opening
+pub use Rattle.rs_file.specs.declared.opened.OpenedFile

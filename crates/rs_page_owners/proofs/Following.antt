@@ -1,7 +1,7 @@
 -- Calls that change pages, after what worked and counted nothing.
 use Rattle.std.proofs.Common.{◌≡◌, ◌⊎◌, ℕ, Result, Ok, Err, refl, inl, inr}
-use Rattle.rs_refusal.specs.declared.refusal.Refusal.{Refusal}
-use Rattle.rs_refusal.specs.declared.refusal.Refusal.TheVariants as refusal
+use Rattle.rs_pages.specs.Refusal.{Refusal}
+use Rattle.rs_pages.specs.Refusal.TheVariants as refusal
 use Rattle.rs_pages.specs.Store.{Store, Rests, CountsFailure}
 use Rattle.rs_pages.proofs.Resting.{counts_after}
 use Rattle.rs_pages.proofs.Stores.{CountsFailure-refl}

@@ -2,8 +2,8 @@
 use Rattle.std.proofs.Common.{◌≡◌, ◌⊎◌, ◌<◌, ◌≤◌, ◌+◌, ℕ, true, false, Some, List, [], ◌∷◌, drop, eqb, cond, refl, sym, ap, ◌∙◌, inl, inr, arith}
 use Rattle.std.proofs.lemmas.Bool.Decides.{nat_tests}
 use Rattle.std.proofs.lemmas.List.Sums.{sum_by-cons}
-use Rattle.rs_page.specs.declared.file_header.FileHeader.{FileHeader}
-use Rattle.rs_page.specs.declared.header.PageKind.{PageKind}
+use Rattle.rs_pages.specs.FileHeader.{FileHeader}
+use Rattle.rs_pages.specs.PageKind.{PageKind}
 use Rattle.rs_pages.specs.PageMap.{PageMap, SamePages, ReplacesPage, in_use}
 use Rattle.rs_pages.specs.FreeList.{IsFreeList, IsFreePage, Allocates, Releases, TakesFree, TakesLast}
 use Rattle.rs_pages.proofs.FreeLists.{allocating_takes_the_first_free_page, released_page_is_the_first_free, page_in_use_leaves_the_free_list, same_pages_have_one_free_list}

@@ -1,12 +1,12 @@
 -- Calls that change pages, one after another.
 use Rattle.std.proofs.Common.{◌≡◌, ◌⊎◌, ◌≤◌, ℕ, List, Result, Ok, Err, IfOk, IfErr, OnOk, OnErr, refl, sym, ap, ◌∙◌, inl, inr, arith}
-use Rattle.rs_refusal.specs.Counts.{counted_on}
-use Rattle.rs_refusal.specs.declared.refusal.Refusal.{Refusal}
-use Rattle.rs_refusal.specs.declared.refusal.Refusal.TheVariants as refusal
-use Rattle.rs_page.specs.declared.file_header.FileHeader.{FileHeader}
+use Rattle.rs_pages.specs.Counts.{counted_on}
+use Rattle.rs_pages.specs.Refusal.{Refusal}
+use Rattle.rs_pages.specs.Refusal.TheVariants as refusal
+use Rattle.rs_pages.specs.FileHeader.{FileHeader}
 use Rattle.rs_pages.specs.Store.{Store, Rests, Edits, KeepsCounts}
 use Rattle.rs_pages.specs.Lending.{RestsAfter, EditsAfter}
-use Rattle.rs_page.specs.declared.header.PageKind.{PageKind}
+use Rattle.rs_pages.specs.PageKind.{PageKind}
 use Rattle.rs_pages.specs.FreeList.{IsFreeList, TakesFree, TakesLast}
 use Rattle.rs_pages.specs.PageMap.{HasNoFit}
 use Rattle.rs_pages.specs.Uses.{Wants, AllocatesPage, RefusesPage, IsFull, ReleasesPage, RefusesToRelease}

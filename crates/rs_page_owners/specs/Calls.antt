@@ -1,6 +1,6 @@
 -- What a call leaves of the pages that it is lent to change.
 use Rattle.std.specs.Prelude.{◌≡◌, ℕ, List, Some, Result, IfOk}
-use Rattle.rs_refusal.specs.declared.refusal.Refusal.{Refusal}
+use Rattle.rs_pages.specs.Refusal.{Refusal}
 use Rattle.rs_pages.specs.PageMap.{PageMap}
 use Rattle.rs_pages.specs.declared.pages.Pages.{Ghosts}
 use Rattle.rs_page_owners.specs.Changes.{WorksAfter}

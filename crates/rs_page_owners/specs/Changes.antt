@@ -1,7 +1,7 @@
 -- What a call that changes pages leaves on any disk, and why it is refused.
 use Rattle.std.specs.Prelude.{◌≡◌, ◌≤◌, Result, MatchResult}
-use Rattle.rs_refusal.specs.Counts.{counted_on}
-use Rattle.rs_refusal.specs.declared.refusal.Refusal.{Refusal}
+use Rattle.rs_pages.specs.Counts.{counted_on}
+use Rattle.rs_pages.specs.Refusal.{Refusal}
 use Rattle.rs_pages.specs.Store.{Store, KeepsCounts}
 use Rattle.rs_pages.specs.Uses.{Wants}
 

@@ -2,7 +2,7 @@
 //! to an owner's pages is one.
 
 ghost use Rattle.std.specs.Prelude.{◌≡◌, ◌<◌, ℕ, Some, List};
-ghost use Rattle.rs_page.specs.declared.header.PageKind.{PageKind};
+ghost use Rattle.rs_pages.specs.PageKind.{PageKind};
 ghost use Rattle.rs_pages.specs.FreeList.{Allocates, Releases};
 ghost use Rattle.rs_pages.specs.PageMap.{PageMap, SamePages, ReplacesPage, in_use};
 ghost use Rattle.rs_page_owners.specs.Counts.{◌&◌, one_at, no_pages};

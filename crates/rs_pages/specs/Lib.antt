@@ -6,3 +6,7 @@ pub mod Plain
 pub mod Store
 pub mod Uses
 pub mod Calls
+pub use Rattle.rs_page.specs.declared.file_header.FileHeader
+pub use Rattle.rs_page.specs.declared.header.PageKind
+pub use Rattle.rs_refusal.specs.Counts
+pub use Rattle.rs_refusal.specs.declared.refusal.Refusal

@@ -6,7 +6,7 @@ use Rattle.rs_disk.specs.declared.disk.Disk as disk
 use Rattle.rs_machine.specs.State.{State}
 use Rattle.rs_pages.specs.declared.pages.TheConstants.{GREATEST_LIMIT}
 use Rattle.rs_server.specs.Disks.{IsClosedAs}
-use Rattle.rs_store.specs.Standing.{Stands}
+use Rattle.rs_engine.specs.Standing.{Stands}
 
 -- a file within one limit is one within a greater one
 pub stands_within : (limit most : ℕ) → limit ≤ most → (content : Content) (state : State) → Stands limit content state → Stands most content state

@@ -8,7 +8,7 @@ use Rattle.rs_dump.specs.declared.stop.Stop.{Stop}
 use Rattle.rs_file_dump.specs.Files.{DumpsDisk}
 use Rattle.rs_machine.specs.State.{State}
 use Rattle.rs_server.specs.Dumping.{LeavesOut}
-use Rattle.rs_store.specs.Standing.{Stands}
+use Rattle.rs_engine.specs.Standing.{Stands}
 
 lacked : (result : Result Bool Stop) → result ≡ Ok true → IfOk result (λ lacks. lacks ≡ false) → ⊥
 lacked (Err stop) done none = let wrong : ◌≡◌ {A = Result Bool Stop} (Err stop) (Ok true) = done in cc

@@ -9,7 +9,7 @@ use Rattle.rs_machine.specs.Served.{Machine}
 use Rattle.rs_machine.specs.State.{State}
 use Rattle.rs_machine.specs.Step.{without_cursors}
 use Rattle.rs_server.specs.Reopenings.{AreDone, Does, GoOn, Goes, Part, served, reopened, not_closed, opened_again}
-use Rattle.rs_store.specs.Standing.{Stands}
+use Rattle.rs_engine.specs.Standing.{Stands}
 use Rattle.std.specs.Prelude.{ℕ}
 
 module _ {D : Type 0} (d : disk.Ghosts D)

@@ -13,8 +13,8 @@ use Rattle.rs_refusal.specs.declared.refusal.Refusal.{Refusal}
 use Rattle.rs_refusal.specs.declared.refusal.Refusal.TheVariants as refusal
 use Rattle.rs_server.specs.declared.report.Failure.{Failure}
 use Rattle.rs_server.specs.declared.report.Failure.TheVariants.{Refused, Stream}
-use Rattle.rs_store.specs.Standing.{Stands}
-use Rattle.rs_store.specs.Calls.{IsLeftOpen, IsNoFileOfAny, WantsCreating, WantsOpening}
+use Rattle.rs_engine.specs.Standing.{Stands}
+use Rattle.rs_engine.specs.Calls.{IsLeftOpen, IsNoFileOfAny, WantsCreating, WantsOpening}
 
 -- ---- failures
 

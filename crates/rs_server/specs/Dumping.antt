@@ -5,7 +5,7 @@ use Rattle.rs_dump.specs.States.{CanBeDumpedWhole}
 use Rattle.rs_dump.specs.declared.stop.Stop.{Stop}
 use Rattle.rs_file_dump.specs.Files.{DumpsDisk, RefusesDisk, StopsDumping}
 use Rattle.rs_machine.specs.State.{State}
-use Rattle.rs_store.specs.Standing.{Stands}
+use Rattle.rs_engine.specs.Standing.{Stands}
 
 -- All is wanted, and something of the state was told and left out, which had to be.
 pub record LeavesOut (limit : ℕ) (content : Content) (table : Option (List ℕ)) (omits_rows : Bool) (before after : Option (List ℕ)) : Type 0 where

@@ -25,7 +25,7 @@ use Rattle.rs_server.specs.declared.report.Failure.{Failure}
 use Rattle.rs_server.specs.declared.report.Failure.TheVariants.{Refused, Stream}
 use Rattle.rs_server.specs.declared.report.TheConstants.{FAILED, MISUSE, SUCCESS}
 use Rattle.rs_syntax.specs.Tree.{CommandTree}
-use Rattle.rs_store.specs.Calls.{WantsCreating}
+use Rattle.rs_engine.specs.Calls.{WantsCreating}
 
 -- ---- failures
 

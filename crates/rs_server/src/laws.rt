@@ -13,8 +13,8 @@ ghost use Rattle.rs_server.specs.declared.report.Failure.{Failure};
 
 use rs_disk::Disk;
 use rs_engine::engine::laws::machine_is_the_only_one;
+use rs_engine::rs_store::laws::disk_stands_for_one_state;
 use rs_refusal::Refusal;
-use rs_store::laws::disk_stands_for_one_state;
 
 /// What one service left, the next one on its disk begins with: the same state, without cursors.
 pub fn next_service_goes_on<D: Disk>()

@@ -5,7 +5,7 @@ use Rattle.std.specs.Prelude.{OnErr, OnOk}
 use Rattle.rs_catalog.specs.Definitions.{Definitions, Numbered}
 use Rattle.rs_catalog.specs.Referents.{HeldReferents, referents_on}
 use Rattle.rs_catalog_pages.specs.Items.{CatalogueItems}
-use Rattle.rs_change_laws.specs.Changing.{GivesState, HoldsNoFile}
+use Rattle.rs_changes.specs.Changing.{GivesState, HoldsNoFile}
 use Rattle.rs_disk.specs.declared.disk.Disk as disk
 use Rattle.rs_file.specs.Contents.{Contents}
 use Rattle.rs_file.specs.declared.opened.OpenedFile.{OpenedFile}

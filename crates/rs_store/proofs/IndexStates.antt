@@ -12,9 +12,9 @@ use Rattle.rs_catalog.proofs.NameOrder.{name_cmp-total}
 use Rattle.rs_catalog_pages.specs.Items.{CatalogueItems, TableItem}
 use Rattle.rs_catalog_pages.specs.Said.{said_catalogue}
 use Rattle.rs_cell_versions.specs.declared.cell.TheConstants.{LIVING}
-use Rattle.rs_change_laws.specs.Changing.{GivesState}
-use Rattle.rs_change_laws.specs.Parts.{ChangesIndexes}
-use Rattle.rs_change_laws.specs.Standing.{StandsAt}
+use Rattle.rs_changes.specs.Changing.{GivesState}
+use Rattle.rs_changes.specs.Parts.{ChangesIndexes}
+use Rattle.rs_changes.specs.Standing.{StandsAt}
 use Rattle.rs_disk.specs.declared.disk.Disk as disk
 use Rattle.rs_facts.specs.Fact.{Name, Names}
 use Rattle.rs_file.specs.Contents.{Contents, IsTable, table_numbers}

@@ -5,7 +5,7 @@ use Rattle.std.proofs.lemmas.List.Sums.{sum_by-cons}
 use Rattle.std.specs.List.{AllZip, sum_by}
 use Rattle.std.specs.Prelude.{nat_le}
 use Rattle.rs_catalog_pages.specs.Directory.{DirectoryItems}
-use Rattle.rs_change_laws.specs.Clearing.{LosesRecords}
+use Rattle.rs_changes.specs.Clearing.{LosesRecords}
 use Rattle.rs_disk.specs.declared.disk.Disk as disk
 use Rattle.rs_file.specs.Contents.{Contents, TableContents}
 use Rattle.rs_file_meaning.specs.Live.{KeepsLive}

@@ -19,9 +19,9 @@ use Rattle.rs_pager.specs.Paged.{Paged}
 use Rattle.rs_pages.specs.PageMap.{PageMap}
 use Rattle.rs_pages.proofs.Stores.{SamePages-trans}
 use Rattle.rs_refusal.specs.declared.refusal.Refusal.{Refusal}
-use Rattle.rs_change_laws.specs.Changing.{HoldsNoFile}
-use Rattle.rs_change_laws.specs.Clearing.{ClearsFile, HoldsFewer, LosesRecords, StandsFewer}
-use Rattle.rs_change_laws.specs.Standing.{StandsAt}
+use Rattle.rs_changes.specs.Changing.{HoldsNoFile}
+use Rattle.rs_changes.specs.Clearing.{ClearsFile, HoldsFewer, LosesRecords, StandsFewer}
+use Rattle.rs_changes.specs.Standing.{StandsAt}
 use Rattle.rs_changes.specs.Calls.{MayChange}
 use Rattle.rs_refusal.specs.declared.refusal.Refusal.TheVariants as refusal
 use Rattle.rs_store.specs.Bracket.{BeginsChange}

@@ -7,7 +7,7 @@ use Rattle.rs_catalog_pages.specs.Items.{CatalogueItems}
 use Rattle.rs_catalog_pages.specs.Said.{said_catalogue}
 use Rattle.rs_catalog_pages.specs.Storing.{StoresAfter}
 use Rattle.rs_catalog_pages.specs.declared.items.StoredCatalogue.{StoredCatalogue}
-use Rattle.rs_change_laws.specs.Changing.{ChangesFile, HoldsNoFile}
+use Rattle.rs_changes.specs.Changing.{ChangesFile, HoldsNoFile}
 use Rattle.rs_changes.specs.Calls.{ComesNext, LeavesFile}
 use Rattle.rs_file.specs.Contents.{Contents}
 use Rattle.rs_file.specs.declared.opened.OpenedFile.{OpenedFile}

@@ -30,9 +30,9 @@ use Rattle.rs_pager.specs.Maps.{committed}
 use Rattle.rs_pages.specs.PageMap.{PageMap}
 use Rattle.rs_stored_catalog.specs.Listing.{listing_of}
 use Rattle.rs_stored_catalog.specs.Relisting.{AreLawful}
-use Rattle.rs_change_laws.specs.Changing.{GivesState}
-use Rattle.rs_change_laws.specs.Parts.{DropsRoute}
-use Rattle.rs_change_laws.specs.Standing.{StandsAt}
+use Rattle.rs_changes.specs.Changing.{GivesState}
+use Rattle.rs_changes.specs.Parts.{DropsRoute}
+use Rattle.rs_changes.specs.Standing.{StandsAt}
 use Rattle.rs_file_meaning.proofs.Picked.{beside}
 use Rattle.rs_store.specs.Kept.{StandsIn, StoreState}
 use Rattle.rs_store.specs.Rewriting.{CanBeKept}

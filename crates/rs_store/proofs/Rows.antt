@@ -12,9 +12,9 @@ use Rattle.rs_disk.specs.declared.disk.Disk as disk
 use Rattle.rs_file.specs.Contents.{Contents, table_numbers}
 use Rattle.rs_file.specs.declared.opened.OpenedFile.{OpenedFile}
 use Rattle.rs_spans.specs.Removal.{goes_by}
-use Rattle.rs_change_laws.specs.Changing.{ChangesFile, Completes, GivesState}
-use Rattle.rs_change_laws.specs.Parts.{InsertsRow, RemovesRows}
-use Rattle.rs_change_laws.specs.Standing.{StandsAt}
+use Rattle.rs_changes.specs.Changing.{ChangesFile, Completes, GivesState}
+use Rattle.rs_changes.specs.Parts.{InsertsRow, RemovesRows}
+use Rattle.rs_changes.specs.Standing.{StandsAt}
 use Rattle.rs_facts.specs.Fact.{Name}
 use Rattle.rs_facts.specs.Insert.{new_facts}
 use Rattle.rs_facts.specs.Query.{Table}

@@ -40,8 +40,8 @@ use Rattle.rs_pages.specs.PageMap.{PageMap}
 use Rattle.rs_pages.proofs.Stores.{SamePages-trans}
 use Rattle.rs_refusal.specs.Counts.{counted_on}
 use Rattle.rs_refusal.specs.declared.refusal.Refusal.{Refusal}
-use Rattle.rs_change_laws.specs.Changing.{Becomes, ClearsEnough, Completes, GivesState, HoldsNoFile}
-use Rattle.rs_change_laws.specs.Standing.{AreInMemory, IsOpenedFile, StandsAt}
+use Rattle.rs_changes.specs.Changing.{Becomes, ClearsEnough, Completes, GivesState, HoldsNoFile}
+use Rattle.rs_changes.specs.Standing.{AreInMemory, IsOpenedFile, StandsAt}
 use Rattle.rs_changes.specs.Calls.{IsNext, MayChange}
 use Rattle.rs_file_meaning.specs.Live.{KeepsEvents, KeepsLive, KeepsRecords, KeepsReferents}
 use Rattle.rs_file_meaning.specs.States.{AreDefinitionsAt}

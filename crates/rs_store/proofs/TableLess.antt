@@ -25,9 +25,9 @@ use Rattle.rs_machine.specs.declared.limits.TheConstants.{CHANGES}
 use Rattle.rs_page_owners.specs.Counts.{one_at, times}
 use Rattle.rs_stored_catalog.specs.Listing.{listed_table, listing_of}
 use Rattle.rs_stored_catalog.specs.Relisting.{LosesTable}
-use Rattle.rs_change_laws.specs.Changing.{GivesState}
-use Rattle.rs_change_laws.specs.Parts.{TakesTable}
-use Rattle.rs_change_laws.specs.Standing.{StandsAt}
+use Rattle.rs_changes.specs.Changing.{GivesState}
+use Rattle.rs_changes.specs.Parts.{TakesTable}
+use Rattle.rs_changes.specs.Standing.{StandsAt}
 use Rattle.rs_changes.specs.Tables.{LosesTableAt}
 use Rattle.rs_page_owners.proofs.Moving.{one_at-same}
 use Rattle.rs_pager.specs.Maps.{committed}

@@ -15,8 +15,8 @@ use Rattle.rs_catalog_pages.specs.Items.{CatalogueItems, TableItem}
 use Rattle.rs_catalog_pages.specs.Said.{said_catalogue, said_table}
 use Rattle.rs_catalog_pages.specs.declared.items.StoredCatalogue.{StoredCatalogue}
 use Rattle.rs_catalog_pages.specs.declared.items.StoredTable.{StoredTable}
-use Rattle.rs_change_laws.specs.Changing.{ChangesFile}
-use Rattle.rs_change_laws.specs.Standing.{IsOpenedFile}
+use Rattle.rs_changes.specs.Changing.{ChangesFile}
+use Rattle.rs_changes.specs.Standing.{IsOpenedFile}
 use Rattle.rs_changes.specs.Tables.{HasTableAt}
 use Rattle.rs_facts.specs.Fact.{Name, Names}
 use Rattle.rs_facts.specs.Query.{Column}

@@ -17,7 +17,7 @@ use Rattle.rs_pager.specs.Opened.{CountsFault}
 use Rattle.rs_pager.specs.Paged.{Paged}
 use Rattle.rs_refusal.specs.Counts.{counted_on}
 use Rattle.rs_refusal.specs.declared.refusal.Refusal.{Refusal}
-use Rattle.rs_change_laws.specs.Changing.{ClearsEnough, HasTurned}
+use Rattle.rs_changes.specs.Changing.{ClearsEnough, HasTurned}
 use Rattle.rs_file_meaning.specs.Live.{KeepsLive}
 use Rattle.rs_refusal.specs.declared.refusal.Refusal.TheVariants as refusal
 use Rattle.rs_store.specs.Kept.{Keeps, StandsIn, StoreState}

@@ -3,7 +3,7 @@ use Rattle.std.specs.Prelude.{◌≡◌, ◌<◌, ◌==◌, ℕ, List, [], ◌�
 use Rattle.rs_attr.specs.Entries.{FitsPages}
 use Rattle.rs_catalog.specs.Definitions as catalog
 use Rattle.rs_catalog_pages.specs.Items.{CatalogueItems, IndexItem, TableItem}
-use Rattle.rs_change_laws.specs.Parts.{ChangesIndexes}
+use Rattle.rs_changes.specs.Parts.{ChangesIndexes}
 use Rattle.rs_facts.specs.Fact.{Name}
 use Rattle.rs_file.specs.Contents.{Contents, type_of}
 use Rattle.rs_file.specs.Slots.{indexes_on}

@@ -4,7 +4,7 @@ use Rattle.std.specs.List.{AllByRecursion}
 use Rattle.rs_catalog.specs.Definitions.{Definitions, Numbered}
 use Rattle.rs_catalog.specs.Referents.{HeldReferents}
 use Rattle.rs_catalog_pages.specs.Said.{said_catalogue}
-pub use Rattle.rs_change_laws.specs.Standing.{AreInMemory, IsOpenedFile}
+pub use Rattle.rs_changes.specs.Standing.{AreInMemory, IsOpenedFile}
 use Rattle.rs_changes.specs.Calls.{MayChange}
 pub use Rattle.rs_changes.specs.Garbage.{dead_of, garbage_of}
 use Rattle.rs_disk.specs.declared.disk.Disk as disk

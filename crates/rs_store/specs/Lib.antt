@@ -15,3 +15,4 @@ pub mod Settling
 pub mod Standing
 pub mod Tabling
 pub mod Versions
+pub use Rattle.rs_changes.specs.Changing as ChangeLawsChanging

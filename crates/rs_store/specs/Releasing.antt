@@ -7,7 +7,7 @@ use Rattle.rs_file_parts.specs.Parts.{IsAsItWas}
 use Rattle.rs_machine.specs.State.{State}
 use Rattle.rs_pager.specs.Opened.{CountsFault}
 use Rattle.rs_refusal.specs.declared.refusal.Refusal.{Refusal}
-use Rattle.rs_change_laws.specs.Clearing.{LosesRecords}
+use Rattle.rs_changes.specs.Clearing.{LosesRecords}
 use Rattle.rs_file_meaning.specs.Live.{KeepsLive}
 use Rattle.rs_refusal.specs.declared.refusal.Refusal.TheVariants as refusal
 use Rattle.rs_store.specs.Changing.{StillHolds}

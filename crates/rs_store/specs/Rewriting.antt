@@ -6,7 +6,7 @@ use Rattle.rs_catalog_meaning.specs.Meaning.{AreMeant}
 use Rattle.rs_catalog_pages.specs.Items.{CatalogueItems}
 use Rattle.rs_catalog_pages.specs.Said.{said_catalogue}
 use Rattle.rs_catalog_pages.specs.Storing.{StoresAfter}
-use Rattle.rs_change_laws.specs.Changing.{ChangesFile, HoldsNoFile}
+use Rattle.rs_changes.specs.Changing.{ChangesFile, HoldsNoFile}
 use Rattle.rs_changes.specs.Calls.{MayChange}
 pub use Rattle.rs_changes.specs.Calls.{HasTablesOf}
 use Rattle.rs_file.specs.Contents.{Contents}

@@ -5,7 +5,7 @@ use Rattle.rs_catalog.specs.Definitions as catalog
 use Rattle.rs_catalog_pages.specs.Items.{CatalogueItems, TableItem}
 use Rattle.rs_catalog_pages.specs.Said.{said_table}
 use Rattle.rs_catalog_pages.specs.declared.items.StoredTable.{StoredTable}
-use Rattle.rs_change_laws.specs.Parts.{PutsTable, TakesTable}
+use Rattle.rs_changes.specs.Parts.{PutsTable, TakesTable}
 use Rattle.rs_facts.specs.Fact.{Name, Names}
 use Rattle.rs_file.specs.Contents.{Contents, table_numbers, type_of}
 use Rattle.rs_store.specs.Placing.{HasNoNumber}

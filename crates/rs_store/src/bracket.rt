@@ -9,13 +9,13 @@ ghost use Rattle.rs_machine.specs.Lawful.{AreViewsMeant};
 ghost use Rattle.rs_machine.specs.State.{State};
 ghost use Rattle.rs_pager.specs.Maps.{KeepsBelow, working};
 ghost use Rattle.rs_pager.specs.Paged.{Paged};
-ghost use Rattle.rs_change_laws.specs.Changing.{Completes, GivesState};
+ghost use Rattle.rs_changes.specs.Changing.{Completes, GivesState};
 ghost use Rattle.rs_store.specs.Bracket.{BeginsChange};
 ghost use Rattle.rs_store.specs.Changing.{HasBecome};
 ghost use Rattle.rs_store.specs.Kept.{StandsIn, StoreState};
 ghost use Rattle.rs_store.specs.Settling.{HasBegun, IsKept, Settles};
 
-use rs_change_laws::completing::completed_change_has_its_state;
+use rs_changes::rs_change_laws::completing::completed_change_has_its_state;
 use rs_disk::Disk;
 use rs_file::OpenedFile;
 use rs_file_meaning::changes::meant_contents_stay_meant;

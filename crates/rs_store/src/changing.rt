@@ -20,7 +20,7 @@ use crate::bracket::{begin_change, kept_change_gives_its_state, settle};
 use crate::placing::table_place;
 use crate::store::Store;
 use rs_catalog::Catalog;
-use rs_change_laws::rows::{row_put_gives_its_state, rows_taken_away_give_their_state};
+use rs_changes::rs_change_laws::rows::{row_put_gives_its_state, rows_taken_away_give_their_state};
 use rs_changes::{Insertion, Removal};
 use rs_disk::Disk;
 use rs_facts::{Condition, Span};

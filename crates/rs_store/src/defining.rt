@@ -21,7 +21,7 @@ use crate::rewriting::{is_name, rewrite, write_definitions_of};
 use crate::store::Store;
 use rs_catalog::Catalog;
 use rs_catalog_pages::StoredCatalogue;
-use rs_change_laws::definitions::view_listed_gives_its_state;
+use rs_changes::rs_change_laws::definitions::view_listed_gives_its_state;
 use rs_disk::Disk;
 use rs_file::OpenedFile;
 use rs_machine_laws::view_lines::shortest_line_defines_the_view;

@@ -25,7 +25,7 @@ use crate::rewriting::check_definitions;
 use crate::store::Store;
 use rs_catalog::Catalog;
 use rs_catalog_pages::{StoredCatalogue, StoredIndex, StoredRoute};
-use rs_change_laws::tables::index_listed_gives_its_state;
+use rs_changes::rs_change_laws::tables::index_listed_gives_its_state;
 use rs_changes::{IndexPlace, NewIndex};
 use rs_disk::Disk;
 use rs_file::OpenedFile;

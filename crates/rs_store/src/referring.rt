@@ -12,7 +12,7 @@ ghost use Rattle.rs_machine.specs.Step.{with_referents};
 ghost use Rattle.rs_machine.specs.declared.limits.TheConstants.{CHANGES};
 ghost use Rattle.rs_methods.specs.Position.{start_name};
 ghost use Rattle.rs_changes.specs.Calls.{Changes, ComesNext, LeavesFile, MayAccept};
-ghost use Rattle.rs_change_laws.specs.Parts.{EndsReferent, MovesReferent, PutsReferent};
+ghost use Rattle.rs_changes.specs.Parts.{EndsReferent, MovesReferent, PutsReferent};
 ghost use Rattle.rs_store.specs.Bracket.{StandsNext};
 ghost use Rattle.rs_store.specs.Changing.{Always, LeavesStore};
 
@@ -20,7 +20,7 @@ use crate::bracket::{begin_change, kept_change_gives_its_state, settle};
 use crate::laws::store_stands_in_one_state;
 use crate::store::Store;
 use rs_catalog::RouteReferents;
-use rs_change_laws::referents::{
+use rs_changes::rs_change_laws::referents::{
     referent_ended_gives_its_state, referent_moved_gives_its_state, referent_put_gives_its_state,
 };
 use rs_disk::Disk;

@@ -7,8 +7,8 @@ ghost use Rattle.rs_store.specs.Releasing.{HasReleased, LeavesReleased};
 
 use crate::bracket::{begin_change, settle};
 use crate::store::Store;
-use rs_change_laws::clearing::cleared_file_stands_for_the_same_state;
 use rs_changes::clear_only;
+use rs_changes::rs_change_laws::clearing::cleared_file_stands_for_the_same_state;
 use rs_disk::Disk;
 use rs_file_meaning::changes::meant_contents_stay_meant;
 use rs_file_meaning::live::{

@@ -15,7 +15,7 @@ ghost use Rattle.rs_machine.specs.State.{State, has};
 ghost use Rattle.rs_machine.specs.Step.{with_route, without_route};
 ghost use Rattle.rs_machine.specs.declared.limits.TheConstants.{CHANGES, ROUTES};
 ghost use Rattle.rs_changes.specs.Calls.{MayChange};
-ghost use Rattle.rs_change_laws.specs.Parts.{DropsRoute};
+ghost use Rattle.rs_changes.specs.Parts.{DropsRoute};
 ghost use Rattle.rs_store.specs.Bracket.{StandsNext};
 ghost use Rattle.rs_store.specs.Changing.{LeavesStore};
 ghost use Rattle.rs_store.specs.Kept.{IsAtRest};
@@ -29,7 +29,9 @@ use crate::store::Store;
 use rs_catalog::{Catalog, RouteReferents};
 use rs_catalog_laws::definitions::state_has_one_route_more_or_less;
 use rs_catalog_pages::StoredCatalogue;
-use rs_change_laws::definitions::{route_defined_gives_its_state, route_dropped_gives_its_state};
+use rs_changes::rs_change_laws::definitions::{
+    route_defined_gives_its_state, route_dropped_gives_its_state,
+};
 use rs_disk::Disk;
 use rs_file::OpenedFile;
 use rs_machine_laws::view_lines::shortest_line_defines_the_view;

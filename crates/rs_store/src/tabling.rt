@@ -25,7 +25,9 @@ use crate::rewriting::check_definitions;
 use crate::store::Store;
 use rs_catalog::Catalog;
 use rs_catalog_pages::{StoredCatalogue, StoredTable};
-use rs_change_laws::tables::{table_defined_gives_its_state, table_dropped_gives_its_state};
+use rs_changes::rs_change_laws::tables::{
+    table_defined_gives_its_state, table_dropped_gives_its_state,
+};
 use rs_disk::Disk;
 use rs_file::laws::tables_of_lines_fit_pages;
 use rs_file::{OpenedFile, schema_of};

@@ -9,3 +9,6 @@ pub mod Passing
 pub mod Counted
 pub mod Facts
 pub mod Keyed
+pub use Rattle.rs_store.proofs.Placed
+pub use Rattle.rs_store.proofs.HeldChanges
+pub use Rattle.rs_store.proofs.Results

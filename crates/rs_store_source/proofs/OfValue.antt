@@ -3,7 +3,7 @@ use Rattle.std.proofs.Common.{◌≡◌, ◌&&◌, ◌||◌, ℕ, Bool, true, fa
 use Rattle.std.proofs.lemmas.Bool.{and_parts, false≢true}
 use Rattle.std.specs.List.{list_any}
 use Rattle.std.specs.Ordering.{is_eq}
-use Rattle.rs_attr.specs.Finding as index
+use Rattle.rs_file.specs.Finding as index
 use Rattle.rs_exec.specs.Given.{has_value, inside}
 use Rattle.rs_exec.specs.declared.source.Part.{Part}
 use Rattle.rs_table_reads.specs.Found.{spans_with}

@@ -1,3 +1,12 @@
 pub mod Reads
 pub mod Routes
 pub mod Shown
+pub use Rattle.rs_store.specs.Calls
+pub use Rattle.rs_store.specs.Kept
+pub use Rattle.rs_store.specs.Reading
+pub use Rattle.rs_store.specs.Standing
+pub use Rattle.rs_store.specs.ChangeLawsChanging
+pub use Rattle.rs_store.specs.Changing
+pub use Rattle.rs_store.specs.Releasing
+pub use Rattle.rs_store.specs.Routing
+pub use Rattle.rs_store.specs.Versions

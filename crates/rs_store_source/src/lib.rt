@@ -12,3 +12,4 @@ pub mod routes;
 pub use asked::{spans_asked, spans_of_value_asked};
 pub use counting::records_of;
 pub use routes::has_facts_on;
+pub use rs_store;

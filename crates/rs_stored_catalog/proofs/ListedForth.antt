@@ -15,7 +15,7 @@ use Rattle.rs_catalog_meaning.specs.Meaning.{AreMeant, AreRoutes, IsPiece, colum
 use Rattle.rs_catalog_meaning.specs.Stating as stating
 use Rattle.rs_catalog_meaning.specs.Stating.{name_with, named_alignment, table_with}
 use Rattle.rs_catalog_pages.specs.Items.{AlignmentItem, CatalogueItems, IndexItem, RouteItem, TableItem, ViewItem, kind_of}
-use Rattle.rs_file.specs.Contents.{AreGivenOnce}
+use Rattle.rs_file_meaning.specs.Contents.{AreGivenOnce}
 use Rattle.rs_stored_catalog.specs.Listing.{kind_code, listed_alignment, listed_column, listed_index, listed_piece, listed_route, listed_table, listed_view, listing_of, number_found, type_code}
 use Rattle.rs_stored_catalog.specs.Relisting.{AreLawful}
 use Rattle.rs_facts.specs.Fact.{Name, Names}

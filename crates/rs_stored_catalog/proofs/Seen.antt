@@ -8,7 +8,7 @@ use Rattle.rs_catalog.specs.Definitions.{AreDefinitions, Definitions}
 use Rattle.rs_catalog_meaning.specs.Meaning.{AreMeant}
 use Rattle.rs_catalog_pages.specs.Items.{CatalogueItems, RouteItem}
 use Rattle.rs_facts.specs.Fact.{name_cmp}
-use Rattle.rs_file.specs.Contents.{AreGivenOnce}
+use Rattle.rs_file_meaning.specs.Contents.{AreGivenOnce}
 use Rattle.rs_file_meaning.specs.States.{AreDefinitionsAt, IsViewOf, routes_named}
 use Rattle.rs_file_meaning.proofs.Picked.{born_all}
 use Rattle.rs_stored_catalog.specs.Made.{without_views}

@@ -5,7 +5,7 @@ ghost use Rattle.std.specs.List.{AllByRecursion};
 ghost use Rattle.rs_catalog.specs.Definitions.{AreDefinitions};
 ghost use Rattle.rs_catalog_meaning.specs.Meaning.{AreMeant};
 ghost use Rattle.rs_catalog_pages.specs.Items.{CatalogueItems};
-ghost use Rattle.rs_file.specs.Contents.{AreGivenOnce};
+ghost use Rattle.rs_file_meaning.specs.Contents.{AreGivenOnce};
 ghost use Rattle.rs_facts.specs.Fact.{Name};
 ghost use Rattle.rs_file_meaning.specs.States.{AreDefinitionsAt, HasLine};
 ghost use Rattle.rs_syntax.specs.Tree.{QueryTree};

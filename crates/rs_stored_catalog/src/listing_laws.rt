@@ -10,7 +10,7 @@ ghost use Rattle.rs_catalog.specs.Uses.{some_piece_on};
 ghost use Rattle.rs_catalog_meaning.specs.Meaning.{AreMeant};
 ghost use Rattle.rs_catalog_pages.specs.Fitting.{FitsCatalogue, IsShort};
 ghost use Rattle.rs_catalog_pages.specs.Items.{CatalogueItems};
-ghost use Rattle.rs_file.specs.Contents.{AreGivenOnce};
+ghost use Rattle.rs_file_meaning.specs.Contents.{AreGivenOnce};
 ghost use Rattle.rs_stored_catalog.specs.Listing.{listed_alignment, listed_index, listed_route, listed_table, listed_view, listing_of};
 ghost use Rattle.rs_stored_catalog.specs.Relisting.{AreLawful, HasAlignmentMore, HasIndexMore, HasRouteMore, HasTableMore, HasViewMore, LosesTable};
 ghost use Rattle.rs_facts.specs.Fact.{Name};

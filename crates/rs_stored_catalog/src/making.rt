@@ -10,7 +10,7 @@ ghost use Rattle.rs_catalog_meaning.specs.Meaning.{AreAlignments, AreIndexes, Ar
 ghost use Rattle.rs_catalog_meaning.specs.Stating.{alignments_of, named_alignment, table_with};
 ghost use Rattle.rs_catalog_pages.specs.Said.{said_alignment, said_catalogue, said_index, said_route, said_table};
 ghost use Rattle.rs_catalog_pages.specs.declared.directory_items.TheConstants.{INDEXES, TABLES};
-ghost use Rattle.rs_file.specs.Contents.{AreGivenOnce};
+ghost use Rattle.rs_file_meaning.specs.Contents.{AreGivenOnce};
 ghost use Rattle.rs_facts.specs.WellFormed.{ArePiecesOn};
 ghost use Rattle.rs_page_owners.specs.Counts.{times};
 ghost use Rattle.rs_file_meaning.specs.States.{indexes_named, routes_named, tables_named};

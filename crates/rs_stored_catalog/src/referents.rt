@@ -5,7 +5,7 @@
 ghost use Rattle.std.specs.Prelude.{◌≡◌, ◌≢◌, ◌<◌, ◌≤◌, ◌⊎◌, List, Err, IfErr, IfNone, IfSome, OnOk, length, map};
 ghost use Rattle.std.specs.List.{AllByRecursion, AllZip};
 ghost use Rattle.rs_catalog.specs.Referents.{referents_on};
-ghost use Rattle.rs_file.specs.Calls.{RefusesToLoad};
+ghost use Rattle.rs_file_meaning.specs.Calls.{RefusesToLoad};
 ghost use Rattle.rs_stored_catalog.specs.Referents.{Brings, BringsRoute, FindsDamaged, FindsRouteDamaged, HasMore, IsReferent};
 ghost use Rattle.rs_grammar.specs.declared.kind.TheConstants.{NAME_BYTES};
 ghost use Rattle.rs_machine.specs.Lawful.{AreDistinct};

@@ -2,7 +2,7 @@
 //!
 //! The route has just those, where the file's referents are meant, and no other route has any.
 
-ghost use Rattle.rs_file.specs.Calls.{RefusesToLoad};
+ghost use Rattle.rs_file_meaning.specs.Calls.{RefusesToLoad};
 ghost use Rattle.rs_stored_catalog.specs.RouteReferents.{BringsRoute, FindsRouteDamaged};
 ghost use Rattle.rs_pages.specs.Calls.{OnlyReads};
 

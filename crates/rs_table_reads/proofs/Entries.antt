@@ -12,8 +12,8 @@ use Rattle.std.specs.Ordering.{nat_cmp, ordering_then, is_eq, is_lt}
 use Rattle.std.specs.Prelude.{IsTrue}
 use Rattle.std.specs.declared.cmp.Ordering.{Ordering}
 use Rattle.std.specs.declared.cmp.Ordering.TheVariants.{Less, Equal, Greater}
-use Rattle.rs_attr.specs.Entries.{Field, entry_of, value_in}
-use Rattle.rs_attr.proofs.Within.{ascends_once, has}
+use Rattle.rs_file.specs.Entries.{Field, entry_of, value_in}
+use Rattle.rs_file.proofs.Within.{ascends_once, has}
 use Rattle.rs_records.specs.Order.{is_below, Ascends}
 use Rattle.rs_tree.specs.Cells.{cells_within, is_within}
 use Rattle.rs_tree_insert.proofs.Ascending.{ascends_filter}

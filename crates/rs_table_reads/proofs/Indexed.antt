@@ -7,10 +7,10 @@ use Rattle.std.specs.List.{AllZip, count_by}
 use Rattle.std.specs.Ordering.{is_eq}
 use Rattle.std.specs.declared.cmp.Ordering.{Ordering}
 use Rattle.std.specs.declared.cmp.Ordering.TheVariants.{Less, Equal, Greater}
-use Rattle.rs_attr.specs.Entries.{HoldsIndex, IsColumn, entry_bytes, index_form, value_in}
-use Rattle.rs_attr.specs.Finding.{FindsEntries, has_value}
-use Rattle.rs_attr.specs.Tables.{IndexState}
-use Rattle.rs_attr.proofs.Values.{has_bytes, value_said}
+use Rattle.rs_file.specs.Entries.{HoldsIndex, IsColumn, entry_bytes, index_form, value_in}
+use Rattle.rs_file.specs.Finding.{FindsEntries, has_value}
+use Rattle.rs_file.specs.Tables.{IndexState}
+use Rattle.rs_file.proofs.Values.{has_bytes, value_said}
 use Rattle.rs_cell_versions.specs.Versioned.{Standing}
 use Rattle.rs_facts.specs.Operators.{datum_at}
 use Rattle.rs_facts.specs.Runs.{Stretch}

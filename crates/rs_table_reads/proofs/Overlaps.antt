@@ -13,7 +13,7 @@ use Rattle.rs_tree.specs.Tree.{IsNoTree}
 use Rattle.rs_value.specs.declared.column.ColumnType.{ColumnType}
 use Rattle.rs_versioned.specs.Events.{Event, SaysEvent, event_width, is_visible, kept_events, sees_event, span_of}
 use Rattle.rs_versioned.specs.Records.{HoldsRecords}
-use Rattle.rs_attr.specs.Finding.{has_value}
+use Rattle.rs_file.specs.Finding.{has_value}
 use Rattle.rs_value.specs.Row.{Datum}
 use Rattle.rs_table_reads.specs.Found.{may_have, spans_with}
 use Rattle.rs_table_reads.specs.Picked.{PicksSpans, SayNone, is_picked}

@@ -1,9 +1,9 @@
 -- What an index finds of a table's events.
 use Rattle.std.specs.Prelude.{◌≡◌, ◌≤◌, ◌+◌, ◌*◌, ◌==◌, ◌&&◌, ◌++◌, ℕ, Bool, true, Err, IfOk, List, Result, Some, Vec, count_by, filter, map, nat_lt, slice_get}
 use Rattle.std.specs.declared.alloc.Global.{Global}
-use Rattle.rs_attr.specs.Entries.{FitsPages, HoldsIndex, IsColumn, index_form}
-use Rattle.rs_attr.specs.Finding.{has_value}
-use Rattle.rs_attr.specs.Tables.{IndexState}
+use Rattle.rs_file.specs.Entries.{FitsPages, HoldsIndex, IsColumn, index_form}
+use Rattle.rs_file.specs.Finding.{has_value}
+use Rattle.rs_file.specs.Tables.{IndexState}
 use Rattle.rs_cell_versions.specs.Versioned.{Standing}
 use Rattle.rs_facts.specs.Runs.{Stretch}
 use Rattle.rs_facts.specs.Spans.{seen}

@@ -8,3 +8,5 @@ pub mod Levels
 pub mod Rooting
 pub mod Tops
 pub mod Under
+pub use Rattle.rs_tree_edit.proofs.Between
+pub use Rattle.rs_tree_edit.proofs.Pieces

@@ -6,7 +6,7 @@ use Rattle.std.specs.List.{AllByRecursion, AllZip}
 use Rattle.std.specs.Prelude.{◌≢◌}
 use Rattle.rs_facts.specs.Fact.{AreDistinct}
 use Rattle.rs_tree.proofs.Lists.{take_next}
-use Rattle.rs_tree_whole.proofs.Joins.{all_push}
+use Rattle.rs_cell_versions.proofs.Joins.{all_push}
 
 module _ {X : Type 0} where
   -- what holds of those that pass

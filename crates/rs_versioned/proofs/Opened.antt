@@ -7,8 +7,8 @@ use Rattle.rs_tree.specs.Cells.{cells_below}
 use Rattle.rs_tree.specs.Form.{Form}
 use Rattle.rs_tree.specs.Tree.{IsTree}
 use Rattle.rs_tree.proofs.Lists.{take_next}
-use Rattle.rs_tree_whole.specs.Validating.{HasNoFreshTree, Validates}
-use Rattle.rs_tree_whole.proofs.Joins.{all_push}
+use Rattle.rs_cell_versions.specs.Validating.{HasNoFreshTree, Validates}
+use Rattle.rs_cell_versions.proofs.Joins.{all_push}
 use Rattle.rs_cell_versions.specs.declared.told.ToldRecords.{ToldRecords}
 use Rattle.rs_versioned.specs.Opening.{OpensNone, OpensRecords, StandsAs}
 use Rattle.rs_versioned.specs.Records.{Kept}

@@ -10,7 +10,7 @@ use Rattle.std.specs.declared.cmp.Ordering.TheVariants.{Less, Equal, Greater}
 use Rattle.rs_facts.specs.Fact.{AreDistinct, name_cmp}
 use Rattle.rs_records.specs.Order.{is_below}
 use Rattle.rs_facts.proofs.NameOrder.{name_cmp-antisymmetric, name_cmp-total}
-use Rattle.rs_tree_whole.proofs.Joins.{all_push}
+use Rattle.rs_cell_versions.proofs.Joins.{all_push}
 use Rattle.rs_versioned.specs.Referents.{AreInNameOrder}
 use Rattle.rs_versioned.proofs.MeantLists.{all_weaker}
 

@@ -9,3 +9,4 @@ pub mod Referents
 pub mod Records
 pub mod Runs
 pub mod Tables
+pub use Rattle.rs_cell_versions.specs.declared.cell.TheConstants

@@ -17,7 +17,7 @@ use rs_disk::Disk;
 use rs_machine_laws::lawful::accepted_step_leaves_the_state_lawful;
 use rs_methods::Name;
 use rs_refusal::Refusal;
-use rs_store::Section;
+use rs_store_source::rs_store::Section;
 use rs_syntax::{Atom, EventLocation, Window};
 use rs_value::Literal;
 

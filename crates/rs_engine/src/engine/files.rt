@@ -17,8 +17,8 @@ ghost use Rattle.rs_machine.specs.Step.{counted, without_cursors};
 ghost use Rattle.rs_page_cache.specs.Changes.{ListsHeld};
 ghost use Rattle.rs_page_cache.specs.declared.clean.TheConstants.{MOST_CLEAN};
 ghost use Rattle.rs_pager.specs.Opened.{CountsFault};
-ghost use Rattle.rs_store.specs.Calls.{CountsClosing, HandsOver, WantsCreating, WantsOpening};
-ghost use Rattle.rs_store.specs.Kept.{garbage_of};
+ghost use Rattle.rs_store_source.specs.Calls.{CountsClosing, HandsOver, WantsCreating, WantsOpening};
+ghost use Rattle.rs_store_source.specs.Kept.{garbage_of};
 
 use crate::engine::Engine;
 use crate::engine::ahead::LinesAhead;
@@ -29,8 +29,8 @@ use rs_disk::Disk;
 use rs_machine_laws::lawful::{accepted_step_leaves_the_state_lawful, fresh_state_is_lawful};
 use rs_pages::{GREATEST_LIMIT, LEAST_LIMIT};
 use rs_refusal::Refusal;
-use rs_store::Store;
-use rs_store::laws::state_of_a_disk_is_lawful;
+use rs_store_source::rs_store::Store;
+use rs_store_source::rs_store::laws::state_of_a_disk_is_lawful;
 use std::alloc::Global;
 
 impl<D: Disk> Engine<D> {

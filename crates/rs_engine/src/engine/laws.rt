@@ -17,15 +17,15 @@ ghost use Rattle.rs_machine.specs.Served.{Machine};
 ghost use Rattle.rs_machine.specs.State.{some_cursor};
 ghost use Rattle.rs_machine.specs.declared.limits.TheConstants.{SESSIONS};
 ghost use Rattle.rs_plan.specs.declared.counts.Index.{Index};
-ghost use Rattle.rs_store.specs.Kept.{garbage_of};
+ghost use Rattle.rs_store_source.specs.Kept.{garbage_of};
 
 use rs_disk::Disk;
 use rs_file_meaning::live::version_that_sees_the_same_has_the_same_world;
 use rs_serve::Session;
-use rs_store::laws::{dead_records_may_be_cleared, store_stands_in_one_state};
 use rs_store_source::laws::{
     living_records_are_the_runs_of_the_state, store_shows_the_facts_of_its_state,
 };
+use rs_store_source::rs_store::laws::{dead_records_may_be_cleared, store_stands_in_one_state};
 
 /// An engine that is a machine is that one as it serves.
 pub fn machine_is_the_only_one<D: Disk>()

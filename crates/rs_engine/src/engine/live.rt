@@ -4,7 +4,7 @@
 
 ghost use Rattle.std.specs.Prelude.{◌≡◌, IfOk, map};
 ghost use Rattle.rs_answers.specs.Routes as answers;
-ghost use Rattle.rs_store.specs.Versions as store;
+ghost use Rattle.rs_store_source.specs.Versions as store;
 
 use rs_answers::{InMemory, NamedRoute, Versions};
 use rs_catalog::{Catalog, RouteReferents};
@@ -12,7 +12,7 @@ use rs_disk::Disk;
 use rs_exec::{Asked, Part, SoughtValue, Source};
 use rs_facts::Span;
 use rs_refusal::Refusal;
-use rs_store::Store;
+use rs_store_source::rs_store::Store;
 use rs_store_source::{spans_asked, spans_of_value_asked};
 use std::alloc::{AllocError, Global};
 
@@ -122,7 +122,10 @@ impl<D: Disk> Versions for LiveStore<D> {
 }
 
 /// The routes of a store as answers name them. The only refusal is for want of memory.
-fn named_routes(alloc: Global, kept: &[rs_store::NamedRoute]) -> Result<Vec<NamedRoute>, AllocError>
+fn named_routes(
+    alloc: Global,
+    kept: &[rs_store_source::rs_store::NamedRoute],
+) -> Result<Vec<NamedRoute>, AllocError>
     ensures { IfOk result (λ routes. map answers.entry_of routes.items ≡ map store.entry_of kept.now) }
 {
     let mut routes = Vec::with_capacity(alloc, kept.len())?;

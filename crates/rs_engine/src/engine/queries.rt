@@ -35,8 +35,8 @@ use rs_disk::Disk;
 use rs_methods::{Method, Name, Position};
 use rs_plan::{Counts, Index, Plan};
 use rs_refusal::Refusal;
-use rs_store::Store;
 use rs_store_source::records_of;
+use rs_store_source::rs_store::Store;
 use rs_syntax::Query;
 use std::alloc::AllocError;
 

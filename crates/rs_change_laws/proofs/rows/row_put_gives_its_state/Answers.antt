@@ -1,7 +1,7 @@
 use Rattle.std.proofs.Common.{subst, sym}
 use Rattle.rs_catalog.specs.Events.{behind}
 use Rattle.rs_change_laws.specs.Changing.{GivesState}
-use Rattle.rs_file.specs.Contents.{Contents}
+use Rattle.rs_file_parts.specs.Contents.{Contents}
 use Rattle.rs_machine.specs.Step.{with_table, with_facts_along}
 use Rattle.rs_change_laws.proofs.TableRows.{AreSaid, ChangesOn, row_put}
 use Rattle.rs_change_laws.proofs.rows.row_put_gives_its_state.Goals as goal

@@ -2,7 +2,7 @@ use Rattle.std.proofs.Common.{subst, sym}
 use Rattle.rs_catalog.specs.Events.{behind}
 use Rattle.rs_spans.specs.Removal.{goes_by}
 use Rattle.rs_change_laws.specs.Changing.{GivesState}
-use Rattle.rs_file.specs.Contents.{Contents}
+use Rattle.rs_file_parts.specs.Contents.{Contents}
 use Rattle.rs_machine.specs.Step.{with_table, without_facts}
 use Rattle.rs_change_laws.proofs.TableRows.{AreSaid, ChangesOn, rows_taken}
 use Rattle.rs_change_laws.proofs.rows.rows_taken_away_give_their_state.Goals as goal

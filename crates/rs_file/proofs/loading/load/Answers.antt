@@ -13,7 +13,7 @@ use Rattle.rs_page_owners.specs.Counts.{◌&◌, one_at, times}
 use Rattle.rs_page_marks.specs.Marks.{taken}
 use Rattle.rs_pages.proofs.Resting.{rests_then}
 use Rattle.rs_versioned.specs.declared.route_span.RouteSpan.{RouteSpan}
-use Rattle.rs_cell_versions.proofs.Refusing.{rests_err, rests_ok, rests_refused}
+use Rattle.rs_attr.proofs.Refusing.{rests_err, rests_ok, rests_refused}
 use Rattle.rs_file.proofs.loading.load.Goals as goal
 
 pub returns-in_err-said-clause-loads : goal.returns-in_err-said-clause-loads

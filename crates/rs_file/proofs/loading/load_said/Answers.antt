@@ -10,7 +10,7 @@ use Rattle.rs_file.proofs.Loaded.{all_from_said, all_said, no_catalogue_said, no
 use Rattle.rs_refusal.specs.declared.refusal.Refusal.TheVariants as refusal
 use Rattle.rs_page_marks.specs.Marks.{taken}
 use Rattle.rs_pages.proofs.Resting.{rests_then}
-use Rattle.rs_cell_versions.proofs.Refusing.{rests_ok, rests_refused}
+use Rattle.rs_attr.proofs.Refusing.{rests_ok, rests_refused}
 use Rattle.rs_file.proofs.loading.load_said.Goals as goal
 
 pub returns-in_err-directory-clause-says : goal.returns-in_err-directory-clause-says

@@ -8,12 +8,12 @@ use Rattle.rs_file.proofs.Loaded.{no_free, no_referents, no_tables, same_map, so
 use Rattle.rs_refusal.specs.declared.refusal.Refusal.TheVariants as refusal
 use Rattle.rs_page_marks.specs.Marks.{taken}
 use Rattle.rs_pages.proofs.Resting.{rests_then}
-use Rattle.rs_cell_versions.specs.declared.told.ToldRecords.{ToldRecords}
+use Rattle.rs_attr.specs.ToldRecords.{ToldRecords}
 use Rattle.rs_versioned.specs.Meant.{AreReferentsMeant}
 use Rattle.rs_versioned.specs.Opening.{OpensNone, OpensRecords}
 use Rattle.rs_versioned.specs.ReferentCalls.{IsOpened}
 use Rattle.rs_versioned.specs.Referents.{kept_referents}
-use Rattle.rs_cell_versions.proofs.Refusing.{rests_err, rests_ok, rests_refused}
+use Rattle.rs_attr.proofs.Refusing.{rests_err, rests_ok, rests_refused}
 use Rattle.rs_file.proofs.opening.open_parts.Goals as goal
 
 pub returns-in_err-tables-clause-opens : goal.returns-in_err-tables-clause-opens

@@ -14,8 +14,8 @@ use Rattle.rs_refusal.specs.declared.refusal.Refusal.TheVariants as refusal
 use Rattle.rs_page_marks.specs.Marks.{taken}
 use Rattle.rs_value.specs.declared.column.ColumnType.{ColumnType}
 use Rattle.rs_versioned.specs.Events.{event_width}
-use Rattle.rs_cell_versions.specs.declared.told.ToldRecords.{ToldRecords}
-use Rattle.rs_cell_versions.specs.Version.{died_of}
+use Rattle.rs_attr.specs.ToldRecords.{ToldRecords}
+use Rattle.rs_attr.specs.Version.{died_of}
 use Rattle.rs_file.proofs.opening.open_table.Goals as goal
 
 pub returns-in_err-indexes-clause-opens : goal.returns-in_err-indexes-clause-opens

@@ -7,7 +7,7 @@ use Rattle.rs_catalog.specs.Changes as changes
 use Rattle.rs_catalog_pages.specs.Items.{CatalogueItems}
 use Rattle.rs_catalog_pages.specs.Said.{said_catalogue, said_index}
 use Rattle.rs_catalog_pages.specs.declared.items.StoredIndex.{StoredIndex}
-use Rattle.rs_change_laws.specs.Parts.{ChangesIndexes}
+use Rattle.rs_changes.specs.Parts.{ChangesIndexes}
 use Rattle.rs_changes.specs.Tables.{HasIndexAt}
 use Rattle.rs_file.specs.Contents.{table_numbers}
 use Rattle.rs_machine.specs.State.{has}

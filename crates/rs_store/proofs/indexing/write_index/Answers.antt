@@ -6,7 +6,7 @@ use Rattle.std.proofs.lemmas.Result.{err_from_is_err_and}
 use Rattle.rs_catalog_pages.specs.Items.{CatalogueItems}
 use Rattle.rs_catalog_pages.specs.Said.{said_catalogue, said_index}
 use Rattle.rs_catalog_pages.specs.declared.items.StoredIndex.{StoredIndex}
-use Rattle.rs_change_laws.specs.Parts.{ChangesIndexes}
+use Rattle.rs_changes.specs.Parts.{ChangesIndexes}
 use Rattle.rs_changes.specs.Tables.{HasIndexOfAt}
 use Rattle.rs_refusal.specs.declared.refusal.Refusal.TheVariants as refusal
 use Rattle.rs_store.specs.Indexing.{ChangesListed, position_among}

@@ -8,7 +8,7 @@ use Rattle.rs_catalog.specs.Changes as changes
 use Rattle.rs_catalog.specs.Definitions.{RouteItem}
 use Rattle.rs_catalog.specs.Referents.{at_number, referents_on}
 use Rattle.rs_catalog_pages.specs.Items.{CatalogueItems}
-use Rattle.rs_change_laws.specs.Parts.{DropsRoute}
+use Rattle.rs_changes.specs.Parts.{DropsRoute}
 use Rattle.rs_refusal.specs.declared.refusal.Refusal.{Refusal}
 use Rattle.rs_refusal.specs.declared.refusal.Refusal.TheVariants as refusal
 use Rattle.rs_store.specs.Rewriting.{Redefines, Rewrites}

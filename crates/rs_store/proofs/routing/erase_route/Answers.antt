@@ -2,7 +2,7 @@
 use Rattle.std.proofs.Common.{inr}
 use Rattle.std.proofs.lemmas.Result.{err_from_is_err_and}
 use Rattle.rs_catalog_pages.specs.Said.{said_catalogue}
-use Rattle.rs_change_laws.specs.Parts.{DropsRoute}
+use Rattle.rs_changes.specs.Parts.{DropsRoute}
 use Rattle.rs_store.proofs.Rewritten.{rewrites_by, rewrites_unmade}
 use Rattle.rs_store.proofs.routing.erase_route.Goals as goal
 

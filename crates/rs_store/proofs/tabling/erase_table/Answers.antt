@@ -6,7 +6,7 @@ use Rattle.std.proofs.lemmas.Result.{err_from_is_err_and}
 use Rattle.rs_catalog.specs.Changes as changes
 use Rattle.rs_catalog_pages.specs.Items.{CatalogueItems}
 use Rattle.rs_catalog_pages.specs.Said.{said_catalogue}
-use Rattle.rs_change_laws.specs.Parts.{TakesTable}
+use Rattle.rs_changes.specs.Parts.{TakesTable}
 use Rattle.rs_changes.specs.Tables.{LosesTableAt}
 use Rattle.rs_file.specs.Contents.{table_numbers}
 use Rattle.rs_refusal.specs.declared.refusal.Refusal.TheVariants as refusal

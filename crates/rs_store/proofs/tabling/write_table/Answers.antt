@@ -4,7 +4,7 @@ use Rattle.std.proofs.lemmas.Result.{err_from_is_err_and}
 use Rattle.rs_catalog_pages.specs.Items.{CatalogueItems}
 use Rattle.rs_catalog_pages.specs.Said.{said_catalogue}
 use Rattle.rs_catalog_pages.specs.declared.items.StoredTable.{StoredTable}
-use Rattle.rs_change_laws.specs.Parts.{PutsTable}
+use Rattle.rs_changes.specs.Parts.{PutsTable}
 use Rattle.rs_changes.specs.Tables.{HasTableAt}
 use Rattle.rs_file.specs.Contents.{table_numbers}
 use Rattle.rs_refusal.specs.declared.refusal.Refusal.TheVariants as refusal

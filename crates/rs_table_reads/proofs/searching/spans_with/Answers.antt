@@ -10,8 +10,8 @@ use Rattle.rs_refusal.specs.declared.refusal.Refusal.TheVariants as refusal
 use Rattle.rs_value.specs.Values.{IsOfType, IsRowOf}
 use Rattle.rs_value.specs.declared.column.ColumnType.{ColumnType}
 use Rattle.rs_table_reads.specs.Picked.{PicksSpans, SayNone}
-use Rattle.rs_attr.specs.Entries.{IsColumn, index_form}
-use Rattle.rs_attr.specs.Tables.{IndexState}
+use Rattle.rs_file.specs.Entries.{IsColumn, index_form}
+use Rattle.rs_file.specs.Tables.{IndexState}
 use Rattle.rs_facts.specs.declared.fact.Span.{Span}
 use Rattle.rs_tree.specs.Tree.{IsNoTree}
 use Rattle.rs_value.proofs.EncodingOrder.{datum_wide}

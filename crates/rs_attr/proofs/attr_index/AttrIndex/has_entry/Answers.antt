@@ -4,7 +4,7 @@ use Rattle.std.proofs.lemmas.List.{length-append, take_at}
 use Rattle.rs_attr.specs.Entries.{Field, entry_of, index_form, plain_form}
 use Rattle.rs_attr.proofs.Checked.{Tells}
 use Rattle.rs_attr.proofs.Indexes.{in_index}
-use Rattle.rs_btree.specs.Calls.{TellsIfHeld}
+use Rattle.rs_cell_versions.specs.BtreeCalls.{TellsIfHeld}
 use Rattle.rs_tree.specs.Calls.{RefusesToRead}
 use Rattle.rs_attr.proofs.attr_index.AttrIndex.has_entry.Goals as goal
 

@@ -4,7 +4,7 @@ use Rattle.rs_engine.specs.Files.{Closes}
 use Rattle.rs_engine.specs.Kept.{EngineState}
 use Rattle.rs_engine.proofs.Filing.{engine_with, stays, without}
 use Rattle.rs_machine.specs.State.{State}
-use Rattle.rs_store.specs.Standing.{Stands}
+use Rattle.rs_store_source.specs.Standing.{Stands}
 use Rattle.rs_engine.proofs.engine.Engine.close.Goals as goal
 
 pub returns-in-Ok-clause-closes : goal.returns-in-Ok-clause-closes

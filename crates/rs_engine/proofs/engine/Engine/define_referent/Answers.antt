@@ -9,7 +9,7 @@ use Rattle.rs_engine.proofs.Stepping.{IsStep, change_made, change_refused, check
 use Rattle.rs_machine.specs.State.{State}
 use Rattle.rs_syntax.specs.Tree as tree
 use Rattle.rs_machine.specs.Step.{with_referents}
-use Rattle.rs_store.specs.Changing.{Always}
+use Rattle.rs_store_source.specs.Changing.{Always}
 use Rattle.rs_methods.specs.Position.{expression_of}
 use Rattle.rs_engine.proofs.Naming.{named_positive}
 use Rattle.rs_engine.proofs.engine.Engine.define_referent.Goals as goal

@@ -8,7 +8,7 @@ use Rattle.rs_engine.proofs.Staying.{leaves_at_once, leaves_made, leaves_refused
 use Rattle.rs_engine.proofs.Stepping.{IsStep, change_made, change_refused, check_refused}
 use Rattle.rs_machine.specs.State.{State, has}
 use Rattle.rs_machine.specs.Step.{with_referents}
-use Rattle.rs_store.specs.Changing.{Always}
+use Rattle.rs_store_source.specs.Changing.{Always}
 use Rattle.rs_syntax.specs.Tree as tree
 use Rattle.rs_engine.proofs.engine.Engine.drop_referent.Goals as goal
 

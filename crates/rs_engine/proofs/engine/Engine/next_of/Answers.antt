@@ -11,7 +11,7 @@ use Rattle.rs_engine.specs.Reads.{ShowsVersion}
 use Rattle.rs_engine.specs.declared.engine.ahead.Ahead.{Ahead}
 use Rattle.rs_engine.proofs.Aheads.{put_ahead, taken_kept}
 use Rattle.rs_engine.proofs.CursorSteps.{gives_next}
-use Rattle.rs_store.proofs.Results.{ok_always}
+use Rattle.rs_store_source.proofs.Results.{ok_always}
 use Rattle.rs_engine.proofs.engine.Engine.next_of.Goals as goal
 
 pub returns-clause-given : goal.returns-clause-given

@@ -17,7 +17,7 @@ use Rattle.rs_machine.specs.Served.{done, refused}
 use Rattle.rs_machine.specs.State.{State}
 use Rattle.rs_machine.specs.Step.{cursor_opened, lines_of}
 use Rattle.rs_refusal.specs.declared.refusal.Refusal.TheVariants.{OutOfMemory}
-use Rattle.rs_store.proofs.HeldChanges.{changes-refl}
+use Rattle.rs_store_source.proofs.HeldChanges.{changes-refl}
 use Rattle.rs_syntax.specs.QueryView.{query_tree}
 use Rattle.rs_syntax.specs.Tree as tree
 use Rattle.rs_engine.proofs.engine.Engine.open_cursor.Goals as goal

@@ -1,7 +1,7 @@
 -- The store stands in the state that the disk stood for, and there are no cursors.
 use Rattle.std.proofs.Common.{◌∙◌, ap, arith}
 use Rattle.rs_engine.proofs.Filing.{begins_opened}
-use Rattle.rs_store.specs.Kept.{StoreState}
+use Rattle.rs_store_source.specs.Kept.{StoreState}
 use Rattle.rs_engine.proofs.engine.Engine.open_within.Goals as goal
 
 pub returns-clause-opens : goal.returns-clause-opens

@@ -14,7 +14,7 @@ use Rattle.rs_engine.proofs.Tables.{HasTableSo, table_so, table_step, with_table
 use Rattle.rs_machine.specs.Served.{done}
 use Rattle.rs_machine.specs.State.{State}
 use Rattle.rs_machine.specs.Step.{counted, outcome, without_facts}
-use Rattle.rs_store.specs.Changing.{Always}
+use Rattle.rs_store_source.specs.Changing.{Always}
 use Rattle.rs_syntax.specs.QueryView.{window_tree}
 use Rattle.rs_syntax.specs.Tree as tree
 use Rattle.rs_syntax.specs.View.{removal_tree}

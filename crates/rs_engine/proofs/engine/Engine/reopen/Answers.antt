@@ -10,8 +10,8 @@ use Rattle.rs_engine.proofs.Staying.{stays_unread}
 use Rattle.rs_machine.specs.Served.{done, refused}
 use Rattle.rs_machine.specs.State.{State}
 use Rattle.rs_machine.specs.Step.{counted, without_cursors}
-use Rattle.rs_store.proofs.Results.{err_always}
-use Rattle.rs_store.specs.Standing.{Stands}
+use Rattle.rs_store_source.proofs.Results.{err_always}
+use Rattle.rs_store_source.specs.Standing.{Stands}
 use Rattle.rs_syntax.specs.Tree.{reopen}
 use Rattle.rs_engine.proofs.engine.Engine.reopen.Goals as goal
 

@@ -9,7 +9,7 @@ use Rattle.rs_engine.proofs.Staying.{leaves_made, leaves_unsaved}
 use Rattle.rs_machine.specs.Served.{done, refused}
 use Rattle.rs_machine.specs.State.{State}
 use Rattle.rs_machine.specs.Step.{counted}
-use Rattle.rs_store.specs.Standing.{Stands}
+use Rattle.rs_store_source.specs.Standing.{Stands}
 use Rattle.rs_engine.proofs.engine.Engine.save.Goals as goal
 
 pub returns-in_err-save-clause-serves : goal.returns-in_err-save-clause-serves

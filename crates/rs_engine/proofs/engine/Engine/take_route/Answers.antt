@@ -12,7 +12,7 @@ use Rattle.rs_machine.specs.Lawful.{IsLawful}
 use Rattle.rs_machine.specs.Served.{Machine}
 use Rattle.rs_machine.specs.State.{State}
 use Rattle.rs_machine.specs.Step.{counted, route_dropped, without_route}
-use Rattle.rs_store.specs.Routing.{HasNoFactOn}
+use Rattle.rs_store_source.specs.Routing.{HasNoFactOn}
 use Rattle.rs_syntax.specs.Tree as tree
 use Rattle.rs_engine.proofs.engine.Engine.take_route.Goals as goal
 

@@ -3,7 +3,7 @@ use Rattle.std.proofs.Common.{◌∙◌, [], ◌∷◌, ◌++◌, ap, map, sym, 
 use Rattle.std.proofs.lemmas.List.{map-append, take_more}
 use Rattle.rs_answers.specs.Routes as answers
 use Rattle.rs_answers.specs.declared.routes.NamedRoute as named
-use Rattle.rs_store.specs.Versions as store
+use Rattle.rs_store_source.specs.Versions as store
 use Rattle.rs_engine.proofs.engine.live.named_routes.Goals as goal
 
 pub loop-one-preserved : goal.loop-one-preserved

@@ -1,6 +1,6 @@
 use Rattle.std.proofs.Common.{◌≡◌, map, take}
 use Rattle.rs_answers.specs.Routes as answers
-use Rattle.rs_store.specs.Versions as store
+use Rattle.rs_store_source.specs.Versions as store
 use Rattle.rs_engine.proofs.engine.live.named_routes.Given as goal
 
 -- those so far

@@ -1,8 +1,8 @@
 -- The referent is put by a change of the file and of memory, which is kept or taken back.
 use Rattle.std.proofs.Common.{◌≡◌, ◌<◌, ◌∙◌, ℕ, Err, Some, ap, subst, sym, false}
 use Rattle.rs_catalog.specs.Referents.{at_number, referents_on}
-use Rattle.rs_change_laws.specs.Changing.{ChangesFile}
-use Rattle.rs_change_laws.specs.Parts.{PutsReferent}
+use Rattle.rs_changes.specs.Changing.{ChangesFile}
+use Rattle.rs_changes.specs.Parts.{PutsReferent}
 use Rattle.rs_machine.specs.Lawful.{IsLawful}
 use Rattle.rs_machine.specs.State.{State, has}
 use Rattle.rs_machine.specs.Step.{with_referents}

@@ -3,7 +3,7 @@ use Rattle.std.proofs.Common.{◌≡◌, ◌<◌, ◌+◌, ◌∙◌, Err, Some,
 use Rattle.rs_catalog.specs.Changes as changes
 use Rattle.rs_catalog.specs.Definitions.{Definitions, RouteItem}
 use Rattle.rs_catalog.specs.Uses.{some_piece_on}
-use Rattle.rs_change_laws.specs.Parts.{DropsRoute}
+use Rattle.rs_changes.specs.Parts.{DropsRoute}
 use Rattle.rs_machine.specs.Lawful.{IsLawful}
 use Rattle.rs_machine.specs.State.{State, has}
 use Rattle.rs_machine.specs.Step.{without_route}

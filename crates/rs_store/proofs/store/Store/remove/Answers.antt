@@ -2,8 +2,8 @@
 use Rattle.std.proofs.Common.{◌≡◌, ◌≤◌, ◌<◌, ◌+◌, ◌∙◌, ℕ, Err, IfOk, Some, ap, refl, subst, sym}
 use Rattle.rs_catalog.specs.Definitions.{TableItem}
 use Rattle.rs_catalog.specs.Referents.{referents_on}
-use Rattle.rs_change_laws.specs.Changing.{ChangesFile}
-use Rattle.rs_change_laws.specs.Parts.{RemovesRows}
+use Rattle.rs_changes.specs.Changing.{ChangesFile}
+use Rattle.rs_changes.specs.Parts.{RemovesRows}
 use Rattle.rs_facts.specs.Query.{Table}
 use Rattle.rs_facts.specs.Remove.{removed_facts}
 use Rattle.rs_machine.specs.Lawful.{IsLawful}

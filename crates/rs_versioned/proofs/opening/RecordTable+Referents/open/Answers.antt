@@ -7,7 +7,7 @@ use Rattle.rs_records.specs.Listed.{listed}
 use Rattle.rs_records.specs.Order.{is_below}
 use Rattle.rs_tree.specs.Cells.{is_within}
 use Rattle.rs_tree.specs.Tree.{IsTree}
-use Rattle.rs_tree_whole.proofs.Entries.{same_back}
+use Rattle.rs_cell_versions.proofs.Entries.{same_back}
 use Rattle.rs_pages.proofs.Resting.{rests_then}
 use Rattle.rs_versioned.specs.Meant.{AreReferentsMeant}
 use Rattle.rs_versioned.specs.Referents.{SaysReferent, kept_referents, referent_form, referent_width}

@@ -2,7 +2,7 @@
 use Rattle.std.proofs.Common.{◌∙◌, ap, map, sym}
 use Rattle.std.specs.FinMap as names
 use Rattle.rs_answers.specs.Versions.{SeenVersion}
-use Rattle.rs_store.specs.Versions as store
+use Rattle.rs_store_source.specs.Versions as store
 use Rattle.rs_engine.proofs.engine.live.LiveStoreVersions.routes_at.Goals as goal
 
 pub returns-clause-shown : goal.returns-clause-shown
