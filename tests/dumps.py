@@ -364,6 +364,7 @@ def a_file_is_dumped_under_its_lock(program):
         with program.started("dump", "--file", file) as process:
             process.stdout.read(1)
             expect("a run over a file that is dumped", program.run("run", "--file", file), in_use)
+            expect("another dump of it", program.dump(file).status, 0)
     expect("a run after that", program.run("run", "--file", file), Ended(0, b"", b""))
 
 

@@ -40,7 +40,7 @@ pub enum OpenError {
 }
 
 /// An open file, which `create` and `open` lock: no other disk opens it until this one is dropped, which closes
-/// the file. The lock is advisory, so a program that takes none can still write the file.
+/// the file. `open_for_reading` locks it so that others may read it too. The lock is advisory, so a program that takes none can still write the file.
 #[derive(Drop)]
 pub struct FileDisk<F = File> {
     file: F,
@@ -90,6 +90,22 @@ impl FileDisk {
     {
         match OpenOptions::new().read(true).write(true).open(rt, path) {
             Ok(file) if is_regular(&file) => locked(file),
+            Err(error) if error.kind() == io::ErrorKind::NotFound => Err(OpenError::Missing),
+            _ => Err(OpenError::CannotOpen),
+        }
+    }
+
+    /// Opens a regular file that is there for reading alone, beside others that do so: while it is open, `open` answers `InUse`. Writes
+    /// and cuts fail.
+    pub fn open_for_reading<R: Files<File = File>>(
+        rt: &R,
+        path: &str,
+    ) -> Result<FileDisk, OpenError>
+        ensures fresh { IfOk result (λ disk. disk ≡ no_calls) }
+        ensures not_existing { IsErrOf result OpenError.Exists → ⊥ }
+    {
+        match OpenOptions::new().read(true).open(rt, path) {
+            Ok(file) if is_regular(&file) => shared(file),
             Err(error) if error.kind() == io::ErrorKind::NotFound => Err(OpenError::Missing),
             _ => Err(OpenError::CannotOpen),
         }
@@ -188,7 +204,26 @@ fn locked(file: File) -> Result<FileDisk, OpenError>
     ensures not_missing { IsErrOf result OpenError.Missing → ⊥ }
     ensures not_existing { IsErrOf result OpenError.Exists → ⊥ }
 {
-    match file.try_lock() {
+    let lock = file.try_lock();
+    over_locked(file, lock)
+}
+
+/// Locks a file for reading, beside others that read it, and makes a disk of it.
+fn shared(file: File) -> Result<FileDisk, OpenError>
+    ensures fresh { IfOk result (λ disk. disk ≡ no_calls) }
+    ensures not_existing { IsErrOf result OpenError.Exists → ⊥ }
+{
+    let lock = file.try_lock_shared();
+    over_locked(file, lock)
+}
+
+/// Makes a disk of a file where it was locked.
+fn over_locked(file: File, lock: Result<(), TryLockError>) -> Result<FileDisk, OpenError>
+    ensures fresh { IfOk result (λ disk. disk ≡ no_calls) }
+    ensures not_missing { IsErrOf result OpenError.Missing → ⊥ }
+    ensures not_existing { IsErrOf result OpenError.Exists → ⊥ }
+{
+    match lock {
         Ok(()) => Ok(FileDisk::over(file)),
         Err(TryLockError::WouldBlock) => Err(OpenError::InUse),
         Err(TryLockError::Error(_)) => Err(OpenError::CannotOpen),

@@ -11,6 +11,7 @@ use Rattle.rs_page.proofs.Numbers.{number_at-same, byte_at}
 use Rattle.rs_page_cache.specs.Stored.{disk_page}
 use Rattle.rs_journal.specs.FilePages.{IsOfPages, word_at}
 use Rattle.rs_journal.proofs.Words.{word-held}
+use Rattle.rs_second_pager.specs.FirstHeader.{IsFirstHeader}
 use Rattle.rs_second_pager.specs.SecondHeader.{IsSecondHeader, HasSecondMarks, EndsInOwnZeros}
 use Rattle.rs_second_pager.proofs.DiskBytes.{disk_page-at, length-disk_page}
 
@@ -64,6 +65,28 @@ module _ (one other : List ℕ) (agree : Agree one other) where
     catalogue = low_number 44 4 (omega arith) ∙ is.catalogue;
     catalogue_length = low_number 48 4 (omega arith) ∙ is.catalogue_length;
   }
+
+fields_with : ℕ → ℕ → ℕ → ℕ → ℕ → FileHeader
+fields_with pages first_free free_pages catalogue catalogue_length =
+    record { pages = pages; first_free = first_free; free_pages = free_pages; catalogue = catalogue; catalogue_length = catalogue_length }
+
+same_numbers : (one other : FileHeader) → one.pages ≡ other.pages → one.first_free ≡ other.first_free → one.free_pages ≡ other.free_pages
+    → one.catalogue ≡ other.catalogue → one.catalogue_length ≡ other.catalogue_length
+    → fields_with one.pages one.first_free one.free_pages one.catalogue one.catalogue_length
+    ≡ fields_with other.pages other.first_free other.free_pages other.catalogue other.catalogue_length
+same_numbers one other pages first free catalogue size = cc
+
+-- a page 0 of version 2 says one header's fields at the most
+pub second_header_is_one : (page : List ℕ) (one other : FileHeader) → IsSecondHeader page one → IsSecondHeader page other → one ≡ other
+unfolding fields_with
+second_header_is_one page one other a b =
+    same_numbers one other (sym a.pages ∙ b.pages) (sym a.first_free ∙ b.first_free) (sym a.free_pages ∙ b.free_pages) (sym a.catalogue ∙ b.catalogue) (sym a.catalogue_length ∙ b.catalogue_length)
+
+-- and one of version 1 as well
+pub first_header_is_one : (page : List ℕ) (one other : FileHeader) → IsFirstHeader page one → IsFirstHeader page other → one ≡ other
+unfolding fields_with
+first_header_is_one page one other a b =
+    same_numbers one other (sym a.pages ∙ b.pages) (sym a.first_free ∙ b.first_free) (sym a.free_pages ∙ b.free_pages) (sym a.catalogue ∙ b.catalogue) (sym a.catalogue_length ∙ b.catalogue_length)
 
 at_zero : (content : Content) (k : ℕ) → k < 4096 → slice_index (disk_page content 0) k ≡ content.byte k
 at_zero content k lt = let at : 4096 * 0 + k ≡ k = omega arith in subst (λ i. slice_index (disk_page content 0) k ≡ content.byte i) at (disk_page-at content 0 k lt)

@@ -196,6 +196,18 @@ module _ {D : Type 0} (d : disk.Ghosts D) (p : Paged D) (sound : IsSound p.limit
   }
 
 -- the clean pages are dropped
+-- the clean pages were dropped, and so many may be held
+pub forgotten-kept : {D : Type 0} (d : disk.Ghosts D) (p : Paged D) (most : ℕ) (pages : FilePages) → IsKept d p pages → IsKept d (record p { clean = []; most_clean = most }) pages
+forgotten-kept d p most pages is =
+    let was = kept-beside d p most p.working p.is_begun p.full_refusals pages is in
+    record {
+      says = was.says;
+      before = was.before;
+      filled = was.filled;
+      quiet = was.quiet;
+      under_way = λ ne. let on = was.under_way ne in record { checkpoint = on.checkpoint; lists = on.lists; makes = on.makes; are = on.are; every = on.every };
+    }
+
 pub forgotten-tied : {D : Type 0} (d : disk.Ghosts D) (p : Paged D) (most : ℕ) → IsTied d p → IsTied d (record p { clean = []; most_clean = most })
 forgotten-tied d p most tied = record {
   honest = tied.honest;
@@ -205,15 +217,24 @@ forgotten-tied d p most tied = record {
   inside = tied.inside;
   header = tied.header;
   kept = tied.kept;
-  is_kept =
-      let was = kept-beside d p most p.working p.is_begun p.full_refusals tied.kept tied.is_kept in
-      record {
-        says = was.says;
-        before = was.before;
-        filled = was.filled;
-        quiet = was.quiet;
-        under_way = λ ne. let on = was.under_way ne in record { checkpoint = on.checkpoint; lists = on.lists; makes = on.makes; are = on.are; every = on.every };
-      };
+  is_kept = forgotten-kept d p most tied.kept tied.is_kept;
+}
+
+-- nothing below the working pages has changed
+pub forgotten-below : {D : Type 0} (d : disk.Ghosts D) (p : Paged D) → KeepsBelow d p (record p { clean = [] })
+forgotten-below d p = record {
+  tied = forgotten-tied d p p.most_clean;
+  committed = λ _. record { fields = refl; pages = λ n. refl };
+  committed_fields = refl;
+  changed = λ n. refl;
+  lacks = refl;
+  honesty = refl;
+  keeping = refl;
+  under_way = refl;
+  kept = λ pages _ is. forgotten-kept d p p.most_clean pages is;
+  unwritten = λ _. refl;
+  crash = λ _. passes_none d.may_leave d.left_since Same p.disk (λ _. refl);
+  most_clean = refl;
 }
 
 pub forgotten-keeps : {D : Type 0} (d : disk.Ghosts D) (p : Paged D) → IsSound p.limit p.changes p.committed_fields p.working p.is_begun p.under_way.stage

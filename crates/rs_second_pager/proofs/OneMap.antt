@@ -2,13 +2,11 @@
 use Rattle.std.proofs.Common.{◌≡◌, ◌≢◌, inl, inr, ℕ, None, ◌<◌, ◌≤◌, ◌+◌, ◌*◌, List, sym, ap, ◌∙◌, arith}
 use Rattle.rs_disk.specs.Content.{Content}
 use Rattle.rs_page.specs.declared.file_header.FileHeader.{FileHeader}
-use Rattle.rs_page.specs.FileHeader.{IsFileHeader}
-use Rattle.rs_page.proofs.Headers.{file_header_is_one}
-use Rattle.rs_page.proofs.Numbers.{byte_at}
 use Rattle.rs_pages.specs.PageMap.{PageMap, SamePages}
 use Rattle.rs_page_cache.specs.Stored.{disk_page}
 use Rattle.rs_journal.specs.FilePages.{FilePages, HasPages, SamePages as SameFilePages}
 use Rattle.rs_journal.proofs.Making.{one_map}
+use Rattle.rs_second_pager.specs.FirstHeader.{IsFirstHeader}
 use Rattle.rs_second_pager.specs.Lasts.{GivesMap}
 use Rattle.rs_second_pager.specs.Maps.{ArePages}
 use Rattle.rs_second_pager.specs.SecondHeader.{IsSecondHeader}
@@ -16,23 +14,8 @@ use Rattle.rs_second_pager.specs.Stored.{content_of_pages, stored_map}
 use Rattle.rs_second_pager.specs.Versions.{IsFileOfPages, StoresFirst}
 use Rattle.rs_second_pager.proofs.Checkpoints.{stored-inside}
 use Rattle.rs_second_pager.proofs.DiskBytes.{disk_page-at, disk_page-same}
-use Rattle.rs_second_pager.proofs.Headers.{kept-header}
-
-fields_with : ℕ → ℕ → ℕ → ℕ → ℕ → FileHeader
-fields_with pages first_free free_pages catalogue catalogue_length =
-    record { pages = pages; first_free = first_free; free_pages = free_pages; catalogue = catalogue; catalogue_length = catalogue_length }
-
-same_numbers : (one other : FileHeader) → one.pages ≡ other.pages → one.first_free ≡ other.first_free → one.free_pages ≡ other.free_pages
-    → one.catalogue ≡ other.catalogue → one.catalogue_length ≡ other.catalogue_length
-    → fields_with one.pages one.first_free one.free_pages one.catalogue one.catalogue_length
-    ≡ fields_with other.pages other.first_free other.free_pages other.catalogue other.catalogue_length
-same_numbers one other pages first free catalogue size = cc
-
--- a page 0 of version 2 says one header's fields at the most
-second_header_is_one : (page : List ℕ) (one other : FileHeader) → IsSecondHeader page one → IsSecondHeader page other → one ≡ other
-unfolding fields_with
-second_header_is_one page one other a b =
-    same_numbers one other (sym a.pages ∙ b.pages) (sym a.first_free ∙ b.first_free) (sym a.free_pages ∙ b.free_pages) (sym a.catalogue ∙ b.catalogue) (sym a.catalogue_length ∙ b.catalogue_length)
+use Rattle.rs_second_pager.proofs.Headers.{first_header_is_one, kept-header, second_header_is_one}
+use Rattle.rs_second_pager.proofs.Versions.{first-shut}
 
 -- the same pages of a file are those of one map
 module _ (pages others : FilePages) (same : SameFilePages pages others) (one other : PageMap) (are : ArePages one pages) (are' : ArePages other others) where
@@ -63,21 +46,12 @@ second_one content one other a b =
 
 first_one : (content : Content) (one other : PageMap) → StoresFirst content one → StoresFirst content other → SamePages one other
 first_one content one other a b =
-    let same : one.fields ≡ other.fields = file_header_is_one (disk_page content 0) one.fields other.fields a.header b.header in
+    let same : one.fields ≡ other.fields = first_header_is_one (disk_page content 0) one.fields other.fields a.header b.header in
     record { fields = same; pages = λ n. a.pages.pages n ∙ ap (λ (f : FileHeader). (stored_map content f).page n) same ∙ sym (b.pages.pages n) }
-
--- the gate of a file of version 1 is not open
-pub first_shut : (content : Content) (fields : FileHeader) → IsFileHeader (disk_page content 0) fields → content.byte 64 ≢ 1
-first_shut content fields is opened =
-    let zero_at = is.zeros.each 64 (omega arith) in
-    let byte = byte_at 64 (disk_page content 0) in
-    let there = disk_page-at content 0 64 (omega arith) in
-    let none : content.byte 64 ≡ 0 = sym there ∙ sym byte ∙ zero_at in
-    omega (arith, none)
 
 pub no_both : (content : Content) (one other : PageMap) → GivesMap one content → StoresFirst content other → ⊥
 no_both content one other a b =
-    let there : HasPages a.pages content = a.recovers.shut (first_shut content other.fields b.header) in
+    let there : HasPages a.pages content = a.recovers.shut (first-shut content other.fields b.header) in
     let some : 4096 ≤ 4096 * a.pages.count = omega (arith, a.are.says.some) in
     let header : IsSecondHeader (disk_page content 0) one.fields =
     kept-header (content_of_pages a.pages) content one.fields (λ k lt own. there.bytes k (omega (arith, some)) own) a.are.stores.header in

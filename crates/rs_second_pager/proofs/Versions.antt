@@ -5,11 +5,9 @@ use Rattle.std.proofs.lemmas.Bool.{cases_eq}
 use Rattle.std.proofs.lemmas.Bool.Decides.{nat_tests}
 use Rattle.rs_disk.specs.Content.{Content, Holds}
 use Rattle.rs_page.specs.Number.{number_at}
-use Rattle.rs_page.specs.FileHeader.{IsFileHeader}
 use Rattle.rs_page.specs.declared.file_header.FileHeader.{FileHeader}
 use Rattle.rs_page.specs.declared.page.TheConstants.{PAGE_SIZE}
 use Rattle.rs_page.proofs.Numbers.{byte_at}
-use Rattle.rs_page.proofs.Headers.{file_header_is_one}
 use Rattle.rs_pages.specs.PageMap.{PageMap, is_page}
 use Rattle.rs_page_cache.specs.Stored.{disk_page}
 use Rattle.rs_journal.specs.FilePages.{FilePages, HasPages, word_at}
@@ -17,6 +15,7 @@ use Rattle.rs_journal.specs.Journal.{Recovers}
 use Rattle.rs_journal.specs.Look.{as_kept, as_shown, in_format, is_first_version, is_open, shown}
 use Rattle.rs_journal.specs.Recovery.{IsDamaged, SaysCount}
 use Rattle.rs_journal.proofs.Words.{word-held}
+use Rattle.rs_second_pager.specs.FirstHeader.{IsFirstHeader}
 use Rattle.rs_second_pager.specs.Lasts.{GivesMap}
 use Rattle.rs_second_pager.specs.Maps.{ArePages}
 use Rattle.rs_second_pager.specs.Opening.{FitsSecond, HasFirst, IsNoSecond, pages_of}
@@ -24,7 +23,7 @@ use Rattle.rs_second_pager.specs.SecondHeader.{IsSecondHeader}
 use Rattle.rs_second_pager.specs.Stored.{content_of_pages, stored_map}
 use Rattle.rs_second_pager.specs.Versions.{IsNoFile}
 use Rattle.rs_second_pager.proofs.DiskBytes.{disk_page-at, length-disk_page}
-use Rattle.rs_second_pager.proofs.Headers.{kept-header, said-count}
+use Rattle.rs_second_pager.proofs.Headers.{first_header_is_one, kept-header, said-count}
 
 at_zero : (content : Content) (k : ℕ) → k < 4096 → slice_index (disk_page content 0) k ≡ content.byte k
 at_zero content k lt = let at : 4096 * 0 + k ≡ k = omega arith in subst (λ i. slice_index (disk_page content 0) k ≡ content.byte i) at (disk_page-at content 0 k lt)
@@ -41,19 +40,17 @@ word-first content k size lt =
     subst (λ i. word_at content.byte i ≡ number_at k 4 (disk_page content 0)) at (word-held content 0 k (disk_page content 0) holds (omega (arith, long, lt)))
 
 -- no page is a header of both
-pub not_both : (page : List ℕ) (one other : FileHeader) → IsFileHeader page one → IsSecondHeader page other → ⊥
+pub not_both : (page : List ℕ) (one other : FileHeader) → IsFirstHeader page one → IsSecondHeader page other → ⊥
 not_both page one other first second = omega (arith, first.marks.format, second.marks.format)
 
 -- ---- a file of version 1
 
 -- its gate is closed
-pub first-shut : (content : Content) (fields : FileHeader) → IsFileHeader (disk_page content 0) fields → content.byte 64 ≢ 1
-first-shut content fields is opened =
-    let zero : content.byte 64 ≡ 0 = sym (at_zero content 64 (omega arith)) ∙ sym (byte_at 64 (disk_page content 0)) ∙ is.zeros.each 64 (omega arith) in
-    omega (arith, zero, opened)
+pub first-shut : (content : Content) (fields : FileHeader) → IsFirstHeader (disk_page content 0) fields → content.byte 64 ≢ 1
+first-shut content fields is opened = is.marks.shut (byte_at 64 (disk_page content 0) ∙ at_zero content 64 (omega arith) ∙ opened)
 
 -- and page 0 says how many pages there are
-pub first-count : (content : Content) (fields : FileHeader) → 4096 ≤ content.size → IsFileHeader (disk_page content 0) fields → word_at content.byte 32 ≡ fields.pages
+pub first-count : (content : Content) (fields : FileHeader) → 4096 ≤ content.size → IsFirstHeader (disk_page content 0) fields → word_at content.byte 32 ≡ fields.pages
 first-count content fields size is = word-first content 32 size (omega arith) ∙ is.pages
 
 -- a content that has these pages has their page 0
@@ -62,19 +59,19 @@ has-header map pages content are has = kept-header (content_of_pages pages) cont
     (λ k lt own. has.bytes k (omega (arith, lt, are.says.some)) own) are.stores.header
 
 -- so it is no file of version 2
-pub first-no_second : (content : Content) (fields : FileHeader) (map : PageMap) → IsFileHeader (disk_page content 0) fields → GivesMap map content → ⊥
+pub first-no_second : (content : Content) (fields : FileHeader) (map : PageMap) → IsFirstHeader (disk_page content 0) fields → GivesMap map content → ⊥
 first-no_second content fields map is gives =
     not_both (disk_page content 0) fields map.fields is
     (has-header map gives.pages content gives.are (gives.recovers.shut (first-shut content fields is)))
 
 -- a count of pages that can't be
-pub no_file-first : (content : Content) (fields : FileHeader) (limit : ℕ) → IsFileHeader (disk_page content 0) fields
+pub no_file-first : (content : Content) (fields : FileHeader) (limit : ℕ) → IsFirstHeader (disk_page content 0) fields
     → ((2 ≤ fields.pages) → (fields.pages ≤ limit) → (PAGE_SIZE * fields.pages ≤ content.size) → ⊥) → IsNoFile content limit
 no_file-first content fields limit is none = record {
   none = λ map stands least greatest. elim stands [
     | inl gives ↦ first-no_second content fields map is gives
     | inr stores ↦
-        let same : map.fields ≡ fields = file_header_is_one (disk_page content 0) map.fields fields stores.header is in
+        let same : map.fields ≡ fields = first_header_is_one (disk_page content 0) map.fields fields stores.header is in
         let count : map.fields.pages ≡ fields.pages = ap (λ (f : FileHeader). f.pages) same in
         none (omega (arith, count, least)) (omega (arith, count, greatest)) (omega (arith, count, stores.size))
   ];

@@ -1,5 +1,6 @@
 pub mod Below
 pub mod Copying
+pub mod FirstHeader
 pub mod Found
 pub mod Lasts
 pub mod Maps

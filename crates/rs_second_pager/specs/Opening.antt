@@ -3,19 +3,19 @@ use Rattle.std.specs.Prelude.{◌≤◌, ◌*◌, ℕ}
 use Rattle.rs_disk.specs.Content.{Content}
 use Rattle.rs_disk.specs.declared.disk.Disk as disk
 use Rattle.rs_page.specs.declared.page.TheConstants.{PAGE_SIZE}
-use Rattle.rs_page.specs.FileHeader.{IsFileHeader}
 use Rattle.rs_page.specs.declared.file_header.FileHeader.{FileHeader}
 use Rattle.rs_pages.specs.PageMap.{PageMap}
 use Rattle.rs_page_cache.specs.Stored.{disk_page}
 use Rattle.rs_journal.specs.FilePages.{FilePages}
 use Rattle.rs_journal.specs.Journal.{Recovers}
 use Rattle.rs_journal.specs.Stages.{EveryImage, IsQuiet}
+use Rattle.rs_second_pager.specs.FirstHeader.{IsFirstHeader}
 use Rattle.rs_second_pager.specs.Lasts.{GivesMap}
 use Rattle.rs_second_pager.specs.SecondHeader.{IsSecondHeader}
 
 -- page 0 is a header of version 1 with these fields, whose count is within the limit and the content
 pub record FitsFirst (limit : ℕ) (content : Content) (fields : FileHeader) : Type 0 where
-  pub header : IsFileHeader (disk_page content 0) fields
+  pub header : IsFirstHeader (disk_page content 0) fields
   pub least : 2 ≤ fields.pages
   pub within : fields.pages ≤ limit
   pub room : PAGE_SIZE * fields.pages ≤ content.size
@@ -30,7 +30,7 @@ pub record FitsSecond (limit : ℕ) (content : Content) (fields : FileHeader) : 
 -- page 0 is a header of version 1
 pub record HasFirst (content : Content) : Type 0 where
   pub fields : FileHeader
-  pub header : IsFileHeader (disk_page content 0) fields
+  pub header : IsFirstHeader (disk_page content 0) fields
 
 -- the content is a file of version 2 of no pages within this limit
 pub record IsNoSecond (content : Content) (limit : ℕ) : Type 0 where

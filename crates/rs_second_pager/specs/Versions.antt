@@ -2,15 +2,16 @@
 use Rattle.std.specs.Prelude.{◌⊎◌, ◌≤◌, ◌*◌, ℕ}
 use Rattle.rs_disk.specs.Content.{Content}
 use Rattle.rs_page.specs.declared.page.TheConstants.{PAGE_SIZE}
-use Rattle.rs_page.specs.FileHeader.{IsFileHeader}
 use Rattle.rs_pages.specs.PageMap.{PageMap, SamePages}
 use Rattle.rs_page_cache.specs.Stored.{disk_page}
+use Rattle.rs_second_pager.specs.FirstHeader.{IsFirstHeader}
 use Rattle.rs_second_pager.specs.Lasts.{GivesMap}
 use Rattle.rs_second_pager.specs.Stored.{stored_map}
 
--- A file of version 1: page 0 says the fields, with any open flag, the content is long enough, and the pages are its bytes.
+-- A file of version 1: page 0 says the fields, with any open flag and a gate that is not open, the content is long enough, and the pages
+-- are its bytes.
 pub record StoresFirst (content : Content) (map : PageMap) : Type 0 where
-  pub header : IsFileHeader (disk_page content 0) map.fields
+  pub header : IsFirstHeader (disk_page content 0) map.fields
   pub size : PAGE_SIZE * map.fields.pages ≤ content.size
   pub pages : SamePages map (stored_map content map.fields)
 

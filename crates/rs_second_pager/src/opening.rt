@@ -25,7 +25,7 @@ ghost use Rattle.rs_second_pager.specs.SecondHeader.{IsSecondHeader};
 ghost use Rattle.rs_second_pager.specs.Versions.{IsNoFile};
 
 use crate::pager::Pager;
-use crate::second_header::{read_second_header, second_page};
+use crate::second_header::{read_first_header, read_second_header, second_page};
 use rs_disk::Disk;
 use rs_journal::{Looked, recover};
 use rs_page::{FLAG_OFFSET, FileHeader, PAGE_SIZE, Page, PageKind, PageNumber};
@@ -266,7 +266,7 @@ fn read_first_fields<D: Disk>(disk: &mut D, limit: u32) -> Result<Option<FileHea
         (λ refusal. CountsFault refusal (D.failures disk.old) (D.failures disk.new)) }
 {
     let page = read_first_page(disk)?;
-    let Some(fields) = FileHeader::read(&page.bytes) else {
+    let Some(fields) = read_first_header(&page.bytes) else {
         return Ok(None);
     };
     if fields.pages < 2 || fields.pages > limit || fields.pages > disk.pages() {

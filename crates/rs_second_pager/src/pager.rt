@@ -188,6 +188,14 @@ impl<D: Disk> Pager<D> {
         (changed as u32, self.clean.len() as u32)
     }
 
+    /// The greatest number of pages. No more are committed.
+    pub fn limit(&self) -> u32
+        ensures limit { result ≡ self.now.limit }
+        ensures within { self.now.committed_fields.pages ≤ self.now.limit }
+    {
+        self.limit
+    }
+
     /// Whether the disk lacks page 0 as it is committed. Once a file was opened, it does where the file is one of version 1.
     pub fn lacks_first_page(&self) -> bool
         ensures { result ≡ self.now.is_header_changed }

@@ -238,7 +238,7 @@ fn run_on<'a, P: AllocGlobal + Files<File = File>, R: Read, W: Write>(
     }
 }
 
-/// Writes the lines that rebuild what a file holds, and gives the exit status.
+/// Writes the lines that rebuild what a file holds, and gives the exit status. The file is opened for reading alone, beside other dumps.
 fn dump_file<P: AllocGlobal + Files<File = File>, W: Write, E: Write>(
     rt: &P,
     file: &str,
@@ -248,7 +248,7 @@ fn dump_file<P: AllocGlobal + Files<File = File>, W: Write, E: Write>(
 ) -> u8
     ensures { result ≡ SUCCESS → Keeps (E.contents errors.old) (E.contents errors.new) }
 {
-    match FileDisk::open(rt, file) {
+    match FileDisk::open_for_reading(rt, file) {
         Ok(disk) => dump_on(rt.alloc(), disk, wanted, output, errors),
         Err(error) => end_with(errors, Some(failure_to_open(rt, file, error))),
     }
