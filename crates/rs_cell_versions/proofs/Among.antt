@@ -10,7 +10,7 @@ use Rattle.rs_records.specs.Order.{is_below, Ascends}
 use Rattle.rs_records.proofs.Orders.{is_below-self, is_below-cases}
 use Rattle.rs_tree.specs.Cells.{cells_above, cells_below, with_cell, without_cell}
 use Rattle.rs_tree.proofs.Below.{below_one_way}
-use Rattle.rs_btree.proofs.Between.{AllAbove, above_all, all_above_trans, below_none}
+use Rattle.rs_tree_edit.proofs.Between.{AllAbove, above_all, all_above_trans, below_none}
 
 -- what is above the cell isn't it
 not_above_itself : (cell : List ℕ) (cs : List (List ℕ)) → AllAbove cell cs → Contains cs cell → ⊥

@@ -17,7 +17,7 @@ use Rattle.rs_tree.specs.Form.{Form}
 use Rattle.rs_tree.specs.Tree.{IsNoTree, IsTree}
 use Rattle.rs_tree.proofs.Below.{AllBelow, NoneBelow, below_upto, none_below_after}
 use Rattle.rs_btree.proofs.Entries.{same_back}
-use Rattle.rs_btree.proofs.Between.{below_all}
+use Rattle.rs_tree_edit.proofs.Between.{below_all}
 use Rattle.rs_cell_versions.specs.Looking.{AreOthers, Counts, HasPassedAll, IsAbove, Tallied}
 use Rattle.rs_cell_versions.specs.Opening.{HasCounted, HasPassed, Looked, StandsOtherwise, StandsTold, Told}
 use Rattle.rs_cell_versions.specs.Version.{IsDated, is_dead, is_living}
