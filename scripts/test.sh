@@ -3,8 +3,8 @@
 # programs that it built hold the conversations, answer pseudo-random lines beside the slow machine, are run on files of all
 # sorts, for peers over TCP and by the client in Python, say what they hold in memory, make CSV into lines, dump files as lines,
 # open files beside the slow reader of files, and have their growths and the calls of their file refused in turn. Last they meet
-# damaged files, disks that lie, lines of all forms, many peers and little room. A judge of what a crash leaves is tried on faults
-# that are planted in a checkpoint in Python.
+# damaged files, disks that lie, lines of all forms, many peers, little room and crashes: power cuts at each moment of a log, stops,
+# faults and kills. The judge of what a crash leaves is tried before on faults that are planted in a checkpoint in Python.
 set -eu
 cd "$(dirname "$0")/.."
 # each check by one process: several for one check take a fifth more of the processors
@@ -32,4 +32,4 @@ python3 tests/last_change.py
 python3 tests/line_forms.py
 python3 tests/many_peers.py
 python3 tests/little_room.py
-python3 tests/crashes.py planted
+python3 tests/crashes.py

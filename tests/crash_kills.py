@@ -1,5 +1,5 @@
-"""Kills a writer at random while it is sent lines and its answers are noted. The file that it leaves is opened by the next one, and
-stands for a state between the last SAVE that was answered and the last line that was.
+"""Kills a writer at random while it answers lines. The file that it leaves is opened by the next one, and stands for a state between
+the last SAVE that was answered and the last line that was.
 """
 
 import random
@@ -7,14 +7,16 @@ import time
 from collections import Counter
 
 from crash_judge import Bounds, Judge
-from device_log import WELL
 from harness import Wrong, expect
 from programs import FINISH, Running, replies_of
 from slow_journal import has_open_gate
 from stored_machine import ChangingMachine, machine_of
+from wide_rows import WIDE_TABLE, measure, wide_row
 
 LONGEST = 60  # seconds
-LINES = 200  # that a writer is sent at the most
+LINES = 80  # that a writer is sent at the most
+ROUTE_END = 600  # thousandths
+LONGEST_WAIT = 0.001  # seconds from an answer to the kill
 SAVE, REOPEN = b"0 SAVE", b"0 REOPEN"
 
 
@@ -25,37 +27,25 @@ class Writer:
         self.by = by
 
     def first(self):
-        return [b"0 DEFINE ROUTE A FROM 0 TO 100", b"0 DEFINE LINE TABLE pave (surf TEXT(8))", SAVE]
+        return [b"0 DEFINE ROUTE A FROM 0 TO " + measure(ROUTE_END), WIDE_TABLE.strip(), SAVE]
 
     def next(self):
-        start = self.by.randrange(99)
-        span = b"%d TO %d" % (start, start + 1 + self.by.randrange(3) % (100 - start))
-        return self.by.choice([
-            b"0 INSERT INTO pave ON A FROM %s VALUES ('s%d')" % (span, self.by.randrange(5)),
-            b"0 INSERT INTO pave ON A FROM %s VALUES (NULL)" % span,
-            b"0 REMOVE pave ON A FROM %s WHERE surf = 's1'" % span,
-            b"0 SELECT WINDOW(pave, A FROM %s)" % span,
-            SAVE, SAVE, REOPEN,
-        ])  # fmt: skip
+        start = self.by.randrange(ROUTE_END)
+        window = b"A FROM %s TO %s" % (measure(start), measure(min(ROUTE_END, start + 1 + self.by.randrange(60))))
+        row = b"0 " + wide_row(b"A", start, self.by.randrange(1_000))
+        return self.by.choice([row, row, row, b"0 REMOVE wide ON " + window, b"0 SELECT WINDOW(wide, %s)" % window, SAVE, SAVE, REOPEN])
 
 
-def seconds_of(program, lines):
-    """How long a writer takes for these lines, and to its end."""
-    start = time.monotonic()
-    with program.run() as run:
-        run.ask_all([line + b"\n" for line in lines])
-        expect("the end of a writer", run.end(), WELL)
-    return time.monotonic() - start
-
-
-def answered_lines(program, lines, wait):
-    """Sends lines to a writer that is killed after a while: the replies that it wrote."""
+def answered_lines(program, lines, by):
+    """Sends lines to a writer that is killed a moment after one of them was answered: the replies that it wrote."""
+    wanted, out = by.randrange(len(lines)), bytearray()
     with Running([program.path, "run", "--file", program.file()], LONGEST) as run:
         run.send(b"".join(line + b"\n" for line in lines))
-        time.sleep(wait)
+        while len(FINISH.findall(out)) < wanted:
+            out += run.piece()
+        time.sleep(LONGEST_WAIT * by.random())
         run.process.kill()
         run.process.wait()
-        out = bytearray()
         while piece := run.piece():
             out += piece
         return [reply for reply in replies_of(bytes(out)) if FINISH.search(reply)]
@@ -67,11 +57,9 @@ def kill_at_random(program, count, seed):
     writer, counts = Writer(by), Counter()
     data = program.bytes_after(writer.first())
     state = Judge().state_of(data)
-    seconds = seconds_of(program, [writer.next() for _ in range(LINES)])
-    program.file_of(data)
     for number in range(count):
         lines = [writer.next() for _ in range(LINES)]
-        replies = answered_lines(program, lines, by.random() * seconds)
+        replies = answered_lines(program, lines, by)
         counts += Counter({"kills": 1, "lines before kills": len(replies), "gates open after kills": has_open_gate(program.bytes_left())})
         try:
             state = judged(program, state, lines, replies)

@@ -1,8 +1,9 @@
-"""The order of a program's calls of its file: between two checkpoints nothing is written, and a checkpoint is the journal, a sync,
+"""The order of a program's calls of its file: between two checkpoints nothing is changed, and a checkpoint is the journal, a sync,
 the gate byte, a sync, the home pages, a sync, the gate byte, a sync, and a cut.
 
 Which calls these are follows from the bytes that they write: the journal says which pages it copies, and the slow checkpoint what
-is to come then. Reads play no part. A recovery is a sync, and a checkpoint from its home pages on where the gate is open.
+is to come then. Reads play no part. A recovery is a sync, and a checkpoint from its home pages on where the gate is open. A file
+of version 1 is synced as it is opened, and gets version 2 by a checkpoint of page 0.
 """
 
 import os
@@ -10,8 +11,8 @@ import os
 from device_calls import SYNC, Cut, Write, apply, applied
 from device_log import FILE, FOLDER, OPENING, SYNCING
 from harness import Wrong, expect
-from slow_checkpoint import FIELDS, PAGE_COUNT, checkpoint, gate_writes, journal_writes, recovery
-from slow_journal import OPEN, VERSION, page_at, places_of
+from slow_checkpoint import FIELDS, PAGE_COUNT, checkpoint, gate_writes, journal_writes, migration, recovery
+from slow_journal import OPEN, page_at, places_of
 
 MOST_CHANGED = 1_024  # pages that may be changed before a checkpoint is made without SAVE
 CHANGES = (b"DEFINE", b"DROP", b"MOVE", b"INSERT", b"REMOVE", b"CLOSE")
@@ -48,7 +49,7 @@ class Order:
 
     def line(self, word, entries, is_large):
         """Follows the calls of a line with this word, None where it was refused. Of other lines than SAVE and REOPEN only those that
-        change something may make a checkpoint, and these where many pages may be changed by then."""
+        change something may make a checkpoint, and only where many pages may be changed by then."""
         self.begin(entries)
         if word in (b"SAVE", b"REOPEN"):
             self.saving()
@@ -56,14 +57,19 @@ class Order:
             copies = self.checkpoint()
             expect("whether a checkpoint without SAVE copies so many pages", len(copies) > MOST_CHANGED, True)
             self.unasked += 1
-        if word == b"REOPEN":
-            self.recovery()
         self.end()
 
     def closing(self, entries):
         """Follows the calls of an end."""
         self.begin(entries)
         self.saving()
+        self.end()
+
+    def migrating(self, entries):
+        """Follows the calls of a run without lines over a closed file of version 1."""
+        self.begin(entries)
+        self.expect_next([SYNC], "an opening")
+        self.expect_next(list(migration(bytes(self.file))), "a migration")
         self.end()
 
     # Parts.
@@ -97,10 +103,8 @@ class Order:
         self.expect_next(wanted, "recovery")
 
     def saving(self):
-        """A checkpoint, or a sync alone where nothing was changed."""
-        if self.calls and self.calls[0] == SYNC:
-            self.take("a sync")
-        else:
+        """A checkpoint, or nothing where nothing was changed: which of the two it had to be is told by what a crash leaves."""
+        if self.calls:
             self.checkpoint()
 
     def checkpoint(self):
@@ -130,15 +134,6 @@ class Order:
         return first, copies
 
 
-def expect_migrated(entries):
-    """Of a closed file of version 1 the format alone is written, and the file is synced after that."""
-    calls = [entry.call() for entry in entries if entry.is_change()]
-    writes = [call for call in calls if isinstance(call, Write)]
-    inside = [VERSION.start <= call.at and call.end() <= VERSION.stop for call in writes]
-    expect("whether a migration writes the format alone", (bool(writes), all(inside), Cut in map(type, calls)), (True, True, False))
-    expect("the last call of a migration and of an end", calls[-1], SYNC)
-
-
 def expect_read_alone(entries):
     """The file is opened for reading, and nothing of it is changed."""
     flags = [entry.at & os.O_ACCMODE for entry in entries if (entry.kind, entry.what) == (OPENING, FILE)]
@@ -147,11 +142,10 @@ def expect_read_alone(entries):
 
 
 def expect_folder_synced(entries):
-    """A file is made, then its folder is opened and synced before anything is written, and in the end the file is synced."""
+    """A file is made, then its folder is opened and synced before anything is written."""
     what = [(entry.kind, entry.what) for entry in entries if not entry.has_failed()]
     wanted = [(OPENING, FILE), (OPENING, FOLDER), (SYNCING, FOLDER)]
     expect("the calls before a new file is written", [one for one in what if one in wanted], wanted)
     changes = [(place, entry) for place, entry in enumerate(entries) if entry.is_change()]
     if not changes or changes[0][0] < what.index((SYNCING, FOLDER)):
         raise Wrong("a new file is written before its folder is synced")
-    expect("whether the last change of a new file is a sync", changes[-1][1].kind == SYNCING, True)

@@ -9,7 +9,7 @@ from crash_judge import Bounds, Judge
 from device_calls import SYNC, Cut, Write, applied
 from device_log import entry_of
 from harness import Wrong, expect
-from slow_checkpoint import CLOSED, FIELDS, checkpoint, fields_of, gate_writes, recovered, recovery
+from slow_checkpoint import CLOSED, FIELDS, checkpoint, fields_of, recovered, recovery
 from slow_journal import GATE, OPEN, PAGE_BYTES
 from written_journals import AFTER, BEFORE, page_0_copied, pair_of, small
 

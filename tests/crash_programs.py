@@ -1,7 +1,7 @@
 """Opens files that a crash may have left with the built program: `dump` and `run` have to say of each what the slow reader says.
 
-`dump` prints the state's lines and writes nothing. `run` answers as the slow machine in that state, and leaves the bytes that the
-slow recovery makes, also of a closed file of version 1, which gets version 2. A second run defines a route, and the slow reader
+`dump` prints the state's lines and writes nothing. `run` answers as the slow machine in that state, and leaves the bytes that
+`after_opening` of the slow checkpoint makes: recovered, and of version 2. A second run defines a route, and the slow reader
 finds that then in a file that is closed and no longer than its pages. What is refused keeps its bytes, unless the gate is open and
 page 0, as the journal gives it, is a header that fits: then recovery has gone before. The program is started once for each of the
 two commands (forked.py).
@@ -15,11 +15,9 @@ from file_questions import Exchange, route_defined
 from forked import Forked, Job
 from harness import Wrong, expect
 from read_again import Asked, Talk, talk_of
-from slow_checkpoint import PAGE_COUNT, recovered
+from slow_checkpoint import after_opening, is_at_rest
 from slow_dump import dumped
 from slow_file import State, read
-from slow_journal import FIRST_VERSION, LAST_VERSION, PAGE_BYTES, VERSION, Damaged, has_open_gate, places_of
-from slow_pages import Pages
 
 LONGEST_RUN = 120  # seconds
 AT_ONCE = 20  # files
@@ -50,17 +48,7 @@ class Opening(NamedTuple):
 
     def left(self):
         """The bytes that a run leaves which changes nothing."""
-        if self.state is not None and places_of(self.data).version == FIRST_VERSION:
-            return self.data[: VERSION.start] + LAST_VERSION.to_bytes(4, "big") + self.data[VERSION.stop :]
-        return recovered(self.data) if is_recovered(self.data) else self.data
-
-
-def is_recovered(data):
-    """Whether page 0, as the journal gives it, is a header that fits, so that a file is recovered before other pages are read."""
-    try:
-        return Pages(data) is not None
-    except Damaged:
-        return False
+        return after_opening(self.data, self.state is not None)
 
 
 @lru_cache(maxsize=100)
@@ -109,7 +97,7 @@ def compare_run(opening, done):
     expect("the end of run", (done.status, done.errors), (0 if opening.state else 1, SAID.get(opening.answer, b"")))
     expect("the replies of run", done.out, opening.talk().replies)
     if done.left != opening.left():
-        raise Wrong("run leaves other bytes than the slow recovery")
+        raise Wrong("run leaves other bytes than the slow checkpoint")
 
 
 def compare_change(opening, done):
@@ -121,8 +109,7 @@ def compare_change(opening, done):
     expect("the definition of a route", (done.status, done.out, done.errors), (0, exchange.reply, b""))
     found = read(done.left)
     expect("the state after a change (%s)" % found.why, found.state, wanted)
-    pages = int.from_bytes(done.left[PAGE_COUNT], "big")
-    expect("the gate and the length after a change", (has_open_gate(done.left), len(done.left)), (False, pages * PAGE_BYTES))
+    expect("whether a file is closed and no longer than its pages after a change", is_at_rest(done.left), True)
 
 
 def compare_dump(opening, done):

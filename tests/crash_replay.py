@@ -6,6 +6,7 @@ Some of the images are opened by the program too (crash_programs.py). The calls 
 
 import random
 import re
+import sys
 from typing import NamedTuple
 
 from crash_images import Amount, images, moments
@@ -14,7 +15,6 @@ from crash_order import Order, expect_folder_synced, expect_read_alone
 from device_log import NOTHING, WELL
 from harness import Wrong, expect
 from programs import Ended
-from slow_file import read
 from slow_journal import VERSION
 from slow_machine import Machine
 
@@ -153,6 +153,9 @@ class Sample:
             self.chosen[place] = (title, data, state)
 
 
+EACH_WAY = Amount(6, 40)
+
+
 class Depth(NamedTuple):
     """How many images there are of a moment; how many moments are looked at beside those around a sync, all where that is None; and
     how many images are opened by the program."""
@@ -161,19 +164,18 @@ class Depth(NamedTuple):
     moments: int | None
     sample: int
 
+    def chosen(self, found, by):
+        """The moments of a log that are looked at."""
+        if self.moments is None:
+            return found
+        near = {place + step for place, one in enumerate(found) if not one.count for step in (-2, -1, 0, 1, 2)}
+        near.update(by.sample(range(len(found)), min(len(found), self.moments)))
+        return [one for place, one in enumerate(found) if place in near]
 
-# Of the gate and of the long run, each for short conversations and for large ones.
-GATE = Depth(Amount(3, 6), None, 150), Depth(Amount(1, 2), 20, 8)
-LONG = Depth(Amount(5, 120), None, 400), Depth(Amount(3, 20), 400, 20)
 
-
-def chosen_moments(found, depth, by):
-    """The moments of a log that are looked at."""
-    if depth.moments is None:
-        return found
-    near = {place + step for place, one in enumerate(found) if not one.count for step in (-2, -1, 0, 1, 2)}
-    near.update(by.sample(range(len(found)), min(len(found), depth.moments)))
-    return [one for place, one in enumerate(found) if place in near]
+# Of the gate and of the long run, each for short conversations and for large ones. Of short ones each image of the gate is opened.
+GATE = Depth(Amount(3, 6), None, sys.maxsize), Depth(Amount(1, 2), 20, 8)
+LONG = Depth(Amount(5, 120), None, 2_000), Depth(Amount(3, 20), 400, 20)
 
 
 def replay(talk, told, seed, depth, since=0, forgets=False):
@@ -181,7 +183,7 @@ def replay(talk, told, seed, depth, since=0, forgets=False):
     by = random.Random("%s %d" % (talk.name, seed))
     judge, chosen, bounds = Judge(), Sample(depth.sample, by), told.bounds()
     found = [one for one in moments(told.data, told.entries, forgets) if one.place >= since]
-    for moment in chosen_moments(found, depth, by):
+    for moment in depth.chosen(found, by):
         judge_moment(judge, moment, bounds[moment.place], depth.amount, by, chosen)
     judge.compare(Machine(), [*talk.before, *(line for line, _ in told.lines)])
     return judge, chosen
@@ -197,37 +199,24 @@ def judge_moment(judge, moment, bounds, amount, by, chosen):
         chosen.put(title, data, state)
 
 
-def replay_recovery(program, data, state, by, depth):
-    """Judges the images of the log of a recovery, which stand for the state that it began with: how many there were."""
+def expect_dumped(program, data):
+    """A file is dumped, and only read."""
     program.file_of(data)
-    with program.run() as run:
-        expect("the end of a run without lines", run.end(), WELL)
-        entries = run.entries()
-    last = max(place for place, entry in enumerate(entries) if entry.is_change())
-    order = Order(data)
-    order.opening(entries[:last])
-    order.closing(entries[last:])
-    judge, bounds = Judge(), Bounds(state.accepted, state.accepted)
-    for moment in chosen_moments(list(moments(data, entries)), depth, by):
-        for image in images(moment, by, depth.amount):
-            expect("the state after a crash in recovery", judge.judge(image, bounds), state)
-    return judge.met
-
-
-def expect_opened(program, data, entries_are):
-    """Opens a file in a run without lines, or dumps it, and looks at its calls."""
-    program.file_of(data)
-    command = "dump" if entries_are is expect_read_alone else "run"
-    with program.run(command=command) as run:
+    with program.run(command="dump") as run:
         ended = run.end()
-        expect("the end of %s" % command, (ended.status, ended.errors), (0, b""))
-        entries_are(run.entries())
+        expect("the end of dump", (ended.status, ended.errors), (0, b""))
+        expect_read_alone(run.entries())
+    expect("the bytes of a file that was dumped", program.bytes_left() == data, True)
 
 
-def expect_created(program):
-    """A new file is synced, and its folder; it is of version 2 and empty."""
-    expect_folder_synced(program.created())
-    data = program.bytes_left()
-    found = read(data)
-    expect("what a new file says (%s)" % found.why, found.answer, b"OK")
+def expect_created(program, by):
+    """A new file is synced, and its folder; it is of version 2 and empty, also where power is cut then."""
+    entries = program.created()
+    expect_folder_synced(entries)
+    data, judge, nothing = program.bytes_left(), Judge(), Bounds(0, 0)
+    judge.judge(data, nothing)
     expect("the version of a new file", data[VERSION], b"\0\0\0\2")
+    *_, last = moments(b"", entries)
+    for image in images(last, by, EACH_WAY):
+        judge.judge(image, nothing)
+    judge.compare(Machine(), [])

@@ -1,24 +1,20 @@
-"""Stops the program at each of its changes of the file, before it or once a write is half done, and again in the recovery that
+"""Stops the program at each of its changes of the file, before it or once a write is half done, and interrupts the recovery that
 follows; then it opens the file by itself, which stands for a state between what was kept last and what was accepted.
 
 Changes are writes, syncs and cuts. A stop before a reading leaves the file that a stop before the next change leaves.
 """
 
 import random
-from itertools import product
 from typing import NamedTuple
 
 from crash_judge import Bounds, Judge
+from crash_openings import KILLED, expect_opened, interrupt_opening
 from crash_replay import is_kept_by, machine_after
-from device_log import WELL, WRITE, Asked
+from device_log import WRITE, Asked
 from harness import Wrong, expect
 from programs import FINISH
-from slow_checkpoint import recovered, recovery
-from slow_file import read
 from slow_journal import has_open_gate
 from slow_machine import Machine
-
-KILLED = -9
 
 
 class Progress(NamedTuple):
@@ -61,34 +57,11 @@ def stopped(program, talk, told, progress, asked):
 
 
 def judge_stop(program, judge, data, bounds, by, again):
-    """Judges a file that a process left: what it stands for is what the recovery leaves, however often it is stopped. Of the places
-    at which recovery may be stopped as many are tried as are asked for, all where that is None."""
+    """Judges a file that a process left: what it stands for is what the recovery leaves, also where that is interrupted, at each of
+    its changes or at so many."""
     state = judge.judge(data, bounds)
-    opened(program, data)
-    if not has_open_gate(data):
-        return 1
-    stops = list(product(range(1, len(list(recovery(data))) + 1), (False, True)))
-    chosen = stops if again is None else by.sample(stops, min(again, len(stops)))
-    for number, is_half in chosen:
-        program.file_of(data)
-        with program.run(Asked(stop_at=number, stop_half=is_half)) as run:
-            status = run.end().status
-        if status != KILLED and number < len(list(recovery(data))):
-            raise Wrong("recovery makes less than %d changes" % number)
-        left = program.bytes_left()
-        found = judge.judge(left, Bounds(state.accepted, state.accepted))
-        expect("the state after a stop in recovery", found, state)
-        opened(program, left)
-    return 1 + len(chosen)
-
-
-def opened(program, data):
-    """Opens a file in a run without lines, which leaves the bytes that the slow recovery makes."""
-    program.file_of(data)
-    with program.run() as run:
-        expect("the end of a run over what a process left", run.end(), WELL)
-    if program.bytes_left() != recovered(data):
-        raise Wrong("recovery leaves other bytes than the slow one: %s" % (read(program.bytes_left()).why))
+    expect_opened(program, data)
+    return 1 + (interrupt_opening(program, judge, data, state, by, again) if has_open_gate(data) else 0)
 
 
 def stop_everywhere(program, talk, told, seed, most=None, again=2):

@@ -1,22 +1,22 @@
 #!/usr/bin/env python3
 """Judges what the built program leaves of a file where it is stopped, the disk fails or is full, or power is cut.
 
-    crashes.py [--program PATH] [--checkpoints] [--long] [--seed S] [--kills N] [--images N] [--jobs N] [PART ..]
+    crashes.py [--program PATH] [--long] [--seed S] [--kills N] [--images N] [--jobs N] [PART ..]
 
 The PARTS, each of which is judged by the slow reader of files, by the order of calls, and by the program itself:
 
 - `planted`: the slow checkpoint is judged, and faults that are planted in it are found; no program is run.
-- `created`: a new file is of version 2, and is synced as well as its folder; of a closed one of version 1 nothing but the format
-  is written; `dump` opens a file for reading and writes nothing.
+- `created`: a new file is of version 2, and is synced as well as its folder; `dump` opens a file for reading and writes nothing.
+- `migrations`: a closed file of version 1 gets version 2 by a checkpoint of page 0, whose log is replayed, and which is stopped and
+  fails at each of its changes.
 - `journals`: files whose journals are written by hand (written_journals.py) are opened or refused by `run` and `dump`.
 - `replays`: a log of the calls of the file in a conversation is replayed: a power cut at each moment, with what was written since
   the last sync kept, lost, torn or filled; each image stands for a state between what was kept last and what was accepted, and
-  some are opened by `run` and `dump`, and their recovery is replayed in turn.
-- `stops`: the process is killed at each change of the file, and again in the recovery.
+  is opened by `run` and `dump`, and some recoveries are replayed in turn.
+- `stops`: the process is killed at each change of the file, and the recovery is stopped and fails at its changes.
 - `faults`: each change fails once, and the disk is full from each write on and has room again later.
-- `kills`: a writer is killed at random, 50 times by default.
+- `kills`: a writer is killed at random, 100 times by default.
 
-All but the first need a program that makes checkpoints, and are done where --checkpoints is said, or their names.
 Six short conversations are had (crash_lines.py). With --long it is done once: whole conversations, and long ones with more than
 1,024 changed pages, until there were 1,000,000 images (--images), all stops and faults of the six, each byte of a journal, and
 5,000 kills. It prints what is not as wanted, what was done in each part, and at last `N passed, M failed`, counted in tasks.
@@ -32,22 +32,25 @@ from multiprocessing import Pool
 from typing import NamedTuple
 
 from crash_faults import fail_everywhere
+from crash_judge import Judge
 from crash_kills import kill_at_random
 from crash_lines import long_talk, short_talks, whole_talks
-from crash_order import expect_migrated, expect_read_alone
+from crash_openings import interrupt_opening, replay_opening
 from crash_plants import PLANTS, expect_found, expect_sound
 from crash_programs import Opening, openers_of
-from crash_replay import GATE, LONG, expect_created, expect_opened, follow_order, replay, replay_recovery, told_of
+from crash_replay import GATE, LONG, expect_created, expect_dumped, follow_order, replay, told_of
 from crash_stops import stop_everywhere
 from device_log import Program, build
 from file_writer import DAMAGED, OK
 from harness import Wrong, bytes_at, expect, parser_of, summary
-from programs import PROGRAM, library_of, scratch_folder
+from programs import PROGRAM, ROOT, library_of, scratch_folder
+from slow_checkpoint import in_first_version
 from slow_file import read
-from slow_journal import FIRST_VERSION, LAST_VERSION, VERSION, Damaged, has_open_gate, know
-from written_journals import changed_bytes, files, pair_of, small, with_number
+from slow_journal import Damaged, has_open_gate
+from written_journals import changed_bytes, files, pair_of, small
 
-KILLS, ALL_KILLS, KILLS_AT_ONCE = 50, 5_000, 25
+KEPT = os.path.join(ROOT, "tests", "kept")  # files that an earlier build closed
+KILLS, ALL_KILLS, KILLS_AT_ONCE = 100, 5_000, 25
 IMAGES = 1_000_000
 BYTES, ALL_BYTES = 40, 1  # every so many changed bytes
 WHOLE, LONG_ROWS = 20, 6_000
@@ -96,15 +99,21 @@ def planted(_built, what, words):
     return Counter({"planted faults found": 1})
 
 
-def created(built, _what, _words):
+def created(built, _what, words):
     program = built.program
-    expect_created(program)
+    expect_created(program, random.Random("created %d" % words.seed))
     pair = pair_of(small)
-    first_version = with_number(pair.closed, VERSION.start, FIRST_VERSION)
-    expect_opened(program, first_version, expect_migrated)
-    for data in (pair.closed, pair.opened, first_version):
-        expect_opened(program, data, expect_read_alone)
+    for data in (pair.closed, pair.opened, in_first_version(pair.closed)):
+        expect_dumped(program, data)
     return Counter(created=1)
+
+
+def migrations(built, name, words):
+    """The first opening of a file that an earlier build has closed."""
+    data = bytes_at(os.path.join(KEPT, name))
+    state, by, judge = read(data).state, random.Random("migrations %s %d" % (name, words.seed)), Judge()
+    count = replay_opening(built.program, data, state, by, (LONG if words.is_long else GATE)[False])
+    return Counter({"images of migrations": count, "migrations stopped": interrupt_opening(built.program, judge, data, state, by)})
 
 
 def journals(built, part, words):
@@ -149,7 +158,7 @@ def replays(built, talk, words):
     with_gate = [one for one in chosen if has_open_gate(one.data)]
     most = 1 if talk.is_large else ALL_RECOVERIES if words.is_long else RECOVERIES
     for one in with_gate[:most]:
-        counts["images of recoveries"] += replay_recovery(program, one.data, one.state, by, depth)
+        counts["images of recoveries"] += replay_opening(program, one.data, one.state, by, depth)
     return counts
 
 
@@ -170,7 +179,7 @@ def kills(built, part, words):
     return kill_at_random(built.program, count, words.seed + part)
 
 
-PARTS = {part.__name__: part for part in (planted, created, journals, replays, stops, faults, kills)}
+PARTS = {part.__name__: part for part in (planted, created, migrations, journals, replays, stops, faults, kills)}
 
 
 # Tasks.
@@ -181,6 +190,7 @@ def tasks_of(words):
     whats = {
         "planted": [None, *PLANTS],
         "created": [None],
+        "migrations": sorted(name for name in os.listdir(KEPT) if name.endswith(".road")),
         "journals": range(words.jobs),
         "replays": [talks.pop("many pages"), *talks.values()],
         "stops": [talk for talk in short_talks() if talk.name in STOPPED],
@@ -189,8 +199,7 @@ def tasks_of(words):
     }
     if words.is_long:
         whats["replays"] = [*whats["replays"], *whole_talks(WHOLE, words.seed)]
-    parts = words.parts or (PARTS if words.has_checkpoints else ["planted"])
-    return [Task(part, what, words) for part in parts for what in whats[part]]
+    return [Task(part, what, words) for part in words.parts or PARTS for what in whats[part]]
 
 
 def done(built, task):
@@ -218,7 +227,6 @@ class Work:
 
 def arguments():
     parser = parser_of(__doc__, PROGRAM)
-    parser.add_argument("--checkpoints", action="store_true", dest="has_checkpoints")
     parser.add_argument("--long", action="store_true", dest="is_long")
     parser.add_argument("--seed", type=int, default=0)
     parser.add_argument("--kills", type=int)
@@ -233,7 +241,6 @@ def arguments():
 
 def main():
     words = arguments()
-    know(LAST_VERSION)
     with scratch_folder() as folder, Pool(words.jobs) as pool:
         work = Work(pool, Built(Program(words.program, build(folder), folder), library_of("forked", folder)))
         work.do(tasks_of(words))

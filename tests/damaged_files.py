@@ -8,8 +8,8 @@ Each file is a sound one with one change of bytes or pages (grown_files.py). It 
 refuses it as the slow reader of files does; where it is opened, its questions are answered as by the slow machine, its bytes
 stay, and after one definition more it stands for that state. For one change of ten it is also counted what opening it takes:
 
-- it reads each page once, however many there are; a page that is cut off twice; and besides at most 64 bytes for each page of the
-  file and four times the bytes of the catalogue;
+- it reads each page once, however many there are; page 0 three times, and a page that is cut off twice; and besides at most 64 bytes
+  for each page of the file and four times the bytes of the catalogue;
 - it takes no more memory than 24 times the bytes of the file and a constant, whatever numbers stand in it. So each number of page
   0, of the directory and of the catalogue is also set to its greatest value, and to 2^63 where it is that wide.
 
@@ -39,6 +39,7 @@ from slow_file import read
 SHARE, ALL = 2_000, 1_000_000  # changes
 BATCH = 25  # changes of one size that a process makes before it gives its counts
 COUNTED = 10  # of so many changes one is counted
+MORE_OF_PAGE_0 = 2  # readings: it is looked at, looked at as the journal gives it, and read
 
 # How many of 200 batches are of files of each size.
 WEIGHTS = dict(zip(SIZES, (50, 45, 40, 30, 20, 9, 3, 1, 1, 1)))
@@ -54,7 +55,7 @@ NUMBERS_OF = ("page 0 ", "page 1 ", "pages", "first free", "free", "first catalo
 
 
 class Opened(NamedTuple):
-    """What opening a file took: bytes that were read beyond each page once, and bytes of memory at the most."""
+    """What opening a file took: bytes that were read beyond each page once and page 0 three times, and bytes of memory at the most."""
 
     bytes_beyond: int
     memory: int
@@ -79,7 +80,7 @@ class Counting:
         wanted = (0, REFUSED, b"") if answer == OK else (1, b"", files.SAID[answer])
         refusing.expect("the end", done[:3], wanted)
         refusing.expect("whether it ends by itself", told[refusing.HAS_ENDED], 1)
-        pages = len(data) // PAGE_BYTES + 1
+        pages = len(data) // PAGE_BYTES + MORE_OF_PAGE_0
         return Opened(told[refusing.BYTES_READ] - PAGE_BYTES * pages, told[refusing.MOST_MEMORY])
 
 
@@ -97,7 +98,7 @@ def check_opened(case, answer):
     cut_off = len(case.data) % PAGE_BYTES
     faults = []
     if took.bytes_beyond > cut_off + 64 * pages + 4 * catalogue:
-        faults.append("%s: %d bytes are read beyond each of %d pages once" % (case.title, took.bytes_beyond, pages))
+        faults.append("%s: %d bytes are read beyond %d pages" % (case.title, took.bytes_beyond, pages))
     if took.memory > CONSTANT + FACTOR * len(case.data):
         faults.append("%s: %d bytes of memory are taken for %d bytes" % (case.title, took.memory, len(case.data)))
     return took, faults
@@ -146,8 +147,12 @@ def batches_of(changes):
 
 
 def greatest_numbers():
-    """A file with each of its numbers in turn as great as it can be."""
+    """A file with each of its numbers in turn as great as it can be, those of a journal where the gate is open."""
     file = written(of_each_kind())
+    for names in (["gate first page"], ["gate copies"], ["gate first page", "gate copies"]):
+        for value in (2**32 - 1, 2**31, 2**31 - 1):
+            title = "%s of %d with an open gate" % (" and ".join(names), value)
+            yield files.Case(title, file.with_fields({"gate byte": 1, **dict.fromkeys(names, value)}))
     for name, places in file.fields.items():
         if name.startswith(NUMBERS_OF) and len(places) in (1, 2, 4, 8) and " cell " not in name:
             for value in {256 ** len(places) - 1, 256 ** len(places) // 2}:
@@ -188,7 +193,7 @@ def told_of(title, answers, most, faults):
     for fault in faults[: files.MOST_PRINTED]:
         print(fault)
     numbers = [answers[answer] for answer in (OK, DAMAGED, NOT_CLOSED)]
-    print("%s: %d OK, %d 94, %d 95, %d differ; at most %d bytes read beyond each page once, and %d bytes of memory"
+    print("%s: %d OK, %d 94, %d 95, %d differ; at most %d bytes read beyond the pages, and %d bytes of memory"
           % (title, *numbers, len(faults), *most), flush=True)
     return sum(numbers) - len(faults), len(faults)
 

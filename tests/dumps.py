@@ -6,7 +6,8 @@
 What `dump` prints has to be what the slow dump (slow_dump.py) makes of the state that the slow reader reads in the file, so
 also with `--definitions`, and with `--table` for some tables. Views come in any order. What is left out has to be told, with
 status 1. The dump is loaded into a new file: each line is answered as is wanted, the new file stands for the same state, but
-for what was left out, and its dump has the same bytes. The file that was dumped keeps its bytes, and is not written to.
+for what was left out, and its dump has the same bytes. The file that was dumped keeps its bytes, and is not written to, also where
+its gate is open or it is of version 1.
 
 Files are made by dump_turns.py; one that stands for no state, or was not closed, has to be refused 94 or 95. Then the functions
 of the list TESTS dump the example network, a table that is not there, and files that are none or in use; they kill a dump, or go
@@ -31,8 +32,11 @@ import refusing
 from dump_turns import makers_of
 from file_writer import DAMAGED, NOT_CLOSED
 from programs import replies_of
+from slow_checkpoint import being_written, in_first_version
 from slow_dump import content_of, dumped, dumped_table
 from slow_file import read
+from slow_journal import GATE
+from slow_pages import FLAG_PLACE
 
 HERE = os.path.dirname(os.path.abspath(__file__))
 ROOT = os.path.dirname(HERE)
@@ -46,8 +50,8 @@ SHARED_MEMORY = "/dev/shm"
 LONGEST = 120  # seconds that a run may take
 MOST_PRINTED = 20  # faults
 MOST_TABLES = 3  # of a file that are dumped one by one
-OPEN_FLAG = 28  # the place of its byte
 PIPE = 65_536  # bytes that a pipe takes which nobody reads
+NOBODY = 65_534  # the number of a user and of a group with no rights
 
 # What the example network gets beside its definitions and rows, and the end of its dump.
 KEPT = (
@@ -136,6 +140,12 @@ class Program(NamedTuple):
 
     def run(self, *words, sent=b""):
         done = subprocess.run([self.path, *words], input=sent, capture_output=True, timeout=LONGEST)
+        return Ended(done.returncode, done.stdout, done.stderr)
+
+    def run_as_nobody(self, *words):
+        """A run that may not do what root alone may."""
+        given = {"user": NOBODY, "group": NOBODY, "extra_groups": []} if os.getuid() == 0 else {}
+        done = subprocess.run([self.path, *words], input=b"", capture_output=True, timeout=LONGEST, check=False, **given)
         return Ended(done.returncode, done.stdout, done.stderr)
 
     def dump(self, file, *words):
@@ -332,7 +342,9 @@ def files_that_are_no_inventory_are_told(program):
     expect("no file", program.dump(none), Ended(1, b"", not_opened(none, "no such file")))
     expect("a folder", program.dump(program.folder), Ended(1, b"", not_opened(program.folder, "a folder")))
     for name, other, answer in (
-        ("open", data[:OPEN_FLAG] + b"\1" + data[OPEN_FLAG + 1 :], NOT_CLOSED),
+        ("open", in_first_version(data, flag=1), NOT_CLOSED),
+        ("flag", data[:FLAG_PLACE] + b"\1" + data[FLAG_PLACE + 1 :], DAMAGED),
+        ("gate", data[:GATE] + b"\1" + data[GATE + 1 :], DAMAGED),
         ("cut", data[:-1], DAMAGED),
         ("text", b"0 DEFINE ROUTE A FROM 0 TO 10\n", DAMAGED),
         ("nothing", b"", DAMAGED),
@@ -361,11 +373,27 @@ def a_file_is_dumped_under_its_lock(program):
         _, errors = process.communicate(timeout=LONGEST)
         expect("the end of the run", (process.returncode, errors), (0, b""))
     with unchanged(file):
+        whole = program.dump(file)
         with program.started("dump", "--file", file) as process:
             process.stdout.read(1)
             expect("a run over a file that is dumped", program.run("run", "--file", file), in_use)
             expect("another dump of it", program.dump(file).status, 0)
+            expect("a dump beside another one", program.dump(file), whole)
     expect("a run after that", program.run("run", "--file", file), Ended(0, b"", b""))
+
+
+def a_file_that_may_only_be_read_is_dumped(program):
+    file = network_of(program)
+    whole = program.dump(file)
+    os.chmod(file, 0o444)
+    os.chmod(program.folder, 0o555)
+    try:
+        with unchanged(file):
+            expect("a dump by who may only read", program.run_as_nobody("dump", "--file", file), whole)
+            refused = Ended(1, b"", not_opened(file, "no permission"))
+            expect("a run by who may only read", program.run_as_nobody("run", "--file", file), refused)
+    finally:
+        os.chmod(program.folder, 0o755)
 
 
 def rows_of(program, rows, routes=ROUTES):
@@ -406,12 +434,20 @@ def expect_begun(process, out):
 
 
 def nothing_is_written_and_each_want_is_told(program):
-    """Device calls are reads. Where one of them or a growth is refused it is told, and what was printed is a front of the dump."""
+    """Device calls are reads. Where one of them or a growth is refused it is told, and what was printed is a front of the dump; also
+    of a file that was being written, and of one of version 1."""
     counted = refusing.Program(program.path, refusing.build(program.folder), program.folder)
+    empty = bytes_at(program.created("none")[0])
     file, replies = program.created("small", SMALL)
     expect("what is refused", replies.count(b" ERR "), 0)
     whole = program.dump(file)
     expect("what is left out", (whole.status, whole.errors), (1, b"roadseg: left out view w: ERR 31 empty span\n"))
+    data = bytes_at(file)
+    for name, other in (("closed", data), ("being written", being_written(empty, data)), ("version 1", in_first_version(data))):
+        expect_reads_alone(counted, program.put(name, other), whole)
+
+
+def expect_reads_alone(counted, file, whole):
     with unchanged(file):
         ended, counts = refused_dump(counted, file, refusing.NOTHING)
         expect("a dump that is counted", ended, refusing.Ended(*whole))
@@ -479,6 +515,7 @@ TESTS = [
     files_that_are_no_inventory_are_told,
     words_that_ask_no_dump_are_refused,
     a_file_is_dumped_under_its_lock,
+    a_file_that_may_only_be_read_is_dumped,
     a_dump_that_stops_leaves_the_file,
     nothing_is_written_and_each_want_is_told,
     a_dump_takes_time_in_proportion_to_the_rows,

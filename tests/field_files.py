@@ -52,8 +52,10 @@ def header_changes(at):
         "a count of a free page": {"page %d count" % free: 1},
         "the mark of another file": {"file mark": int.from_bytes(b"ROADSEG2", "big")},
         "format 0": {"file format": 0},
-        "format 2": {"file format": 2},
+        "format 3": {"file format": 3},
+        "a flag": {"file flag": 1},
         "a byte after the flag": {"file zeros": 1},
+        "a gate and a journal past the file": {"gate byte": 1, "gate first page": 2**32 - 1, "gate copies": 1},
     }
 
 
@@ -143,9 +145,14 @@ def tree_changes(at):
 
 
 def sound_changes(at):
-    """Fields that another sound file has: a last page of the catalogue without bytes, and one accepted change more."""
+    """Fields that another sound file has: a last page of the catalogue without bytes, and one accepted change more. What is said of a
+    journal plays no part where the gate is closed, or where it copies no page."""
     last = at.last_of_catalogue()
     return {
+        "format 1": {"file format": 1},
+        "a gate that is not open": {"gate byte": 2},
+        "a journal and no gate": {"gate first page": at.file.value("file pages"), "gate copies": 1},
+        "a gate and a journal of none": {"gate byte": 1, "gate first page": 2**32 - 1},
         "a page of the catalogue without bytes": {
             "page %d kind" % at.other_free: 4,
             "page %d next" % last: at.other_free,
@@ -166,6 +173,9 @@ def byte_changes(at):
     """Bytes after what is counted, and those that have to be zeros."""
     page = PAGE_BYTES
     return {
+        "the last byte before the gate": (63, DAMAGED),
+        "a byte between the gate and the journal's fields": (66, OK),
+        "the first byte after the journal's fields": (76, DAMAGED),
         "the last byte of page 0": (page - 1, DAMAGED),
         "the last byte of the directory": (2 * page - 1, DAMAGED),
         "the first byte after the directory": (page + 2_860, DAMAGED),

@@ -4,6 +4,7 @@ A description is routes, tables with their records, indexes, referents, views an
 with numbers, births and deaths; nothing of it is checked, so that what it says may be wrong. Lists are written in the
 order in which they are given, cells in the order of their bytes, indexes as the records ask for them. How many cells
 and entries a page gets at the most, how many bytes of the catalogue, and how many free pages there are is part of it.
+The file is of version 2, unless another one is said, and its gate is closed.
 
 Each field that is written has a name, `route 0 born` or `page 4 kind`, by which a test writes it anew: items of the
 catalogue and pages of a tree are counted from 0.
@@ -105,8 +106,8 @@ class Description:
     alignments: list = field(default_factory=list)
     referents: list = field(default_factory=list)
     accepted: int = 0
-    version: int = 1
-    flag: int = 0
+    version: int = 2
+    flag: int = 0  # which files of version 1 have
     free: int = 0
     leaf_cells: int = CONTENT_BYTES  # at the most, as are the next two
     inner_entries: int = CONTENT_BYTES
@@ -356,6 +357,8 @@ class Writer:
         flag = ("flag", number(self.said.flag, 1))
         parts = [("mark", b"ROADSEG1"), ("format", number(self.said.version, 4)), flag, ("zeros", bytes(3))]
         self.out.put_parts("file", 16, parts + [(name, number(value, 4)) for name, value in numbers])
+        self.out.put_parts("gate", 64, [("byte", bytes(1))])
+        self.out.put_parts("gate", 68, [("first page", bytes(4)), ("copies", bytes(4))])
 
 
 def shared_out(items, most):

@@ -6,15 +6,16 @@
 `roadseg run --file F` opens each file or refuses it 94 or 95, as the slow reader (slow_file.py) does from the bytes
 alone. A file that is opened is asked for what it holds (file_questions.py), and the answers have to be those of the
 slow machine in the state that the slow reader read. After that, or after a refusal, its bytes have to be what they
-were. What no line asks for, such as the number of a route and its birth, is read after a change: a second run defines a
-route, and the slow reader has to find the same state with this route more.
+were, or what the slow checkpoint makes of them, where the file was recovered or was of version 1. What no line asks for, such as the
+number of a route and its birth, is read after a change: a second run defines a route, and the slow reader has to find the same
+state with this route more.
 
 Three groups of files are compared: those written by hand (whole_files.py), of which it is known what is wanted; the
 closed file of a row that was inserted four times, with each byte changed in turn, to all 255 other values where a field
-is, and to one other value elsewhere; and pseudo-random ones (random_files.py), as many as there are turns. It prints
-what differs, for each group how many files were OK, 94 and 95, how many differ, and how many lines were answered, and
-at last `N passed, M failed`. `--turns 200000 --turns-alone` is the long run, and `--all-bytes` alone
-changes each byte of that row's file to all 255 other values: `--part 2/9` takes every ninth of these files from the second on.
+is, and to one other value elsewhere, in version 1 and, of page 0, in version 2; and pseudo-random ones (random_files.py), as
+many as there are turns. It prints what differs, for each group how many files were OK, 94 and 95, how many differ, and how many
+lines were answered, and at last `N passed, M failed`. `--turns 200000 --turns-alone` is the long run, and `--all-bytes` alone
+changes each byte of that row's files to all 255 other values: `--part 2/9` takes every ninth of these files from the second on.
 
 The program is started once, and each run is a fork of it (forked.py). Where the slow reader looks at nothing that it hasn't seen
 before, what it said is said again (read_again.py).
@@ -31,14 +32,16 @@ from multiprocessing import Pool
 from typing import NamedTuple
 
 from file_questions import Exchange
-from file_writer import DAMAGED, NOT_CLOSED, OK, written
+from file_writer import DAMAGED, NOT_CLOSED, OK
 from forked import Forked, Job
 from harness import Wrong, summary
 from programs import PROGRAM, library_of, replies_of, scratch_folder
 from random_files import RandomFile
 from read_again import Readings, Talk
+from slow_checkpoint import after_opening, is_at_rest
 from slow_file import lines_of
-from whole_files import SOUND, files
+from slow_journal import FIRST_VERSION, LAST_VERSION, PAGE_BYTES
+from whole_files import files, in_version, inserted
 
 BATCH = 25  # files that a process compares before it gives its counts
 LONGEST_RUN = 120  # seconds
@@ -52,7 +55,7 @@ SAID = {
 }
 
 # How many of the files with a byte changed are OK, 94 and 95.
-BYTES_CHANGED = (12_162, 66_959, 255)
+BYTES_CHANGED = (16_759, 73_062, 255)
 
 
 # A line that is sent to a file that is refused.
@@ -75,30 +78,37 @@ def written_cases():
 
 
 @lru_cache
-def inserted():
+def inserted_file(version):
     """The closed file of the inserted row."""
-    return written(SOUND["inserted"]())
+    return in_version(version, inserted)
 
 
 def byte_changes(has_all=False):
-    """The places of that file's bytes, each with its changes: all where a field is or where they are asked for."""
-    file = inserted()
-    told = {place for name, places in file.fields.items() if not is_like_another(name) for place in places}
-    for place in range(len(file.data)):
-        changes = range(1, 256) if has_all or place in told else [1 << place % 8]
-        yield from ((place, change) for change in changes)
+    """The places of that file's bytes, each with its changes: all where a field is or where they are asked for. In version 2 those of
+    page 0, and all where the versions differ."""
+    for version in (FIRST_VERSION, LAST_VERSION):
+        file = inserted_file(version)
+        told = {place for name, places in file.fields.items() if is_told(version, name) for place in places}
+        for place in range(len(file.data) if has_all or version == FIRST_VERSION else PAGE_BYTES):
+            changes = range(1, 256) if has_all or place in told else [1 << place % 8]
+            yield from ((version, place, change) for change in changes)
 
 
-def byte_case(place, change):
+def byte_case(version, place, change):
     """That file with a byte changed."""
-    byte = inserted().data[place] ^ change
-    return Case("byte %d of page %d is %d" % (place % 4096, place // 4096, byte), inserted().with_bytes(place, bytes([byte])))
+    file = inserted_file(version)
+    byte = file.data[place] ^ change
+    title = "version %d, byte %d of page %d is %d" % (version, place % PAGE_BYTES, place // PAGE_BYTES, byte)
+    return Case(title, file.with_bytes(place, bytes([byte])))
 
 
-def is_like_another(name):
-    """Slots of tables and indexes from the second on: nothing is in them, as in the first slot of an index."""
+def is_told(version, name):
+    """Whether a field gets all values. In version 1 it is no slot of tables and indexes from the second on: nothing is in them, as in
+    the first slot of an index."""
     words = name.split()
-    return "slot" in words and words[words.index("slot") + 1] != "0"
+    if version == LAST_VERSION:
+        return name.startswith(("gate", "file format", "file flag", "file zeros"))
+    return "slot" not in words or words[words.index("slot") + 1] == "0"
 
 
 def random_case(seed, turn):
@@ -200,8 +210,8 @@ def compare_one(program, case, found, first, second=None):
     if case.wanted not in (None, found.answer):
         raise Wrong("the slow reader says %s, and %s is wanted" % (text_of(found.answer), text_of(case.wanted)))
     compare_run(first, found.talk if found.state else UNANSWERED, found.answer)
-    if first.left != case.data:
-        raise Wrong("its bytes have changed")
+    if first.left != after_opening(case.data, found.state is not None):
+        raise Wrong("its bytes are not those that the slow checkpoint leaves")
     if found.state is None:
         return 0
     compare_change(program, second, *found.route_defined)
@@ -218,6 +228,8 @@ def compare_change(program, done, talk, wanted):
         lines, wanted_lines = list(lines_of(found.state)), list(lines_of(wanted))
         said = (shown(without(lines, wanted_lines)), shown(without(wanted_lines, lines)))
         raise Wrong("after a change the file stands for %s, and for %s is wanted" % said)
+    if b" OK " in talk.replies and not is_at_rest(done.left):
+        raise Wrong("after a change the file is not closed, or is longer than its pages")
 
 
 def without(lines, others):

@@ -3,7 +3,7 @@
 
     files_and_peers.py [--program PATH] [--jobs N] [TEST ..]
 
-Files are made, opened, refused, kept in use, and left by a program that is killed; peers connect over TCP on 127.0.0.1,
+Files are made, opened, recovered, refused, kept in use, and left by a program that is killed; peers connect over TCP on 127.0.0.1,
 one after another, and some of them cut, stall, or send junk. What is wanted was written by hand, and what a new file
 holds comes from the format (file_writer.py). PATH is `crates/roadseg/out/roadseg` by default; a TEST is the name of a
 function of the list TESTS. It prints what is not as wanted, and at last `N passed, M failed`.
@@ -28,9 +28,11 @@ from conversations import conversations_of, exchanges_of, path_of
 from file_writer import PAGE_BYTES, written
 from harness import bytes_at, expect, run_tests
 from programs import PROGRAM, Ended
+from slow_checkpoint import being_written, in_first_version
 from slow_file import lines_of, read
+from slow_journal import GATE, NO_PAGES, VERSION
 from slow_machine import Machine
-from slow_pages import FLAG_PLACE, FREE, PAGE_HEADER, Pages, as_closed
+from slow_pages import FLAG_PLACE, FREE, PAGE_HEADER, Pages
 from stored_machine import contents_of, machine_of
 from whole_files import SOUND
 from wide_rows import WIDE_TABLE, measure
@@ -135,13 +137,18 @@ def put(path, data, place=0):
         file.write(data)
 
 
+def shown(data):
+    """The bytes of a closed file but for where its last journal was."""
+    return data[: NO_PAGES.start] + bytes(NO_PAGES.stop - NO_PAGES.start) + data[NO_PAGES.stop :]
+
+
 # Files.
 
 
 def a_file_is_created_once(program):
     file = program.created()
     data = bytes_at(file)
-    expect("a new file", data, bytes(written(SOUND["empty"]()).data))
+    expect("a new file", shown(data), bytes(written(SOUND["empty"]()).data))
     program.expect(["create", "--file", file], b"", b"", EXISTS)
     expect("the file after that", bytes_at(file), data)
     program.expect(["create", "--file", program.folder], b"", b"", EXISTS)
@@ -193,8 +200,8 @@ def expect_state(file, machine):
 def a_file_that_changes_in_use_is_judged_anew(program):
     """A byte of a file is another one when its page is read again: REOPEN says what the slow reader says of these bytes.
 
-    On page 0 any other field is damage, also where the whole file would be another one of the same state; but the flag that says
-    that the file is being written is not looked at.
+    On page 0 any other field is damage, also where the whole file would be another one of the same state; but the gate and the
+    journal's fields are not looked at.
     """
     sent = DEFINED + FOUR_TIMES + b"0 DEFINE LINE TABLE gone (n INT)\n0 INSERT INTO gone ON A FROM 0 TO 1 VALUES (1)\n0 DROP TABLE gone\n"
     file = program.created(sent, b"0 OK 0\n0 OK 0\n0 OK 1000\n0 OK 1000\n0 OK 0\n0 OK 500\n0 OK 0\n0 OK 1000\n0 OK 0\n")
@@ -204,17 +211,17 @@ def a_file_that_changes_in_use_is_judged_anew(program):
     with started(program, "run", "--file", file) as process:
         rows = answer_to(process, SELECTED)
         expect("the rows before", rows, b"0 ROW A 0.000 2.500 'AC'\n0 OK 1\n")
-        for flag in (b"\1", b"\7", b"\0"):
-            put(file, flag, FLAG_PLACE)
-            expect("REOPEN with the flag %r" % flag, answer_to(process, b"0 REOPEN\n"), b"0 OK 0\n")
-            expect("the rows with the flag %r" % flag, answer_to(process, SELECTED), rows)
-            expect("the flag after that", bytes_at(file)[FLAG_PLACE], flag[0])
-        put(file, with_a_page_more(bytes_at(file)))
-        expect("whether that is a file", read(as_closed(bytes_at(file))).answer, b"OK")
+        for byte in (b"\1", b"\7"):
+            for place in range(*NO_PAGES.indices(PAGE_BYTES)):
+                put(file, byte, place)
+            expect("REOPEN with the gate %r" % byte, answer_to(process, b"0 REOPEN\n"), b"0 OK 0\n")
+            expect("the rows with the gate %r" % byte, answer_to(process, SELECTED), rows)
+            expect("the gate after that", bytes_at(file)[GATE], byte[0])
+        put(file, with_a_page_more(data))
+        expect("whether that is a file", read(bytes_at(file)).answer, b"OK")
         expect("REOPEN with a free page more", answer_to(process, b"0 REOPEN\n"), b"0 ERR 94 damaged file\n")
         os.truncate(file, len(data))
-        put(file, data[:FLAG_PLACE])
-        put(file, data[FLAG_PLACE + 1 :], FLAG_PLACE + 1)
+        put(file, data)
         expect("REOPEN without it", answer_to(process, b"0 REOPEN\n"), b"0 OK 0\n")
         for place in places_near_bytes(data):
             byte = bytes([data[place] ^ 1 << place % 8])
@@ -247,9 +254,9 @@ def with_a_page_more(data):
 
 
 def places_near_bytes(data):
-    """The places that are near some byte that is not 0, and each sixteenth of the others; but for that of the open flag."""
+    """The places that are near some byte that is not 0, and each sixteenth of the others; but for the gate and the journal's fields."""
     near = (place for place in range(len(data)) if place % 16 == 0 or any(data[max(0, place - NEAR) : place + NEAR]))
-    return [place for place in near if place != FLAG_PLACE]
+    return [place for place in near if not NO_PAGES.start <= place < NO_PAGES.stop]
 
 
 def answer_to(process, line):
@@ -393,15 +400,34 @@ def a_damaged_file_is_refused(program):
         expect("the file after that", bytes_at(file), data)
 
 
-def a_file_that_was_not_closed_is_refused(program):
+def a_file_of_the_first_version_that_was_not_closed_is_refused(program):
+    """No byte of it is written then. Once its flag is 0 it is opened, and has version 2; there a flag is damage."""
     file = program.created(DEFINED, b"0 OK 0\n0 OK 0\n")
-    put(file, b"\x01", FLAG_PLACE)
-    data = bytes_at(file)
+    data = in_first_version(bytes_at(file), flag=1)
+    put(file, data)
     program.expect(["run", "--file", file], SELECTED, b"", NOT_CLOSED)
     program.expect(["serve", "--file", file, "--listen", "nowhere"], b"", b"", NOT_CLOSED)
+    program.expect(["create", "--file", file], b"", b"", EXISTS)
     expect("the file after that", bytes_at(file), data)
     put(file, b"\x00", FLAG_PLACE)
     program.expect(["run", "--file", file], SELECTED, b"0 OK 0\n")
+    expect("its version then", bytes_at(file)[VERSION], b"\0\0\0\2")
+    put(file, b"\x01", FLAG_PLACE)
+    program.expect(["run", "--file", file], SELECTED, b"", DAMAGED)
+
+
+def a_file_that_was_being_written_is_recovered(program):
+    """Its gate is open, as where a run was killed in a SAVE once its journal was there: what was being saved is there."""
+    file = program.created(DEFINED, b"0 OK 0\n0 OK 0\n")
+    before = bytes_at(file)
+    program.expect(["run", "--file", file], INSERTED, b"0 OK 1000\n")
+    after = bytes_at(file)
+    for words in (["run", "--file", file], ["serve", "--file", file, "--listen", "nowhere"]):
+        put(file, being_written(before, after))
+        program.expect(["create", "--file", file], b"", b"", EXISTS)
+        program.expect(words, b"", b"", b"" if words[0] == "run" else not_bound("nowhere", NO_ADDRESS))
+        expect("the file after that", shown(bytes_at(file)), shown(after))
+    program.expect(["run", "--file", file], SELECTED, ROWS)
 
 
 def a_file_of_each_kind_of_definition_is_opened(program):
@@ -426,6 +452,7 @@ def files_of_earlier_builds_are_answered_from(program):
         program.expect(["run", "--file", file], sent, wanted)
         program.expect(["run", "--file", file], b"0 REOPEN\n", b"0 OK 0\n")
         expect("dead records after that", Pages(bytes_at(file)).directory().dead(), 0)
+        expect("the versions before and after that", (kept[name][VERSION], bytes_at(file)[VERSION]), (b"\0\0\0\1", b"\0\0\0\2"))
 
 
 def a_file_in_use_is_not_opened(program):
@@ -882,15 +909,17 @@ def lines_to(process, word):
 
 
 def a_file_that_may_not_grow_is_refused(program):
-    """Under a limit on the size of files the system ends the program by a signal; where that is ignored, the line is refused 91."""
+    """Under a limit on the size of files the system ends the program by a signal; where that is ignored, the line is refused 91. The
+    file keeps what was saved before."""
     rows = b"".join(wide_row(place) for place in range(200))
     for command, wanted in (("", (-signal.SIGXFSZ, b"", False)), ("trap '' XFSZ; ", (1, b"roadseg: ERR 91 disk\n", True))):
-        file = program.created(WIDE_ROUTE + WIDE_TABLE, b"0 OK 0\n0 OK 0\n")
+        file = program.created(WIDE_ROUTE + WIDE_TABLE + wide_row(300), b"0 OK 0\n0 OK 0\n0 OK 1\n")
         script = command + 'ulimit -f 32; exec "$0" run --file "$1"'
         sent = rows + b"0 SAVE\n" + SELECTED
         done = subprocess.run(["bash", "-c", script, program.path, file], input=sent, capture_output=True, timeout=LONGEST, check=False)
         replies = done.stdout.splitlines()
         expect("what comes with %r" % command, (done.returncode, done.stderr, b"0 ERR 91 disk" in replies), wanted)
+        program.expect(["run", "--file", file], b"0 TOTAL wide BY ()\n", b"0 ROW 0.001\n0 OK 1\n")
         os.remove(file)
 
 
@@ -914,17 +943,6 @@ def a_killed_server_leaves_what_was_saved(program):
         program.expect(["run", "--file", file], SELECTED, answered)
 
 
-def a_file_that_is_being_written_is_refused(program):
-    """Its open flag is set, as where a run was killed in a SAVE: no byte of it is written then."""
-    file = program.created(DEFINED, b"0 OK 0\n0 OK 0\n")
-    put(file, b"\x01", FLAG_PLACE)
-    data = bytes_at(file)
-    program.expect(["run", "--file", file], SELECTED, b"", NOT_CLOSED)
-    program.expect(["serve", "--file", file], b"", b"", NOT_CLOSED)
-    program.expect(["create", "--file", file], b"", b"", EXISTS)
-    expect("the file after that", bytes_at(file), data)
-
-
 TESTS = [
     a_file_is_created_once,
     a_file_keeps_what_it_was_told,
@@ -935,7 +953,8 @@ TESTS = [
     a_long_table_is_read_by_its_height,
     a_missing_file_is_not_opened,
     a_damaged_file_is_refused,
-    a_file_that_was_not_closed_is_refused,
+    a_file_of_the_first_version_that_was_not_closed_is_refused,
+    a_file_that_was_being_written_is_recovered,
     a_file_of_each_kind_of_definition_is_opened,
     files_of_earlier_builds_are_answered_from,
     a_file_in_use_is_not_opened,
@@ -963,7 +982,6 @@ TESTS = [
     a_file_that_is_found_damaged_is_told_at_the_end,
     a_file_that_may_not_grow_is_refused,
     a_killed_server_leaves_what_was_saved,
-    a_file_that_is_being_written_is_refused,
 ]
 
 

@@ -2,7 +2,8 @@
 
 A grown file has something of each kind, living and dead, and beside it a table of twelve texts with an index, whose records
 fill as many pages as are asked for. A change is of one to eight bytes, of a number somewhere, or of whole pages, which are
-swapped, repeated, cut off or put after the last. The same seed and turn give the same change.
+swapped, repeated, cut off, put after the last, or moved to a journal, of which some bytes are changed then. One file of five is of
+version 1. The same seed and turn give the same change.
 """
 
 import random
@@ -10,13 +11,14 @@ from functools import lru_cache
 
 from file_writer import LIVING, PAGE_BYTES, Alignment, Index, Record, Referent, Table, written
 from random_files import NUMBERS
+from slow_checkpoint import in_first_version, with_journal
 from whole_files import SOUND
 
 SIZES = (5, 8, 13, 20, 35, 60, 120, 300, 1_000, 3_000)  # pages
 ROWS_OF_A_PAGE = 7
 PAGES_OF_OTHERS = 30  # at four cells to a leaf
 COLUMNS = [(b"c%02d" % number, 40) for number in range(12)]
-WAYS = ["bytes"] * 9 + ["number"] * 3 + ["swap", "repeat", "cut", "append"]
+WAYS = ["bytes"] * 9 + ["number"] * 3 + ["swap", "repeat", "cut", "append"] + ["journal"] * 3
 
 
 @lru_cache
@@ -81,6 +83,8 @@ class Change:
     def __init__(self, pages, seed, turn):
         self.by = random.Random("change %d %d %d" % (pages, seed, turn))
         self.data = bytearray(grown(pages))
+        if self.by.random() < 0.2:
+            self.data = bytearray(in_first_version(bytes(self.data), self.by.choice([0, 0, 1])))
         way = self.by.choice(WAYS)
         getattr(self, way)()
         self.title = "%d pages, turn %d of seed %d: %s" % (pages, turn, seed, way)
@@ -134,6 +138,20 @@ class Change:
             number = (len(self.data) // PAGE_BYTES).to_bytes(4, "big")
             self.data += page[:4] + number + page[8:] if self.by.random() < 0.5 else page
         self.count_pages()
+
+    def journal(self):
+        """Pages in a journal, with zeros in their places; and often other bytes of what a journal is told by, or of any page."""
+        count = len(self.data) // PAGE_BYTES
+        pages = {page // PAGE_BYTES: bytes(self.data[page : page + PAGE_BYTES]) for page in (self.page() for _ in range(count // 2 + 1))}
+        for page in pages:
+            self.data[page * PAGE_BYTES : (page + 1) * PAGE_BYTES] = bytes(PAGE_BYTES)
+        self.data = bytearray(with_journal(bytes(self.data), pages))
+        match self.by.choice(["none", "told", "bytes"]):
+            case "told":
+                place = self.by.choice([self.by.randrange(64, 76), count * PAGE_BYTES + self.by.randrange(4 * len(pages))])
+                self.data[place] ^= 1 << self.by.randrange(8)
+            case "bytes":
+                self.bytes()
 
     def count_pages(self):
         if self.by.random() < 0.5 and len(self.data) >= PAGE_BYTES:

@@ -6,8 +6,9 @@
 The program runs with an address space of so many megabytes, over a file and without one. It is sent the lines of a load
 (bench/load.py), an overlay, a total and a SELECT of all, and then the rows and a total of some routes. Each line is
 answered, as by the slow machine after the lines that were accepted, or by 90, and by 91 where it is the disk in memory that
-wants it; and the status is 0. The file that is left has to hold what was accepted, by the slow reader of files. The load has
-10,000 lines by default, and 100,000 with --all. It prints for each run how many lines were refused, what is not as wanted, and at last `N passed, M failed`, counted in runs.
+wants it; and the status is 0. The file that is left has to hold what was accepted, by the slow reader of files; where the end is
+refused by 90 too, as it may be, what was accepted up to some line. The load has 10,000 lines by default, and 100,000 with --all. It
+prints for each run how many lines were refused, what is not as wanted, and at last `N passed, M failed`, counted in runs.
 """
 
 import os
@@ -16,6 +17,7 @@ import subprocess
 import sys
 import tempfile
 from functools import partial
+from typing import NamedTuple
 
 from harness import Wrong, expect, parser_of, summary
 from programs import PROGRAM, ROOT, replies_of, scratch_folder
@@ -33,7 +35,7 @@ LEAST_ROOM = 24  # megabytes in which it starts wherever it is built
 ROUTES, EACH_ROUTE = 100, 20  # of so many routes one is asked for at the end
 LONGEST = 600  # seconds
 
-NO_START = b"roadseg: ERR 90 out of memory\n"
+NO_MEMORY = b"roadseg: ERR 90 out of memory\n"
 EXHAUSTED, DISK = b"90 out of memory\n", b"91 disk\n"
 
 
@@ -50,20 +52,27 @@ def limited(room):
     resource.setrlimit(resource.RLIMIT_AS, (int(room * MB), int(room * MB)))
 
 
+class Run(NamedTuple):
+    """The replies of a run, and whether its end was refused."""
+
+    replies: list
+    is_cut: bool
+
+
 def run(words, lines, room, file):
-    """The replies of a run, or none where there is too little room to start."""
+    """A run, or none where there is too little room to start."""
     command = [words.program, "run", *(["--file", file] if file else [])]
     with tempfile.TemporaryFile(dir=words.folder) as sent, tempfile.TemporaryFile(dir=words.folder) as out:
         sent.write(b"".join(lines))
         sent.seek(0)
         done = subprocess.run(command, stdin=sent, stdout=out, stderr=subprocess.PIPE, preexec_fn=partial(limited, room), timeout=LONGEST)
         out.seek(0)
-        replies = replies_of(out.read())
-        if (done.returncode, done.stderr, replies) == (1, NO_START, []) and room < LEAST_ROOM:
+        replies, is_exhausted = replies_of(out.read()), (done.returncode, done.stderr) == (1, NO_MEMORY)
+        if is_exhausted and not replies and room < LEAST_ROOM:
             return None
-        if (done.returncode, done.stderr) != (0, b""):
+        if (done.returncode, done.stderr) != (0, b"") and not (is_exhausted and file):
             raise Wrong("it ends with status %d and says %r" % (done.returncode, done.stderr))
-        return replies
+        return Run(replies, is_exhausted)
 
 
 def refused_by(line, fault):
@@ -71,8 +80,8 @@ def refused_by(line, fault):
 
 
 def judged(lines, replies, faults):
-    """The slow machine after the lines that were accepted, and how many were refused by each fault."""
-    machine, refused = Machine(), dict.fromkeys(faults, 0)
+    """The slow machine after the lines that were accepted, which these are, and how many were refused by each fault."""
+    machine, accepted, refused = Machine(), [], dict.fromkeys(faults, 0)
     if len(replies) != len(lines):
         raise Wrong("%d lines are answered by %d replies" % (len(lines), len(replies)))
     for line, reply in zip(lines, replies):
@@ -81,7 +90,17 @@ def judged(lines, replies, faults):
             refused[fault] += 1
         else:
             expect("%.100r" % line, reply, machine.answer(line[:-1]))
-    return machine, refused
+            accepted.append(line)
+    return machine, accepted, refused
+
+
+def machine_with(changes, lines):
+    """The slow machine after so many changes by these lines."""
+    machine = Machine()
+    for line in lines:
+        if machine.changes < changes:
+            machine.answer(line[:-1])
+    return machine
 
 
 def judge(words, room, is_over_file):
@@ -90,14 +109,16 @@ def judge(words, room, is_over_file):
     file = os.path.join(words.folder, "file %g" % room) if is_over_file else None
     if file:
         subprocess.run([words.program, "create", "--file", file], check=True)
-    replies = run(words, lines, room, file)
-    if replies is None:
+    done = run(words, lines, room, file)
+    if done is None:
         return "no room to start"
-    machine, refused = judged(lines, replies, [EXHAUSTED] if file else [EXHAUSTED, DISK])
+    machine, accepted, refused = judged(lines, done.replies, [EXHAUSTED] if file else [EXHAUSTED, DISK])
     if file:
-        expect_same_answers(machine_at(file), machine, (b"0 SELECT pave", b"0 EXPLAIN pave"))
+        stored = machine_at(file)
+        machine = machine_with(stored.changes, accepted) if done.is_cut else machine
+        expect_same_answers(stored, machine, (b"0 SELECT pave", b"0 EXPLAIN pave"))
     told = ", ".join("%d refused %s" % (count, fault.split(b" ")[0].decode()) for fault, count in refused.items())
-    return "%d lines, %s" % (len(lines), told)
+    return "%d lines, %s%s" % (len(lines), told, ", and the end" if done.is_cut else "")
 
 
 def rooms_of(text):

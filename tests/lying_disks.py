@@ -14,7 +14,7 @@ program, has the disk do one of these from time to time, and be honest in betwee
   answers what the slow reader of files says of the bytes that are there, and then all answers are the slow machine's in that
   state: where only questions were asked, in the state of before.
 - `torn writes`: a write does its first half and fails. The line in whose step that was so is refused by 91, and answered when
-  it is sent again.
+  it is sent again, after others or at once.
 - `full`: the disk has no room past so many pages. A line for which a write had no room is refused by 91; once there is room
   it is answered.
 
@@ -33,7 +33,7 @@ from programs import PROGRAM, scratch_folder
 from refusing import HONEST, OTHER_BYTES, WELL, ZEROS, Lie, Program, build
 from slow_file import read
 from slow_machine import Machine
-from slow_pages import PAGE_BYTES, Pages, as_closed
+from slow_pages import PAGE_BYTES, Pages
 from stored_machine import ChangingMachine, expect_same_answers, machine_of
 from wide_rows import WIDE_TABLE, measure, wide_row
 
@@ -131,7 +131,6 @@ class Trial:
 
     def judge(self, count):
         """Sends so many lines, and then closes the file."""
-        self.ask_honest(b"0 SAVE")  # the file is open then
         while self.told["lines"] < count:
             for _ in range(self.by.randrange(HONEST_LINES)):
                 self.ask_honest(self.lines.next())
@@ -157,6 +156,8 @@ class Trial:
         self.told["false"] += 1
         expect("%r where a call is false" % line, reply, line.split(b" ")[0] + b" ERR " + fault)
         self.run.lie(HONEST)
+        for _ in range(self.by.randrange(3)):
+            self.ask_honest(self.lines.next())
         self.ask_honest(line)
 
     def lying(self):
@@ -205,7 +206,7 @@ class Zeros(Trial):
 
 class TornWrites(Trial):
     def lying(self):
-        self.run.lie(Lie(torn_write=self.by.choice([1, 1, 2, 3, 10, 100])))
+        self.run.lie(Lie(torn_write=self.by.choice([1, 1, 2, 3, 5, 10, 20, 40])))
         for _ in range(self.by.randrange(LYING_LINES)):
             self.ask_unless(self.lines.next(), b"91 disk\n")
         self.ask_unless(b"0 " + self.by.choice([b"SAVE", b"REOPEN"]), b"91 disk\n")
@@ -214,7 +215,7 @@ class TornWrites(Trial):
 class Full(Trial):
     def lying(self):
         pages = len(self.program.bytes_left()) // PAGE_BYTES
-        self.run.lie(Lie(room=self.by.choice([pages, pages, pages + 1, max(1, pages - self.by.randrange(1, 100))])))
+        self.run.lie(Lie(room=self.by.choice([pages, pages + self.by.randrange(40), max(1, pages - self.by.randrange(1, 100))])))
         for _ in range(self.by.randrange(LYING_LINES)):
             self.ask_unless(self.lines.next(), b"91 disk\n")
         self.ask_unless(b"0 " + self.by.choice([b"SAVE", b"REOPEN"]), b"91 disk\n")
@@ -256,7 +257,7 @@ class OtherBytes(Trial):
 
     def reopen(self, has_changes):
         reply = self.ask(b"0 REOPEN")
-        found = read(as_closed(self.program.bytes_left()))
+        found = read(self.program.bytes_left())
         expect("REOPEN (%s)" % found.why, reply, b"0 OK 0\n" if found.state else b"0 ERR 94 damaged file\n")
         if not has_changes:
             self.machine.answer(b"0 REOPEN")

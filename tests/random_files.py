@@ -1,5 +1,5 @@
 """Pseudo-random files by a seed: sound ones with something changed, in their bytes, their fields, their pages or what
-they say.
+they say, or with some of their pages in a journal.
 
 The same seed and turn give the same file each time. About a quarter of the files stand for a state.
 """
@@ -10,6 +10,7 @@ from copy import copy
 from functools import partial
 
 from file_writer import LIVING, PAGE_BYTES, Alignment, Index, Record, Referent, Route, View, written
+from slow_checkpoint import pages_of, with_journal
 from whole_files import SOUND
 
 NUMBERS = [0, 1, 2, 3, 4, 6, 7, 16, 20, 63, 64, 127, 128, 255, 256, 1_000, 4_080, 4_081, 4_095, 4_096, 10_000]
@@ -52,7 +53,7 @@ class RandomFile:
         self.by = random.Random("file %d %d" % (seed, turn))
         self.name = self.by.choice(["inserted"] * 3 + ["various"] * 6 + ["empty"])
         self.way, change = self.by.choice(
-            [("bytes", self.bytes), ("fields", self.fields), ("fields", self.fields), ("pages", self.pages)]
+            [("bytes", self.bytes), ("fields", self.fields), ("fields", self.fields), ("pages", self.pages), ("a journal", self.journal)]
             + [("what it says", self.said)] * 4
         )
         self.description = SOUND[self.name]()
@@ -68,7 +69,8 @@ class RandomFile:
         said.inner_entries = self.by.choice([3, 4, 100])
         said.catalogue_bytes = self.by.choice([30, 100, 4_080, 4_080])
         said.free = self.by.choice([0, 0, 1, 3])
-        said.flag = self.by.choice([0] * 20 + [1, 2, 255])
+        said.version = self.by.choice([2, 2, 1])
+        said.flag = self.by.choice([0] * 8 + [1, 2, 255] if said.version == 1 else [0] * 40 + [1])
         said.last_bytes = bytes(self.by.choice([0] * 10 + [1, 4_096]))
         if self.by.random() < 0.3:
             for table in said.tables:
@@ -126,6 +128,20 @@ class RandomFile:
                 data[one + 2_000 : one + 2_000 + 8] = self.by.randbytes(8)
             case "grow":
                 data += page
+        return bytes(data)
+
+    def journal(self):
+        """Some pages in a journal, with anything in their places, and now and then a byte changed where the journal is told or lies."""
+        data = bytes(written(self.description).data)
+        pages = pages_of(data)
+        copied = sorted(self.by.sample(range(len(pages)), self.by.randrange(1, len(pages) + 1)))
+        for page in self.by.sample(copied, self.by.randrange(len(copied) + 1)):
+            data = data[: page * PAGE_BYTES] + self.by.randbytes(PAGE_BYTES) + data[(page + 1) * PAGE_BYTES :]
+        first = len(pages) + self.by.choice([0, 0, 0, 1, 2])
+        data = bytearray(with_journal(data, {page: pages[page] for page in copied}, first, self.by.choice([1] * 9 + [0])))
+        if self.by.random() < 0.5:
+            place = self.by.choice([self.by.randrange(64, 76), first * PAGE_BYTES + self.by.randrange(4 * len(copied) + 4)])
+            data[place] = self.by.choice([0, 1, 2, data[place] ^ (1 << self.by.randrange(8))])
         return bytes(data)
 
     # What a file says.

@@ -7,22 +7,22 @@ A growth asks the C library for memory; a device call reads, writes, syncs or sh
 library loaded before it (refusing.c) that refuses one of them, in each run another one: the first, the second, and so on up
 to as many as there are in a run in which none is refused. PATH is `crates/roadseg/out/roadseg` by default. Conversations are
 held in three ways: in memory; over a file that was just created; and over the file that the conversation left, where its
-queries are asked again. And files are created.
+queries are asked again, and one of them where that file has to be recovered, or is of version 1. And files are created.
 
 - A line is answered as wanted. Or one line of a run is refused, the one in whose step something was refused: by 90 for a
   growth, or by 91 where it was the disk in memory that asked for it; by 91 for a device call, which has to be told. Then
   the line before it, where it changed nothing, is answered as before, and each query of the conversation as in a run that was
   sent only what comes before the refused line. Sent again, the line is answered as wanted, and so is all that follows.
-- Where the program can't start it says so, with status 1, and answers nothing. The file is what it was, and a further run
-  answers all.
-- Where it can't close the file it says so, with status 1. A further run refuses the file by 94 or 95, or, where the flag is
-  not set, answers each query as before, or as after a front of the lines, whose state by the slow machine the file has then.
+- Where the program can't start it says so, with status 1, and answers nothing. The file has the state that it had, and its bytes too
+  where nothing had to be written; and a further run answers all.
+- Where it can't close the file it says so, with status 1. A further run answers each query as before, or as after a front of the
+  lines, whose state by the slow machine the file has then: it has what was saved.
 - Else it ends with status 0, and a further run answers each query as before.
-- Where it can't create a file it says so, with status 1. What is left is refused, or is the file that was to be.
+- Where it can't create a file it says so, with status 1. What is left is refused by 94, or is the file that was to be.
 - With all reads and writes of the file cut short nothing changes, neither a reply nor a byte of the file that is left.
 
 MOST says which conversations are taken, and how many growths and device calls of each way are refused, evenly spread where
-that isn't each. Of the first line in whose step more pages are written home than may be held each device call is refused.
+that isn't each. Of the first line in whose step more pages are written than may be held so many device calls are refused beside.
 --worked takes the worked conversations (worked.py), of which each growth and each device call is refused. --all takes all
 conversations, and so is taken one that is named: each growth and each device call is refused, or of long ones fewer. --most
 says how many at the most. It prints how refusals were told, what is not as wanted, and at last
@@ -42,8 +42,9 @@ from conversations import FOLDER, exchanges_of
 from harness import Wrong, expect, parser_of, summary
 from programs import PROGRAM, Ended, scratch_folder
 from refusing import NOTHING, WELL, Counts, Program, Refusal, build
+from slow_checkpoint import after_opening, being_written, in_first_version
 from slow_file import read
-from slow_pages import FLAG_PLACE
+from slow_journal import has_open_gate
 from stored_machine import ChangingMachine, contents_of, machine_of
 from worked import WORKED
 
@@ -51,7 +52,10 @@ FAULTS_SHOWN = 20
 FORKING = multiprocessing.get_context("fork")  # what is to be done is not sent to the processes: they begin with it
 RUNS_OF_A_TASK = 25
 SHORT = 1_000  # bytes of a short read or write
-MOST_HELD = 1_024  # changed pages: a step that finds more writes them home before it begins
+MOST_HELD = 1_024  # changed pages: a step that finds more makes a checkpoint before it begins
+MOST_BESIDE = 1_100  # device calls of the first such step
+FEW_QUERIES = 1  # are asked where the opening alone differs
+MOST_OF_OPENINGS = 500  # growths, and device calls, of such a way
 
 
 # The conversations that are taken, and how many growths, and how many device calls, of each way are refused at the most.
@@ -69,7 +73,14 @@ MOST = {
 # How many lines the runs of one way send in all where every conversation is taken.
 MOST_LINES = 300_000
 
-WAYS = {"memory": "in memory", "file": "over a new file", "again": "its queries over the file that it left"}
+WAYS = {
+    "memory": "in memory",
+    "file": "over a new file",
+    "again": "its queries over the file that it left",
+    "recovered": "a query over the file that it left, which was being written",
+    "first version": "a query over the file that it left, in version 1",
+}
+OPENINGS = ("recovered", "first version")
 
 # The kinds of calls that may be half done, or done, before they fail.
 HALVES = {"write": "half a write", "cut": "cut that is done"}
@@ -77,11 +88,13 @@ HALVES = {"write": "half a write", "cut": "cut that is done"}
 EXHAUSTED = b"roadseg: ERR 90 out of memory\n"
 DISK_FAULT = b"roadseg: ERR 91 disk\n"
 DAMAGED = b"roadseg: ERR 94 damaged file\n"
-NOT_CLOSED = b"roadseg: ERR 95 file not closed\n"
 
 # The commands that change nothing where they are accepted, and the refusals of lines that are no text with a session.
 QUERY = re.compile(rb"[0-9]+ +(SELECT|TOTAL|TRANSLATE|EXPLAIN) ")
 NO_COMMAND = re.compile(rb"0 ERR [123] ")
+
+# The commands by which all that was accepted is kept.
+SAVING = re.compile(rb"[0-9]+ +(SAVE|REOPEN)\r?\n")
 
 
 # Conversations.
@@ -133,18 +146,13 @@ class Script:
         return self.known[place]
 
 
-def is_answered_over(program, lines, faults):
-    """Whether a further run over the file answers these lines; else it has to refuse the file with one of these faults."""
+def expect_answered(program, lines):
+    """A further run over the file answers these lines."""
     with program.run(program.file()) as run:
         replies = run.ask_all([line.sent for line in lines])
-        ended = run.end()
-    if ended in [Ended(1, b"", fault) for fault in faults]:
-        expect("replies from a file that is refused", b"".join(replies), b"")
-        return False
-    expect("the end of a further run", ended, WELL)
+        expect("the end of a further run", run.end(), WELL)
     for line, reply in zip(lines, replies):
         expect("%s in a further run" % (line,), reply, line.wanted)
-    return True
 
 
 class Held:
@@ -153,8 +161,8 @@ class Held:
     def __init__(self, script, way, lines, data=None):
         self.script, self.way, self.lines, self.data = script, way, lines, data
         self.name = "%s, %s" % (script.name, WAYS[way])
-        self.tail = b"" if way == "again" else script.tail
-        self.counts, self.left = None, None  # of a run in which nothing is refused
+        self.tail = script.tail if way in ("memory", "file") else b""
+        self.counts = None  # of a run in which nothing is refused
         self.growths_after, self.calls_after = [], []  # each line, in that run
 
     def is_over_file(self):
@@ -172,14 +180,13 @@ class Held:
                 self.calls_after.append(run.counts().calls())
             expect("the end", run.end(self.tail), WELL)
             self.counts = run.counts()
-        self.left = program.bytes_left() if self.is_over_file() else None
-        return self.left
+        return program.bytes_left() if self.is_over_file() else None
 
     def flushing_calls(self):
-        """The numbers of the device calls of the first line that writes home more pages than may be held, where one does."""
+        """The numbers of the device calls of the first line that writes more pages than may be held, where one does: so many of them."""
         for before, after in itertools.pairwise(self.calls_after):
             if after - before > MOST_HELD:
-                return range(before + 1, after + 1)
+                return [before + number for number in numbers_of(after - before, MOST_BESIDE)]
         return []
 
     def left_by_short_calls(self, program):
@@ -197,17 +204,22 @@ class Held:
 
     def queries_at(self, program, place):
         """The queries of the conversation, each with its reply where just the lines before this place were sent."""
-        return self.script.queries_at(program, len(self.script.lines) if self.way == "again" else place)
+        return self.script.queries_at(program, place if self.way in ("memory", "file") else len(self.script.lines))
 
-    def place_written_before(self, left):
-        """The place of the line before which the slow machine has the state of the file that is left, but for cursors."""
+    def kept_in(self, left):
+        """The place of the line before which the slow machine has the state of the file that is left, but for cursors, and how many
+        changes it lacks: none of them was kept by a line."""
         found, machine, place = read(left), machine_of(read(self.data).state, ChangingMachine), 0
         expect("why the file that is left is none", found.why, None)
         while machine.changes < found.state.accepted and place < len(self.lines):
             machine.answer(self.lines[place].sent.removesuffix(b"\n"))
             place += 1
         expect("the state before line %d" % place, contents_of(machine_of(found.state)), contents_of(machine))
-        return place
+        for line in self.lines[place:]:
+            machine.answer(line.sent.removesuffix(b"\n"))
+            if SAVING.match(line.sent):
+                expect("how many changes %s had kept" % (line,), machine.changes, found.state.accepted)
+        return place, machine.changes - found.state.accepted
 
     def faults(self, refusal):
         """What may be told where this is refused."""
@@ -275,12 +287,16 @@ class Judge:
         self.note(how)
 
     def judge_start(self):
-        """The program can't start. It has answered nothing, and the file is what it was."""
+        """The program can't start. It has answered nothing, and the file has the state that it had."""
         self.judge_fault(self.run.end(), "at the start")
         if not self.held.is_over_file():
             return
-        expect("the file", self.program.bytes_left() == self.held.data, True)
-        expect("whether the file is opened", is_answered_over(self.program, self.held.lines, []), True)
+        left, data = self.program.bytes_left(), self.held.data
+        if data == after_opening(data, True):
+            expect("whether the file is what it was", left == data, True)
+        else:
+            expect("whether the file has the state that it had", read(left).state == read(data).state, True)
+        expect_answered(self.program, self.held.lines)
 
     def judge_end(self):
         """The program ends by itself. Where nothing was refused before, something is now."""
@@ -295,19 +311,15 @@ class Judge:
             self.judge_left(ended == WELL)
 
     def judge_left(self, is_well):
-        """The file that is left is closed, as it has to be where all is well, and answered from as before; or it is refused. Where
-        its writing failed before the flag was set, it has the state after a front of the lines, and is answered from as there."""
-        left, place = self.program.bytes_left(), len(self.held.lines)
-        is_closed = left[FLAG_PLACE] == 0
-        expect("whether the file is closed", is_closed or not is_well, True)
-        if is_closed and not is_well and left != self.held.left:
-            place = self.held.place_written_before(left)
-            self.how += ", as written before"
-        queries = self.held.queries_at(self.program, place)
-        is_answered = is_answered_over(self.program, queries, [DAMAGED, NOT_CLOSED])
-        expect("whether the file is answered from", is_answered, is_closed)
-        if not is_well:
-            self.how += ", the file closed" if is_closed else ", the file not closed"
+        """The file that is left is answered from as before where all is well. Else it has the state after a front of the lines, and is
+        answered from as there."""
+        place = len(self.held.lines)
+        if is_well:
+            expect("whether the gate is closed", has_open_gate(self.program.bytes_left()), False)
+        else:
+            place, lacks = self.held.kept_in(self.program.bytes_left())
+            self.how += ", what was saved kept" if lacks else ", all kept"
+        expect_answered(self.program, self.held.queries_at(self.program, place))
 
 
 class Creation:
@@ -350,10 +362,11 @@ class Creation:
             return "no file left"
         with program.run(program.file()) as run:
             ended = run.end()
-        if ended in [Ended(1, b"", fault) for fault in (DAMAGED, NOT_CLOSED)]:
+        if ended == Ended(1, b"", DAMAGED):
             return "what is left refused"
         expect("a run over what is left", ended, WELL)
-        expect("whether what is left is the file that was to be", program.bytes_left() == self.data, True)
+        left = program.bytes_left()  # of which more may be left where it could not be cut
+        expect("whether what is left is the file that was to be", left[: len(self.data)] == self.data, True)
         return "the file left"
 
 
@@ -407,10 +420,16 @@ def ways_of(script):
     left = over_file.count(program)
     expect("whether short calls leave the same file", over_file.left_by_short_calls(program) == left, True)
     yield over_file
-    again = Held(script, "again", script.queries_at(program, len(script.lines)), left)
-    if again.lines:
-        again.count(program)
-        yield again
+    queries = script.queries_at(program, len(script.lines))
+    for way, some, data in (
+        ("again", queries, left),
+        ("recovered", queries[:FEW_QUERIES], being_written(creation.data, left)),
+        ("first version", queries[:FEW_QUERIES], in_first_version(left)),
+    ):
+        if some:
+            held = Held(script, way, some, data)
+            held.count(program)
+            yield held
 
 
 def prepare(scripts, jobs):
@@ -435,7 +454,8 @@ def most_of(turn, words):
         return EACH
     if words.is_all:
         return min(words.most, max(1, MOST_LINES // len(turn.lines)))
-    return min(words.most, EACH if words.is_worked else MOST[turn.script.name])
+    most = EACH if words.is_worked else MOST[turn.script.name]
+    return min(words.most, most, MOST_OF_OPENINGS if turn.way in OPENINGS else EACH)
 
 
 def numbers_of(count, most):

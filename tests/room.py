@@ -17,7 +17,7 @@ from typing import NamedTuple
 from harness import Wrong, bytes_at, expect, run_tests
 from programs import Ended, Running, built
 from slow_file import read
-from slow_pages import PAGE_BYTES, Pages, as_closed
+from slow_pages import PAGE_BYTES, Pages
 from wide_rows import WIDE_TABLE, measure
 
 LONGEST = 600  # seconds that a reply or an end may take
@@ -198,7 +198,7 @@ def what_another_cursor_sees_stays(program):
 
 def dead_records(program):
     """How many records of the file are dead, as its directory says, which the slow reader compares with the records themselves."""
-    data = as_closed(bytes_at(program.file()))
+    data = bytes_at(program.file())
     expect("why the file is none", read(data).why, None)
     return Pages(data).directory().dead()
 

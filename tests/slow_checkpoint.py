@@ -1,13 +1,29 @@
-"""The slow checkpoint: the calls of a disk by which changed pages get into a file of version 2, and those of its recovery.
+"""The slow checkpoint: the calls of a disk by which changed pages get into a file of version 2, and those of its recovery; and the
+bytes of a file after it was opened: `after_opening(data, is_sound)`.
 
 It is written from the format alone and shares nothing with the crates. A journal is written by it where it is sound, and by hand
 where it isn't (written_journals.py); what a program does is compared with it (crash_order.py).
 """
 
 from device_calls import SYNC, Cut, Write, applied
-from slow_journal import GATE, NO_PAGES, OPEN, PAGE_BYTES, has_open_gate, page_at, pages_of_numbers, places_of
+from slow_journal import (
+    FIRST_VERSION,
+    GATE,
+    LAST_VERSION,
+    NO_PAGES,
+    OPEN,
+    PAGE_BYTES,
+    VERSION,
+    Damaged,
+    has_open_gate,
+    page_at,
+    pages_of_numbers,
+    places_of,
+)
+from slow_pages import Pages
 
 CLOSED = 0
+FILLING = 165
 FIELDS = 68
 PAGE_COUNT = slice(32, 36)
 
@@ -79,6 +95,47 @@ def recovery(data):
 def recovered(data):
     """The bytes of a file after recovery."""
     return applied(data, recovery(data))
+
+
+def migration(data):
+    """What makes a closed file of version 1 one of version 2: a checkpoint of page 0 with that format."""
+    first = page_at(data, places_of(data), 0)
+    page = first[: VERSION.start] + number(LAST_VERSION) + first[VERSION.stop :]
+    count = int.from_bytes(first[PAGE_COUNT], "big")
+    return checkpoint(count, {0: page}, count)
+
+
+def in_first_version(data, flag=0):
+    """The bytes of a file with the format of version 1, and its flag, which is 0 where it was closed."""
+    return applied(data, [Write(VERSION.start, number(FIRST_VERSION) + bytes([flag])), Write(GATE, bytes(NO_PAGES.stop - GATE))])
+
+
+def being_written(old, new):
+    """The bytes of a file whose checkpoint was stopped while its pages went home: it has the later ones in its journal, and page 0 and
+    the other changed ones are torn."""
+    copies = {0: new[:PAGE_BYTES], **changed_pages(old, new)}
+    opened = with_journal(old, copies, len(new) // PAGE_BYTES)
+    return applied(opened, [Write(PAGE_BYTES * page, bytes([FILLING]) * GATE) for page in copies])
+
+
+def is_recovered(data):
+    """Whether page 0, as the journal gives it, is a header that fits, so that a file is recovered before other pages are read."""
+    try:
+        return Pages(data) is not None
+    except Damaged:
+        return False
+
+
+def after_opening(data, is_sound):
+    """The bytes of a file that was opened, if it is sound, or refused."""
+    if is_sound and places_of(data).version == FIRST_VERSION:
+        return applied(data, migration(data))
+    return recovered(data) if is_recovered(data) else data
+
+
+def is_at_rest(data):
+    """Whether a file is as a checkpoint leaves it: its gate is closed, and nothing is past its pages."""
+    return not has_open_gate(data) and len(data) == PAGE_BYTES * int.from_bytes(data[PAGE_COUNT], "big")
 
 
 def with_journal(data, copies, first=None, gate=OPEN):

@@ -4,9 +4,10 @@
     python3 tests/slow_file.py FILE [--why]
 
 It prints `OK` and then the state, or `ERR 94` where the file stands for none, or `ERR 95` where it is of version 1, stands for
-one and was not closed. Of a file whose gate is open it reads the pages of the journal (slow_journal.py). It is written from the format and the definitions alone and shares nothing with the crates: pages are
-read by slow_pages.py, the catalogue by slow_catalogue.py, and what a view's text says, and its checks, are those of the
-slow machine. A file may be longer than the pages that it tells.
+one and was not closed. Of a file whose gate is open it reads the pages of the journal (slow_journal.py). It is written from the
+format and the definitions alone and shares nothing with the crates: pages are read by slow_pages.py, the catalogue by
+slow_catalogue.py, and what a view's text says, and its checks, are those of the slow machine. A file may be longer than the pages
+that it tells.
 
 The state is a line for each thing, measures in thousandths, all names in the order of their bytes:
 

@@ -2,8 +2,7 @@
 
 It is written from the format alone and shares nothing with the crates. All numbers are big-endian. The version is decided before
 anything else: a gate that is open means version 2, whatever else page 0 says. A journal that isn't well formed is `Damaged`.
-
-The program opens version 1 alone until it makes checkpoints, and so does the slow reader unless `crashes.py` has it `know` more.
+Where the gate is closed, bytes 64 to 75 of page 0 may be any others, also in version 1: its first checkpoint may have been stopped.
 """
 
 from typing import NamedTuple
@@ -16,15 +15,6 @@ NO_PAGES = slice(64, 76)  # of page 0: the gate and the journal's fields, which 
 OPEN = 1
 NUMBER_BYTES = 4
 MOST_DISK_PAGES = 2**32 - 1
-
-
-known = FIRST_VERSION
-
-
-def know(version):
-    """From now on files of versions up to this one are read."""
-    global known
-    known = version
 
 
 class Damaged(Exception):
@@ -92,19 +82,17 @@ def journal_of(data):
 def places_of(data):
     """The version of a file of one page or more, and where its pages lie."""
     want(len(data) >= PAGE_BYTES, "a file has a page")
-    if known == FIRST_VERSION or not has_open_gate(data):
-        version = number_of(data[VERSION])
-        want(version <= known, "a version that is known")
-        return Places(version, {}, [])
+    if not has_open_gate(data):
+        return Places(number_of(data[VERSION]), {}, [])
     journal = journal_of(data)
     copied = {number: journal.copies + place for place, number in enumerate(journal.numbers)}
     return Places(LAST_VERSION, copied, [(NO_PAGES.start, NO_PAGES.stop), journal.given()])
 
 
 def page_at(data, places, number):
-    """The bytes of a page; of page 0 in version 2 with zeros where no map of pages has bytes."""
+    """The bytes of a page; of page 0 with zeros where no map of pages has bytes."""
     start = places.start(number)
     page = data[start : start + PAGE_BYTES]
-    if number == 0 and places.version == LAST_VERSION:
+    if number == 0:
         return page[: NO_PAGES.start] + bytes(NO_PAGES.stop - NO_PAGES.start) + page[NO_PAGES.stop :]
     return page

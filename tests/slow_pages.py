@@ -34,11 +34,6 @@ def is_zeros(data):
     return data == bytes(len(data))
 
 
-def as_closed(data):
-    """The bytes of a file, with the flag that says that it is closed."""
-    return data[:FLAG_PLACE] + b"\0" + data[FLAG_PLACE + 1 :]
-
-
 class Page(NamedTuple):
     """A page that fits its kind and number: what is counted in it, the next page, and the bytes after its header, if something is
     counted no more of them than that."""

@@ -3,7 +3,7 @@
 Each is a description (file_writer.py), changed where it has to be wrong, or the bytes of a sound file with some fields
 written anew (field_files.py). They are the empty file that is created, the closed file of a table whose row was
 inserted four times, and one with something of each kind; legal oddities of these; and files that are wrong in one way
-each. What is wanted is OK, ERR 94 for a file that stands for no state, ERR 95 for one that was not closed.
+each. What is wanted is OK, ERR 94 for a file that stands for no state, ERR 95 for one of version 1 that was not closed.
 """
 
 from field_files import changed_fields
@@ -467,37 +467,48 @@ WRONG = {
 
 
 def described(group, changes, wanted):
-    """The file with the inserted row, changed in each of these ways, and once more in a file that was not closed."""
+    """The file with the inserted row, changed in each of these ways; and so in version 1, where it was closed and where not."""
     for name, change in changes.items():
         said = inserted()
         change(said)
         yield File("%s: %s" % (group, name), bytes(written(said).data), wanted)
+        said.version = 1
+        yield File("%s, version 1: %s" % (group, name), bytes(written(said).data), wanted)
         said.flag = 1
         left_open = NOT_CLOSED if wanted == OK else wanted
         yield File("%s, not closed: %s" % (group, name), bytes(written(said).data), left_open)
 
 
-def damaged():
-    """The damages that the format's own text speaks of."""
-    file, first = written(empty()), written(inserted())
+def damaged(version, left_open):
+    """The damages that the format's own text speaks of, in a version, with what is answered where the flag is set."""
+    file, first = in_version(version, empty), in_version(version, inserted)
     data = bytes(file.data)
-    yield File("the empty file", data, OK)
-    yield File("cut to two pages", data[: 2 * PAGE_BYTES], DAMAGED)
-    yield File("cut inside its third page", data[:-1], DAMAGED)
-    yield File("a fourth page of zeros", data + bytes(PAGE_BYTES), OK)
-    yield File("format 3", file.with_fields({"file format": 3}), DAMAGED)
-    yield File("flag 2", file.with_fields({"file flag": 2}), NOT_CLOSED)
-    yield File("flag 1", file.with_fields({"file flag": 1}), NOT_CLOSED)
-    lost = file.with_fields({"file flag": 1, "file first catalogue": 7})
-    yield File("flag 1 and the first catalogue page 7", lost, DAMAGED)
-    yield File("100 bytes", data[:100], DAMAGED)
-    yield File("no bytes", b"", DAMAGED)
-    yield File("a birth of 99", first.with_fields({"route 0 born": 99}), DAMAGED)
+    for name, other, wanted in (
+        ("the empty file", data, OK),
+        ("cut to two pages", data[: 2 * PAGE_BYTES], DAMAGED),
+        ("cut inside its third page", data[:-1], DAMAGED),
+        ("a fourth page of zeros", data + bytes(PAGE_BYTES), OK),
+        ("format 3", file.with_fields({"file format": 3}), DAMAGED),
+        ("flag 2", file.with_fields({"file flag": 2}), left_open),
+        ("flag 1", file.with_fields({"file flag": 1}), left_open),
+        ("flag 1 and the first catalogue page 7", file.with_fields({"file flag": 1, "file first catalogue": 7}), DAMAGED),
+        ("100 bytes", data[:100], DAMAGED),
+        ("no bytes", b"", DAMAGED),
+        ("a birth of 99", first.with_fields({"route 0 born": 99}), DAMAGED),
+    ):
+        yield File("version %d: %s" % (version, name), other, wanted)
+
+
+def in_version(version, make):
+    said = make()
+    said.version = version
+    return written(said)
 
 
 def files():
     """All files."""
-    yield from damaged()
+    yield from damaged(1, NOT_CLOSED)
+    yield from damaged(2, DAMAGED)
     yield from described("odd", ODD, OK)
     yield from described("wrong", WRONG, DAMAGED)
     yield from changed_fields(written(various()))

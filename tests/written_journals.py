@@ -7,9 +7,9 @@ lie at odd places. `changed_bytes()` are the files with each byte changed of a s
 
 from typing import NamedTuple
 
-from device_calls import Write, applied
+from device_calls import SYNC, Write, applied
 from file_writer import DAMAGED, NOT_CLOSED, OK, Description, Record, Referent, Route, Table, written
-from slow_checkpoint import FIELDS, changed_pages, fields_of, number, with_journal
+from slow_checkpoint import FIELDS, changed_pages, fields_of, migration, number, with_journal
 from slow_journal import GATE, NO_PAGES, OPEN, PAGE_BYTES, VERSION
 from whole_files import various
 
@@ -95,11 +95,21 @@ def sound_files(pair):
     yield "a journal in a longer file", opened + bytes([165]) * 5_000, AFTER
     for gate in range(256):
         yield "a gate of %d" % gate, with_bytes(opened, GATE, bytes([gate])), AFTER if gate == OPEN else BEFORE
-    filled = bytes([165]) * (NO_PAGES.stop - NO_PAGES.start)
-    yield "a closed gate and other bytes", with_bytes(closed, GATE, filled), BEFORE
-    copied = with_bytes(closed[:PAGE_BYTES], GATE, filled)
+    yield "a closed gate and other bytes", with_bytes(closed, GATE, other_bytes()), BEFORE
+    copied = with_bytes(closed[:PAGE_BYTES], GATE, other_bytes())
     yield "a copy of page 0 with other bytes where the gate is", with_journal(closed, {**pair.copies, 0: copied}), AFTER
     yield from home_pages_torn(pair)
+
+
+def other_bytes():
+    """What may be where the gate and the journal's fields are."""
+    return bytes([165]) * (NO_PAGES.stop - NO_PAGES.start)
+
+
+def with_first_journal(data):
+    """A closed file of version 1 whose first checkpoint was stopped before it wrote the gate."""
+    calls = list(migration(data))
+    return applied(data, calls[: calls.index(SYNC)])
 
 
 def all_pages(data):
@@ -182,8 +192,11 @@ def other_files(pair):
     yield "version 1", first_version, OK, BEFORE
     yield "version 1 with a flag", with_bytes(first_version, FLAG, b"\1"), NOT_CLOSED, None
     yield "version 1 with an open gate", with_bytes(first_version, GATE, b"\1"), DAMAGED, None
-    for place in (GATE, NO_PAGES.start + 1, FIELDS, NO_PAGES.stop - 1):
-        yield "version 1 with another byte at %d" % place, with_bytes(first_version, place, b"\2"), DAMAGED, None
+    yield "version 1 with a first checkpoint that was stopped", with_first_journal(first_version), OK, BEFORE
+    yield "version 1 with a gate that was being written", with_bytes(with_first_journal(first_version), GATE, b"\2"), OK, BEFORE
+    yield "version 1 with other bytes in place of a gate", with_bytes(first_version, GATE, other_bytes()), OK, BEFORE
+    yield "version 1 with another byte before the gate", with_bytes(first_version, NO_PAGES.start - 1, b"\1"), DAMAGED, None
+    yield "version 1 with another byte after the journal's fields", with_bytes(first_version, NO_PAGES.stop, b"\1"), DAMAGED, None
     yield "version 1 with a journal", with_journal(first_version, pair.copies), DAMAGED, None
     yield "version 1 with a journal of page 0", with_journal(first_version, page_0_copied(pair)), OK, AFTER
 

@@ -1,5 +1,5 @@
 -- The machine that an engine is once it came to be, was saved, read anew or handed back.
-use Rattle.std.proofs.Common.{◌≡◌, ◌∙◌, ◌≤◌, ◌⊎◌, ℕ, List, [], None, Result, Ok, Some, arith, ap, inl, inr, refl, subst, sym}
+use Rattle.std.proofs.Common.{◌≡◌, ◌∙◌, ◌≤◌, ◌⊎◌, ℕ, List, [], None, Result, Ok, Err, Some, arith, ap, inl, inr, refl, subst, sym}
 use Rattle.std.proofs.Math.Path.{fun_ext}
 use Rattle.std.specs.FinMap.{get-empty}
 use Rattle.rs_catalog.specs.Names.{map_values}
@@ -13,7 +13,7 @@ use Rattle.rs_disk.specs.declared.disk.Disk as disk
 use Rattle.rs_engine.specs.Ahead.{AreAhead}
 use Rattle.rs_engine.specs.declared.engine.open.OpenCursors.{OpenCursors}
 use Rattle.rs_file.specs.Contents.{Contents}
-use Rattle.rs_engine.specs.Files.{OpensMachine, machine_with}
+use Rattle.rs_engine.specs.Files.{IsDurable, Opens, OpensMachine, Saves, machine_with}
 use Rattle.rs_engine.specs.Kept.{EngineState, IsMachine, seen_at, with_cursors}
 use Rattle.rs_engine.specs.Serving.{IsServed}
 use Rattle.rs_engine.proofs.Machines.{counted_later, counted_rose, stands_from}
@@ -22,14 +22,16 @@ use Rattle.rs_machine.specs.Served.{Machine, done, refused}
 use Rattle.rs_machine.specs.State.{Cursors, RowText, State, fresh, no_cursors}
 use Rattle.rs_machine.specs.Step.{Effect, counted, without_cursors}
 use Rattle.rs_pager.specs.Opened.{CountsFault}
+use Rattle.rs_pager.proofs.Recovered.{recovered-at, recovered-err, recovered-ok}
 use Rattle.rs_pages.specs.declared.pages.TheConstants.{GREATEST_LIMIT}
 use Rattle.rs_refusal.specs.Counts.{Rose}
 use Rattle.rs_refusal.specs.declared.refusal.Refusal.{Refusal}
 use Rattle.rs_file_meaning.specs.Meant.{IsMeant}
 use Rattle.rs_refusal.specs.declared.refusal.Refusal.TheVariants as refusal
 use Rattle.rs_store_source.specs.Standing.{Stands}
-use Rattle.rs_store_source.specs.Calls.{OpensState}
+use Rattle.rs_store_source.specs.Calls.{Opens as StoreOpens, OpensState, Saves as StoreSaves}
 use Rattle.rs_store_source.specs.Kept.{Keeps, StandsIn, StoreState}
+use Rattle.rs_store_source.specs.Lasting.{IsLast}
 
 abbrev pub engine_with : {D : Type 0} → StoreState D → ℕ → OpenCursors → EngineState D
 engine_with store oldest cursors = record { store = store; oldest = oldest; cursors = cursors }
@@ -123,6 +125,40 @@ module _ {D : Type 0} (d : disk.Ghosts D) where
     stood = opens.stood;
     is = begins engine opens.state none (accepted_over store engine over low) (lawful limit content opens.state opens.stood) (over_store store engine opens.state over low opens.stands)
         (subst (λ (one : StoreState D). one.pager.limit ≤ GREATEST_LIMIT) (sym over) within);
+    last = subst (λ (one : StoreState D). IsLast d one.pager opens.state) (sym over) opens.last;
+  }
+
+  -- a disk is recovered, whether an engine came to be over it or it was handed back
+  pub opens_ok : (limit : ℕ) (old : D) (store : StoreState D) (engine : EngineState D) → engine.store ≡ store → OpensMachine d limit (d.seen old) engine → StoreOpens d limit old (Ok store)
+      → Opens d limit old (Ok engine)
+  opens_ok limit old store engine over opens from = record {
+    opens = opens;
+    damaged = tt;
+    left_open = tt;
+    recovers = λ map pages are gives. recovered-at d {E = D × Refusal} pages (Ok engine) old store.pager.disk engine.store.pager.disk (ap (λ (one : StoreState D). one.pager.disk) over)
+        (recovered-ok d {E = D × Refusal} {E' = D × Refusal} pages store engine old store.pager.disk (from.recovers map pages are gives));
+  }
+
+  pub opens_err : (limit : ℕ) (old back : D) (why : Refusal) → StoreOpens d limit old (Err (back, why)) → Opens d limit old (Err (back, why))
+  opens_err limit old back why from = record {
+    opens = tt;
+    damaged = from.damaged;
+    left_open = from.left_open;
+    recovers = λ map pages are gives.
+        recovered-err d {T = StoreState D} {T' = EngineState D} pages (back, why) (back, why) old back (from.recovers map pages are gives);
+  }
+
+  -- ---- an engine that was saved
+
+  -- its store was
+  pub saves_by : {T E : Type 0} (old new : EngineState D) (answer : T) → StoreSaves d {E = E} (Ok tt) old.store new.store → d.is_honest new.store.pager.disk ≡ d.is_honest old.store.pager.disk
+      → new.store.pager.limit ≡ old.store.pager.limit → Saves d (Ok answer) old new
+  saves_by old new answer saves honesty limit = record {
+    stands = λ machine is. subst (λ (state : State). Stands new.store.pager.limit (d.seen new.store.pager.disk) state) (sym (without old machine is)) (saves.stands old.oldest is.state is.stands);
+    last = λ machine is. subst (IsLast d new.store.pager) (sym (without old machine is)) (saves.last old.oldest is.state is.stands);
+    durable = λ machine is. subst (λ (state : State). IsDurable d new.store.pager.limit state new.store.pager.disk) (sym (without old machine is)) (saves.durable old.oldest is.state is.stands);
+    honesty = honesty;
+    limit = limit;
   }
 
   -- ---- an engine whose store keeps what it kept

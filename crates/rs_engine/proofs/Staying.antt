@@ -22,7 +22,9 @@ use Rattle.rs_file_parts.specs.Parts.{IsAsItWas}
 use Rattle.rs_machine.specs.Served.{Reply, done, refused}
 use Rattle.rs_machine.specs.State.{RowText, State}
 use Rattle.rs_methods.specs.declared.position.Method.{Method}
+use Rattle.rs_pager.specs.Lasts.{Lasts}
 use Rattle.rs_pager.specs.Maps.{KeepsChanges}
+use Rattle.rs_pager.proofs.Lasting.{goes_on}
 use Rattle.rs_refusal.specs.declared.refusal.Refusal.{Refusal}
 use Rattle.rs_store_source.specs.Calls.{KeepsStore, Reopens}
 use Rattle.rs_store_source.specs.Changing.{LeavesStore, StillHolds}
@@ -148,21 +150,41 @@ module _ {D : Type 0} (d : disk.Ghosts D) where
 
   -- ---- a call that leaves all cursors
 
+  lasts_same : (engine : EngineState D) → Lasts d engine.store.pager engine.store.pager
+  lasts_same engine = (passes_refl d engine.store).keeps.endures.lasts
+
   pub leaves_at_once : {T : Type 0} (engine : EngineState D) (result : Result T Refusal) → LeavesCursors d result engine engine
-  leaves_at_once engine result = record { held = refl; refused = err_always result (stays_same engine) }
+  leaves_at_once engine result = record { held = refl; refused = err_always result (stays_same engine); lasts = lasts_same engine; limit = refl }
 
   -- it was refused after a read
   pub leaves_read : {T : Type 0} (old new : EngineState D) (result : Result T Refusal) → ReadsEngine d old new → LeavesCursors d result old new
   leaves_read old new result reads =
       let held : new.cursors.held ≡ old.cursors.held = ap (λ (cursors : OpenCursors). cursors.held) reads.cursors in
-      record { held = held; refused = err_always result (stays_read old new reads.store reads.oldest held) }
+      record {
+        held = held;
+        refused = err_always result (stays_read old new reads.store reads.oldest held);
+        lasts = reads.store.keeps.endures.lasts;
+        limit = reads.store.keeps.limit;
+      }
 
   -- it was served after a read
+  lasts_after : (old read new : EngineState D) → ReadsEngine d old read → Lasts d read.store.pager new.store.pager → Lasts d old.store.pager new.store.pager
+  lasts_after old read new reads lasts =
+      let before = reads.store.keeps.endures in
+      goes_on d old.store.pager read.store.pager new.store.pager before.tied before.committed before.lasts lasts
+
   pub leaves_after : {T : Type 0} (old read new : EngineState D) (result : Result T Refusal) → ReadsEngine d old read → LeavesCursors d result read new → LeavesCursors d result old new
-  leaves_after old read new (Ok answer) reads leaves = record { held = leaves.held ∙ ap (λ (cursors : OpenCursors). cursors.held) reads.cursors; refused = tt }
+  leaves_after old read new (Ok answer) reads leaves = record {
+    held = leaves.held ∙ ap (λ (cursors : OpenCursors). cursors.held) reads.cursors;
+    refused = tt;
+    lasts = lasts_after old read new reads leaves.lasts;
+    limit = leaves.limit ∙ reads.store.keeps.limit;
+  }
   leaves_after old read new (Err why) reads leaves = record {
     held = leaves.held ∙ ap (λ (cursors : OpenCursors). cursors.held) reads.cursors;
     refused = stays_after old read new reads leaves.refused;
+    lasts = lasts_after old read new reads leaves.lasts;
+    limit = leaves.limit ∙ reads.store.keeps.limit;
   }
 
   -- the store refused a change
@@ -170,26 +192,36 @@ module _ {D : Type 0} (d : disk.Ghosts D) where
       → (new.cursors ≡ old.cursors) × (new.oldest ≡ old.oldest) → (result : Result T Refusal) → LeavesCursors d result was new
   leaves_refused {old = old} {new = new} same leaves beside result =
       let held : new.cursors.held ≡ old.cursors.held = ap (λ (cursors : OpenCursors). cursors.held) beside.0 in
-      subst (λ (e : EngineState D). LeavesCursors d result e new) same (record { held = held; refused = err_always result (stays_unchanged old new leaves beside.1 held) })
+      subst (λ (e : EngineState D). LeavesCursors d result e new) same
+      (record { held = held; refused = err_always result (stays_unchanged old new leaves beside.1 held); lasts = leaves.lasts; limit = leaves.limit })
 
   -- the store refused to write what is held
   pub leaves_unsaved : {T : Type 0} {old was new : EngineState D} → old ≡ was → KeepsStore d old.store new.store → StillHolds d old.store.pager new.store.pager
       → (new.cursors ≡ old.cursors) × (new.oldest ≡ old.oldest) → (result : Result T Refusal) → LeavesCursors d result was new
   leaves_unsaved {old = old} {new = new} same keeps holds beside result =
       let held : new.cursors.held ≡ old.cursors.held = ap (λ (cursors : OpenCursors). cursors.held) beside.0 in
-      subst (λ (e : EngineState D). LeavesCursors d result e new) same (record { held = held; refused = err_always result (stays_unsaved old new keeps holds beside.1 held) })
+      subst (λ (e : EngineState D). LeavesCursors d result e new) same
+      (record { held = held; refused = err_always result (stays_unsaved old new keeps holds beside.1 held); lasts = keeps.endures.lasts; limit = keeps.limit })
 
-  -- it was done
-  pub leaves_made : {T : Type 0} {old was new : EngineState D} {answer : T} → old ≡ was → new.cursors ≡ old.cursors → LeavesCursors d (Ok answer) was new
-  leaves_made {old = old} {new = new} {answer = answer} same beside =
-      subst (λ (e : EngineState D). LeavesCursors d (Ok answer) e new) same (record { held = ap (λ (cursors : OpenCursors). cursors.held) beside; refused = tt })
+  -- the store made a change
+  pub leaves_made : {T U : Type 0} {may : State → Type 0} {made : U} {answer : T} {old was new : EngineState D} → old ≡ was → LeavesStore d may {T = U} (Ok made) old.store new.store
+      → new.cursors ≡ old.cursors → LeavesCursors d (Ok answer) was new
+  leaves_made {answer = answer} {old = old} {new = new} same leaves beside =
+      subst (λ (e : EngineState D). LeavesCursors d (Ok answer) e new) same
+      (record { held = ap (λ (cursors : OpenCursors). cursors.held) beside; refused = tt; lasts = leaves.lasts; limit = leaves.limit })
+
+  -- the store wrote what is held
+  pub leaves_saved : {T : Type 0} {answer : T} {old was new : EngineState D} → old ≡ was → KeepsStore d old.store new.store → new.cursors ≡ old.cursors → LeavesCursors d (Ok answer) was new
+  leaves_saved {answer = answer} {old = old} {new = new} same keeps beside =
+      subst (λ (e : EngineState D). LeavesCursors d (Ok answer) e new) same
+      (record { held = ap (λ (cursors : OpenCursors). cursors.held) beside; refused = tt; lasts = keeps.endures.lasts; limit = keeps.limit })
 
   -- ---- OPEN and CLOSE
 
   -- it was refused at once
   pub stays_at_once : (session : ℕ) (command : CommandTree) (engine : EngineState D) (why : Refusal) → WhereReading command (KeepsChanges engine.store.pager engine.store.pager)
       → StaysOnAnyDisk d session command (refused why) engine engine
-  stays_at_once session command engine why changes = record { refused = stays_same engine; cursors = tt; changes = changes }
+  stays_at_once session command engine why changes = record { refused = stays_same engine; cursors = tt; changes = changes; lasts = lasts_same engine; limit = refl }
 
   module _ (session : ℕ) (name : Name) (query : QueryTree) (method : Method) where
     -- no cursor has come
@@ -199,6 +231,8 @@ module _ {D : Type 0} (d : disk.Ghosts D) where
       refused = stays_read engine (record engine { cursors = record { held = held; ahead = engine.cursors.ahead } }) (passes_refl d engine.store) refl same;
       cursors = tt;
       changes = changes-refl engine.store.pager;
+      lasts = lasts_same engine;
+      limit = refl;
     }
 
     -- the cursor has come
@@ -210,14 +244,21 @@ module _ {D : Type 0} (d : disk.Ghosts D) where
       refused = tt;
       cursors = record { cursor = cursor; method_is = printed; version = version; route = start.0; given = start.1; held = put; none_ahead = none };
       changes = changes-refl engine.store.pager;
+      lasts = lasts_same engine;
+      limit = refl;
     }
 
   -- ---- FETCH
 
   -- it was refused after a read
   pub fetch_stays : (session : ℕ) (name : Name) (rows : ℕ) (why : Refusal) (old read : EngineState D) → ReadsCursor d old read → StaysOnAnyDisk d session (tree.fetch name rows) (refused why) old read
-  fetch_stays session name rows why old read reads =
-      record { refused = stays_read old read reads.store reads.oldest reads.held; cursors = tt; changes = reads.store.changes }
+  fetch_stays session name rows why old read reads = record {
+    refused = stays_read old read reads.store reads.oldest reads.held;
+    cursors = tt;
+    changes = reads.store.changes;
+    lasts = reads.store.keeps.endures.lasts;
+    limit = reads.store.keeps.limit;
+  }
 
   -- the cursor has moved
   pub fetch_moves : (session : ℕ) (name : Name) (rows : ℕ) (lines : List RowText) (count : ℕ) (old read new : EngineState D) → ReadsCursor d old read → HasCursor session name old
@@ -235,6 +276,8 @@ module _ {D : Type 0} (d : disk.Ghosts D) where
           ∙ ap (λ (held : HeldCursors). held_at session (names.insert (held_of held session) name (record there.cursor { place = place })) (held_of held)) reads.held;
     };
     changes = subst (λ (store : StoreState D). KeepsChanges old.store.pager store.pager) (sym same) reads.store.changes;
+    lasts = subst (λ (store : StoreState D). Lasts d old.store.pager store.pager) (sym same) reads.store.keeps.endures.lasts;
+    limit = ap (λ (store : StoreState D). store.pager.limit) same ∙ reads.store.keeps.limit;
   }
 
   -- ---- a step
@@ -251,7 +294,13 @@ module _ {D : Type 0} (d : disk.Ghosts D) where
       → LeavesCursors d result old new → (new.cursors.held ≡ old.cursors.held → CursorsAfter session (tree_of given) old new)
       → WhereReading (tree_of given) (KeepsChanges old.store.pager new.store.pager) → StaysOnAnyDisk d session (tree_of command) reply old new
   stays_counted {result = result} is same leaves after changes =
-      stays_as is same (record { refused = refused_count _ result leaves.refused; cursors = done_count result (after leaves.held); changes = changes })
+      stays_as is same (record {
+        refused = refused_count _ result leaves.refused;
+        cursors = done_count result (after leaves.held);
+        changes = changes;
+        lasts = leaves.lasts;
+        limit = leaves.limit;
+      })
 
   -- it only reads
   pub stays_listed : {session : ℕ} {old new : EngineState D} {reply : Reply} {command given : Command} (result : Result (Vec (String Global) Global) Refusal) → command ≡ given → reply ≡ rows_reply_of result
@@ -259,10 +308,17 @@ module _ {D : Type 0} (d : disk.Ghosts D) where
       → (KeepsChanges old.store.pager new.store.pager → WhereReading (tree_of given) (KeepsChanges old.store.pager new.store.pager)) → StaysOnAnyDisk d session (tree_of command) reply old new
   stays_listed {old = old} {new = new} result is same reads after changes =
       let held : new.cursors.held ≡ old.cursors.held = ap (λ (cursors : OpenCursors). cursors.held) reads.cursors in
-      stays_as is same (record { refused = refused_rows result (stays_read old new reads.store reads.oldest held); cursors = done_rows result (after held); changes = changes reads.store.changes })
+      stays_as is same (record {
+        refused = refused_rows result (stays_read old new reads.store reads.oldest held);
+        cursors = done_rows result (after held);
+        changes = changes reads.store.changes;
+        lasts = reads.store.keeps.endures.lasts;
+        limit = reads.store.keeps.limit;
+      })
 
   -- it is REOPEN
   pub stays_reopened : {session : ℕ} {old new : EngineState D} {reply : Reply} {command : Command} (result : Result (Unit {0}) Refusal) → command ≡ Reopen → reply ≡ nothing_reply_of result
-      → OnErr result (StaysAsItWas d old new) → OnOk result (HasNone new) → StaysOnAnyDisk d session (tree_of command) reply old new
-  stays_reopened result is same stays none =
-      stays_as is same (record { refused = refused_nothing _ result stays; cursors = done_nothing _ result none; changes = tt })
+      → OnErr result (StaysAsItWas d old new) → OnOk result (HasNone new) → Lasts d old.store.pager new.store.pager → new.store.pager.limit ≡ old.store.pager.limit
+      → StaysOnAnyDisk d session (tree_of command) reply old new
+  stays_reopened result is same stays none lasts limit =
+      stays_as is same (record { refused = refused_nothing _ result stays; cursors = done_nothing _ result none; changes = tt; lasts = lasts; limit = limit })

@@ -1,16 +1,23 @@
 -- How an engine comes to be, is saved, read anew and put away.
-use Rattle.std.specs.Prelude.{◌≡◌, ◌≢◌, ℕ, true, IfErr, IfOk, MatchResult, OnOk, Result, Ok, Err}
+use Rattle.std.specs.Prelude.{◌≡◌, ◌≢◌, ◌≤◌, ℕ, IfErr, IfOk, IsTrue, MatchResult, OnOk, Result, Ok, Err}
 use Rattle.rs_disk.specs.Content.{Content}
 use Rattle.rs_disk.specs.declared.disk.Disk as disk
 use Rattle.rs_engine.specs.Kept.{EngineState, IsMachine}
+use Rattle.rs_journal.specs.FilePages.{FilePages}
+use Rattle.rs_journal.specs.Journal.{Recovers}
+use Rattle.rs_journal.specs.Recovery.{Recovered}
 use Rattle.rs_machine.specs.Served.{Machine, Reply, done}
 use Rattle.rs_machine.specs.State.{State, fresh}
 use Rattle.rs_machine.specs.Step.{without_cursors}
+use Rattle.rs_pager.specs.Lasts.{Lasts}
+use Rattle.rs_pager.specs.Maps.{ArePages}
+use Rattle.rs_pages.specs.PageMap.{PageMap}
 use Rattle.rs_refusal.specs.declared.refusal.Refusal.{Refusal}
 use Rattle.rs_refusal.specs.declared.refusal.Refusal.TheVariants as refusal
 use Rattle.rs_store_source.specs.Standing.{Stands}
 use Rattle.rs_store_source.specs.Calls.{IsLeftOpen, IsNoFileOfAny}
 use Rattle.rs_store_source.specs.Kept.{StoreState}
+use Rattle.rs_store_source.specs.Lasting.{IsLast, LeavesOneOf}
 use Rattle.rs_syntax.specs.Tree.{CommandTree, reopen, save}
 
 -- ---- stores of engines
@@ -42,51 +49,68 @@ module _ {D : Type 0} (d : disk.Ghosts D) where
     full_refusals = engine.store.pager.full_refusals;
   }
 
+  -- each image that a crash may leave of the disk stands for the state
+  abbrev pub IsDurable : ℕ → State → D → Type 0
+  IsDurable limit state disk = IsTrue (d.keeps_crashes disk) → (image : Content) → d.may_leave disk image → Stands limit image state
+
   -- ---- an engine that comes to be
 
-  -- What is made of an honest disk: an engine in the state at the beginning. The disk isn't found damaged.
+  -- What is made of an honest disk: an engine in the state at the beginning, which is kept last. The disk isn't found damaged.
   pub record Creates (result : Result (EngineState D) (D × Refusal)) : Type 0 where
+    pub last : IfOk result (λ engine. IsLast d engine.store.pager fresh)
     pub fresh : IfOk result (λ engine. IsMachine d engine (machine_with fresh engine))
     pub sound : IfErr result (λ refused. refused.1 ≢ refusal.DamagedFile)
 
-  -- the disk stood for a state, and the engine is in it
+  -- the disk stood for a state, in which the engine is, and which is kept last
   pub record OpensMachine (limit : ℕ) (content : Content) (engine : EngineState D) : Type 0 where
     pub state : State
     pub stood : Stands limit content state
     pub is : IsMachine d engine (machine_with state engine)
+    pub last : IsLast d engine.store.pager state
 
-  -- What an honest disk is opened as. It is as it was, whatever is answered.
+  -- What an honest disk is opened as. One of version 2 is recovered, whatever is answered.
   pub record Opens (limit : ℕ) (old : D) (result : Result (EngineState D) (D × Refusal)) : Type 0 where
     pub opens : IfOk result (OpensMachine limit (d.seen old))
     pub damaged : IfErr result (λ refused. refused.1 ≡ refusal.DamagedFile → IsNoFileOfAny limit (d.seen old))
     pub left_open : IfErr result (λ refused. refused.1 ≡ refusal.FileNotClosed → IsLeftOpen limit (d.seen old))
-    pub seen : MatchResult result (λ engine. d.seen engine.store.pager.disk ≡ d.seen old) (λ refused. d.seen refused.0 ≡ d.seen old)
+    pub recovers : (map : PageMap) (pages : FilePages) → ArePages map pages → Recovers (d.seen old) pages
+        → MatchResult result (λ engine. Recovered d pages result old engine.store.pager.disk) (λ refused. Recovered d pages result old refused.0)
 
   -- ---- an engine in use
 
-  -- The disk is synced, and stands for the state that the engine was in, without its cursors. Its limit stays, and so does its disk's
-  -- honesty.
+  -- The disk stands for the state that the engine was in, without its cursors, and which is kept last: so does each image that a crash
+  -- may leave. Its limit stays, and so does its disk's honesty.
   pub record Saves {T : Type 0} (result : Result T Refusal) (old new : EngineState D) : Type 0 where
     pub stands : (machine : Machine) → IsMachine d old machine → OnOk result (Stands new.store.pager.limit (d.seen new.store.pager.disk) (without_cursors machine.state))
-    pub synced : OnOk result (d.is_synced new.store.pager.disk ≡ true)
+    pub last : (machine : Machine) → IsMachine d old machine → OnOk result (IsLast d new.store.pager (without_cursors machine.state))
+    pub durable : (machine : Machine) → IsMachine d old machine → OnOk result (IsDurable new.store.pager.limit (without_cursors machine.state) new.store.pager.disk)
     pub honesty : d.is_honest new.store.pager.disk ≡ d.is_honest old.store.pager.disk
     pub limit : new.store.pager.limit ≡ old.store.pager.limit
 
-  -- SAVE and REOPEN leave the disk synced, and it stands for the state that the engine was in, without its cursors.
+  -- After SAVE and REOPEN the disk stands for the state that the engine was in, without its cursors, and which is kept last: so does each
+  -- image that a crash may leave.
   pub record SavesWhereAsked (tree : CommandTree) (reply : Reply) (old new : EngineState D) : Type 0 where
     pub stands : (machine : Machine) → IsMachine d old machine
         → WhereSaved tree reply (Stands new.store.pager.limit (d.seen new.store.pager.disk) (without_cursors machine.state))
-    pub synced : WhereSaved tree reply (d.is_synced new.store.pager.disk ≡ true)
+    pub last : (machine : Machine) → IsMachine d old machine → WhereSaved tree reply (IsLast d new.store.pager (without_cursors machine.state))
+    pub durable : (machine : Machine) → IsMachine d old machine
+        → WhereSaved tree reply (IsDurable new.store.pager.limit (without_cursors machine.state) new.store.pager.disk)
 
   -- ---- an engine that is put away
 
-  -- The disk stands for the state that the engine was in, without its cursors, and is synced. An engine that is handed back is the
-  -- machine that it was, but for the count of failures; whatever the disk is, it has the cursors that it had.
+  -- The disk stands for the state that the engine was in, without its cursors, and so does each image that a crash may leave; meanwhile
+  -- a crash left one that stands for the state kept last or for this one. An engine that is handed back is the machine that it was, but
+  -- for the count of failures; whatever the disk is, what lasts, lasts, and the engine has the cursors that it had.
   pub record Closes (old : EngineState D) (result : Result D (EngineState D × Refusal)) : Type 0 where
     pub stands : (machine : Machine) → IsMachine d old machine → IfOk result (λ disk. Stands old.store.pager.limit (d.seen disk) (without_cursors machine.state))
-    pub synced : IfOk result (λ disk. d.is_synced disk ≡ true)
+    pub durable : (machine : Machine) → IsMachine d old machine → IfOk result (IsDurable old.store.pager.limit (without_cursors machine.state))
+    pub meanwhile : (machine : Machine) (last : State) → IsMachine d old machine → IsLast d old.store.pager last → IsTrue (d.keeps_crashes old.store.pager.disk)
+        → old.store.pager.committed_fields.pages ≤ old.store.pager.limit
+        → IfOk result (λ disk. LeavesOneOf d old.store.pager.limit last (without_cursors machine.state) old.store.pager.disk disk)
+    pub keeping : IfOk result (λ disk. d.keeps_crashes disk ≡ d.keeps_crashes old.store.pager.disk)
     pub stays : (machine : Machine) → IsMachine d old machine
         → IfErr result (λ refused. IsMachine d refused.0 (record machine { failures = d.failures refused.0.store.pager.disk }))
+    pub lasts : IfErr result (λ refused. Lasts d old.store.pager refused.0.store.pager)
     pub cursors : IfErr result (λ refused. refused.0.cursors ≡ old.cursors)
     pub honesty : MatchResult result (λ disk. d.is_honest disk ≡ d.is_honest old.store.pager.disk) (λ refused. d.is_honest refused.0.store.pager.disk ≡ d.is_honest old.store.pager.disk)
     pub limit : IfErr result (λ refused. refused.0.store.pager.limit ≡ old.store.pager.limit)

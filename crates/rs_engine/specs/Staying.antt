@@ -12,6 +12,7 @@ use Rattle.rs_facts.specs.Fact.{Name}
 use Rattle.rs_file_parts.specs.Parts.{IsAsItWas}
 use Rattle.rs_machine.specs.Served.{Reply, done, refused}
 use Rattle.rs_methods.specs.declared.position.Method.{Method}
+use Rattle.rs_pager.specs.Lasts.{Lasts}
 use Rattle.rs_pager.specs.Maps.{KeepsChanges}
 use Rattle.rs_refusal.specs.declared.refusal.Refusal.{Refusal}
 use Rattle.rs_store_source.specs.Changing.{StillHolds}
@@ -81,7 +82,7 @@ module _ {D : Type 0} (d : disk.Ghosts D) where
 
   -- Each cursor of each session is as it was: its plan, its method, its version and its place. So are the oldest version that is looked
   -- at, what is open of the file, and the definitions and the referents in memory. Held changes are held still, or all of them have been
-  -- written and the disk is synced.
+  -- written.
   pub record StaysAsItWas (old new : EngineState D) : Type 0 where
     pub cursors : new.cursors.held ≡ old.cursors.held
     pub oldest : new.oldest ≡ old.oldest
@@ -91,13 +92,19 @@ module _ {D : Type 0} (d : disk.Ghosts D) where
     pub changes : StillHolds d old.store.pager new.store.pager
 
   -- Where a step is refused all stays as it was. Where it is accepted the cursors are those that its command leaves. A command that only
-  -- reads leaves the held changes, whatever it is answered.
+  -- reads leaves the held changes, whatever it is answered. Whatever it is, what lasts, lasts, and the limit stays: what a crash might
+  -- have left while the step ran was left before, or gives the pages kept last or the committed ones, and after it the one or the other
+  -- are kept last.
   pub record StaysOnAnyDisk (session : ℕ) (tree : CommandTree) (reply : Reply) (old new : EngineState D) : Type 0 where
     pub refused : WhereRefused reply (StaysAsItWas old new)
     pub cursors : WhereDone reply (CursorsAfter session tree old new)
     pub changes : WhereReading tree (KeepsChanges old.store.pager new.store.pager)
+    pub lasts : Lasts d old.store.pager new.store.pager
+    pub limit : new.store.pager.limit ≡ old.store.pager.limit
 
   -- the same of a call that leaves all cursors: one that changes the file, or writes what is held
   pub record LeavesCursors {T : Type 0} (result : Result T Refusal) (old new : EngineState D) : Type 0 where
     pub held : new.cursors.held ≡ old.cursors.held
     pub refused : OnErr result (StaysAsItWas old new)
+    pub lasts : Lasts d old.store.pager new.store.pager
+    pub limit : new.store.pager.limit ≡ old.store.pager.limit

@@ -227,15 +227,15 @@ pub fn explain(refusal: &Refusal) -> Explanation {
             mended: "the INSERT, after a REMOVE of what is no longer asked for",
         },
         Refusal::DamagedFile => Explanation {
-            meaning: "The file is not one that RoadSeg wrote, was changed since by something else, or was being written when the program was stopped or the disk was full.",
+            meaning: "The file is not one that RoadSeg wrote, or was changed or cut off since by something else.",
             look: "The backup. Nothing of a damaged file is read.",
             refused: "roadseg run --file notes.txt",
             mended: "roadseg run --file roads.seg",
         },
         Refusal::FileNotClosed => Explanation {
-            meaning: "The program was stopped while it wrote the file, which may have half of a change in it.",
-            look: "The backup, and the lines that were sent since. There is no crash safety yet.",
-            refused: "roadseg run --file roads.seg, after a run that was killed in a SAVE",
+            meaning: "An older program wrote the file and did not close it; it may have half of a change in it.",
+            look: "The backup, and the lines that were sent since.",
+            refused: "roadseg run --file old.seg, which an older program was writing when it was killed",
             mended: "roadseg run --file backup.seg",
         },
     }

@@ -56,8 +56,8 @@ pub record DumpsDisk (limit : ℕ) (content : Content) (table : Option Name) (om
 abbrev pub WantsDumping : Stop → Type 0
 WantsDumping stop = StopsWriting stop ⊎ (stop ≡ Refused refusal.NoSuchName) ⊎ ((why : Refusal) × (stop ≡ Refused why) × WantsOpening why)
 
--- The file was refused, and nothing was written. It is damaged only where the disk is a file of no state, closed or not, and was not closed
--- only where it is a file of some state and its flag is set.
+-- The file was refused, and no line was written. It is damaged only where the disk is a file of no state, closed or not, and was not closed
+-- only where it is a file of version 1 of some state and its flag is set.
 pub record RefusesDisk (limit : ℕ) (content : Content) (stop : Stop) (before after : Option (List ℕ)) : Type 0 where
   pub why : Refusal
   pub is : stop ≡ Refused why

@@ -25,8 +25,11 @@ use std::io::Write;
 
 /// Writes the lines that rebuild what the file on the disk holds, and says whether something was told and left out. The file is read and
 /// checked as a whole first: it is refused with 94 where it is damaged, with 95 where it was not closed, and with 90 or 91. Where one table
-/// is wanted that is not there, it is refused with 21. The disk is handed back as it was, whatever is answered. Of all, nothing is left out
-/// just where no alignment of the file's state is too long for a line and each view passes now the checks of its DEFINE line.
+/// is wanted that is not there, it is refused with 21. The disk is handed back, whatever is answered. Of all, nothing is left out just where
+/// no alignment of the file's state is too long for a line and each view passes now the checks of its DEFINE line.
+///
+/// Opening the disk may write to it: a file of version 2 is recovered, and one of version 1 that was closed becomes one of version 2. Where
+/// nothing is to be written, a disk that only shows is given.
 pub fn dump_disk<D: Disk, W: Write, E: Write>(
     alloc: Global,
     disk: D,
@@ -35,7 +38,6 @@ pub fn dump_disk<D: Disk, W: Write, E: Write>(
     errors: &mut E,
 ) -> (D, Result<bool, Stop>)
     ensures honesty { D.is_honest result.0 ≡ D.is_honest disk }
-    ensures seen { IsTrue (D.is_honest disk) → D.seen result.0 ≡ D.seen disk }
     ensures quiet { IfOk result.1 (λ lacks. lacks ≡ false → E.contents errors.new ≡ E.contents errors.old) }
     ensures dumps { IsTrue (D.is_honest disk) → IfOk result.1 (λ lacks.
         DumpsDisk GREATEST_LIMIT (D.seen disk) (option_map (λ t. t.now) wanted.entry.table) wanted.entry.omits_rows lacks (W.contents output.old) (W.contents output.new)) }

@@ -1,6 +1,6 @@
-//! The dump of a file: a disk is looked at and checked as a whole, and the lines that rebuild what it holds are written.
+//! The dump of a file: a disk is opened and checked as a whole, and the lines that rebuild what it holds are written.
 //!
-//! Nothing is written to the disk, not even its open flag.
+//! Opening a disk may recover it. Nothing is written to one that only shows.
 #![tactic(auto)]
 
 pub mod dumping;

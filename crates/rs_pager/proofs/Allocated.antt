@@ -21,7 +21,8 @@ use Rattle.rs_pager.specs.Maps.{working, pager_store, IsTied}
 use Rattle.rs_pager.specs.Found.{IsAtHand}
 use Rattle.rs_pager.specs.Taking.{FindsFree}
 use Rattle.rs_pager.proofs.Lent.{there, page-outside}
-use Rattle.rs_pager.proofs.Edited.{PutsCopy, with_changes, put-there, put-other, put-held}
+use Rattle.rs_pager.proofs.Edited.{PutsCopy, put-there, put-other, put-held}
+use Rattle.rs_pager.proofs.Keeping.{with_changes}
 use Rattle.rs_pager.proofs.Taken.{free-not_held}
 
 -- the fields of a file with this free list
@@ -83,13 +84,13 @@ none-held : (h : HeldPage) → ((page : List ℕ) → h.committed ≡ Some page 
 none-held h no_committed no_copy = none-of h.committed h.copy no_committed no_copy
 
 -- nothing is held past the last page
-pub none-past : {D : Type 0} (p : Paged D) (n : ℕ) → IsSound p.limit p.changes p.committed_fields p.working p.is_begun → p.working.pages ≤ n → held_change (held p n) ≡ None
+pub none-past : {D : Type 0} (p : Paged D) (n : ℕ) → IsSound p.limit p.changes p.committed_fields p.working p.is_begun p.under_way.stage → p.working.pages ≤ n → held_change (held p n) ≡ None
 none-past p n sound past = none-held (held p n) (λ page is. let inside = sound.committed_inside n page is in omega (arith, inside.1, past, sound.kept_room))
     (λ page is. let inside = sound.copied_inside n page is in omega (arith, inside.1, past))
 
 -- a page after the last
 pub last-allocated : {D : Type 0} (d : disk.Ghosts D) (p : Paged D) (kind : PageKind) (changes : Changes) → PutsBlank kind p.working.pages 0 p.changes changes
-    → IsSound p.limit p.changes p.committed_fields p.working p.is_begun → p.working.first_free ≡ 0 → p.working.pages < p.limit
+    → IsSound p.limit p.changes p.committed_fields p.working p.is_begun p.under_way.stage → p.working.first_free ≡ 0 → p.working.pages < p.limit
     → AllocatesPage (IsTied d p) kind p.working.pages (pager_store d p) (pager_store d (with_changes p changes (with_pages p.working (p.working.pages + 1))))
 last-allocated d p kind changes blank sound none_free room =
     let n = p.working.pages in

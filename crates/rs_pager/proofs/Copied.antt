@@ -10,6 +10,7 @@ use Rattle.rs_pages.specs.PageMap.{used_page}
 use Rattle.rs_pages.specs.Uses.{Lends, RefusesToEdit, RefusesToLend}
 use Rattle.rs_pages.proofs.Stores.{Lends-before, HoldsUsed-after, HasNoFit-before}
 use Rattle.rs_page_cache.specs.Changes.{Changes}
+use Rattle.rs_journal.specs.declared.stage.Stage.TheVariants.{Fresh}
 use Rattle.rs_pager.specs.Paged.{Paged, held}
 use Rattle.rs_pager.specs.Maps.{working, page_or_stored, pager_store, KeepsBelow, IsTied}
 use Rattle.rs_pager.specs.Below.{KeepsBelow-refl, KeepsBelow-trans}
@@ -17,7 +18,8 @@ use Rattle.rs_pager.specs.Copying.{CopiesPage, RefusesCopy, HasCopy, LacksCopy}
 use Rattle.rs_pager.specs.Found.{IsNotAtHand, IsNotLent}
 use Rattle.rs_disk.specs.Content.{Content}
 use Rattle.rs_pager.proofs.Lent.{page-outside}
-use Rattle.rs_pager.proofs.Edited.{PutsCopy, with_changes, put-committed, changes-below, put-edits, copy-edits, edits-after}
+use Rattle.rs_pager.proofs.Edited.{PutsCopy, put-committed, changes-below, put-edits, copy-edits, edits-after}
+use Rattle.rs_pager.proofs.Keeping.{with_changes}
 
 -- clean pages were read, and no call of the disk failed
 pub record Loaded {D : Type 0} (d : disk.Ghosts D) (old mid : Paged D) : Type 0 where
@@ -34,13 +36,13 @@ outside n pages out page content change used =
 
 module _ {D : Type 0} (d : disk.Ghosts D) (n : ℕ) where
   -- a new copy is put in place
-  pub copies-put : (p : Paged D) (page : List ℕ) (changes : Changes) → LacksCopy d n page p → PutsCopy n page p.changes changes
+  pub copies-put : (p : Paged D) (page : List ℕ) (changes : Changes) → p.under_way.stage ≡ Fresh → LacksCopy d n page p → PutsCopy n page p.changes changes
       → CopiesPage d n p (with_changes p changes p.working)
-  copies-put p page changes lacks puts = record {
+  copies-put p page changes fresh lacks puts = record {
     page = page;
     lends = lacks.lends;
     edits = put-edits d p n page changes puts lacks.lends.after lacks.lends.below;
-    keeps = changes-below d p changes p.working (put-committed n page p.changes changes puts);
+    keeps = changes-below d p changes p.working fresh (put-committed n page p.changes changes puts);
     failures = refl;
   }
 

@@ -13,11 +13,10 @@ use Rattle.rs_pages.proofs.Stores.{KeepsCounts-trans}
 use Rattle.rs_page_cache.specs.Changes.{Changes, held_at}
 use Rattle.rs_pager.specs.Paged.{Paged, IsSound, held}
 use Rattle.rs_pager.specs.Maps.{page_or_stored, pager_store, KeepsBelow, IsTied}
+use Rattle.rs_journal.specs.declared.stage.Stage.{Stage}
+use Rattle.rs_journal.specs.declared.stage.Stage.TheVariants.{Fresh}
+use Rattle.rs_pager.proofs.Keeping.{with_changes, kept-edited}
 use Rattle.rs_pager.proofs.Lent.{page-inside}
-
--- the changed pages and the working fields are others
-abbrev pub with_changes : {D : Type 0} → Paged D → Changes → FileHeader → Paged D
-with_changes p changes fields = record p { changes = changes; working = fields }
 
 -- of what is held, the working copy of one page alone is another: these bytes
 pub record PutsCopy (n : ℕ) (page : List ℕ) (old new : Changes) : Type 0 where
@@ -48,7 +47,7 @@ module _ (n : ℕ) (page : List ℕ) (old new : Changes) (puts : PutsCopy n page
 
 -- nothing but the working pages has changed
 module _ {D : Type 0} (d : disk.Ghosts D) (p : Paged D) (changes : Changes) (fields : FileHeader)
-    (same : (m : ℕ) → (held_at changes m).committed ≡ (held p m).committed) where
+    (fresh : p.under_way.stage ≡ Fresh) (same : (m : ℕ) → (held_at changes m).committed ≡ (held p m).committed) where
   pub changes-below : KeepsBelow d p (with_changes p changes fields)
   changes-below = record {
     tied = λ tied. record {
@@ -58,6 +57,8 @@ module _ {D : Type 0} (d : disk.Ghosts D) (p : Paged D) (changes : Changes) (fie
       first = tied.first;
       inside = λ m after below none. tied.inside m after below (sym (same m) ∙ none);
       header = tied.header;
+      kept = tied.kept;
+      is_kept = kept-edited d p changes fields fresh same tied.kept tied.is_kept;
     };
     committed = λ _. record { fields = refl; pages = λ m. ap (λ (o : Option (List ℕ)). page_or_stored p.committed_fields.pages o (d.seen p.disk) m) (same m) };
     committed_fields = refl;
@@ -65,7 +66,8 @@ module _ {D : Type 0} (d : disk.Ghosts D) (p : Paged D) (changes : Changes) (fie
     lacks = refl;
     honesty = refl;
     keeping = refl;
-    synced = refl;
+    under_way = refl;
+    kept = λ pages _ is. kept-edited d p changes fields fresh same pages is;
     unwritten = λ _. refl;
     crash = λ _. passes_none d.may_leave d.left_since Same p.disk (λ _. refl);
     most_clean = refl;
@@ -89,9 +91,9 @@ same-adds n limit old new same pos below within = record {
   others = λ m ne lt. omega (arith, lt, same);
 }
 
-pub put-sound : (n limit : ℕ) (page : List ℕ) (old new : Changes) (committed_fields before after : FileHeader) (begun : Bool) → begun ≡ true → PutsCopy n page old new
-    → AddsPage n limit before after → IsSound limit old committed_fields before begun → IsSound limit new committed_fields after begun
-put-sound n limit page old new committed_fields before after begun is puts adds sound = record {
+pub put-sound : (n limit : ℕ) (page : List ℕ) (old new : Changes) (committed_fields before after : FileHeader) (begun : Bool) (stage : Stage) → begun ≡ true → PutsCopy n page old new
+    → AddsPage n limit before after → IsSound limit old committed_fields before begun stage → IsSound limit new committed_fields after begun stage
+put-sound n limit page old new committed_fields before after begun stage is puts adds sound = record {
   directory = sound.directory;
   kept_room = omega (arith, sound.kept_room, adds.no_fewer);
   within = adds.within;
@@ -109,6 +111,7 @@ put-sound n limit page old new committed_fields before after begun is puts adds 
   ];
   same = λ shut. absurd (true≢false (sym is ∙ shut));
   no_copies = λ shut. absurd (true≢false (sym is ∙ shut));
+  begun_fresh = sound.begun_fresh;
 }
 
 -- the working page has other bytes

@@ -8,29 +8,29 @@ use Rattle.rs_disk.specs.declared.disk.Disk as disk
 use Rattle.rs_page.specs.declared.page.TheConstants.{PAGE_SIZE}
 use Rattle.rs_refusal.specs.declared.refusal.Refusal.{Refusal}
 use Rattle.rs_refusal.specs.declared.refusal.Refusal.TheVariants as refusal
-use Rattle.rs_page.specs.FileHeader.{IsFileHeader}
+use Rattle.rs_pager.specs.SecondHeader.{IsSecondHeader}
 use Rattle.rs_pages.specs.Held.{held_change}
 use Rattle.rs_pages.specs.Store.{Rests}
 use Rattle.rs_pages.specs.Lending.{RestsAfter}
 use Rattle.rs_page_cache.specs.Clean.{Clean, Loads}
 use Rattle.rs_page_cache.specs.Stored.{disk_page}
+use Rattle.rs_disk.specs.Reaches.{Reaches}
 use Rattle.rs_pager.specs.Paged.{Paged, held}
+use Rattle.rs_pager.proofs.Keeping.{with_clean, kept-read}
 use Rattle.rs_pager.specs.Maps.{page_or_stored, pager_store, KeepsBelow, IsTied}
-
--- the disk and the clean pages are others
-abbrev pub with_clean : {D : Type 0} → Paged D → D → Clean → Paged D
-with_clean p disk clean = record p { disk = disk; clean = clean }
 
 -- the clean page with this number may have been read
 pub record ReadsClean {D : Type 0} (d : disk.Ghosts D) (n : ℕ) (old : Paged D) (disk : D) (clean : Clean) : Type 0 where
   pub honesty : d.is_honest disk ≡ d.is_honest old.disk
   pub keeping : d.keeps_crashes disk ≡ d.keeps_crashes old.disk
-  pub synced : d.is_synced disk ≡ d.is_synced old.disk
   pub same : IsTrue (d.is_honest old.disk) → d.seen disk ≡ d.seen old.disk
   pub crash : IsTrue (d.keeps_crashes old.disk) → Passes d.may_leave d.left_since Same old.disk disk
   pub loads : IsTrue (d.is_honest old.disk) → Loads n (λ page. page ≡ disk_page (d.seen old.disk) n) old.clean clean
 
 module _ {D : Type 0} (d : disk.Ghosts D) (n : ℕ) (old : Paged D) (disk : D) (clean : Clean) (pos : 0 < n) (reads : ReadsClean d n old disk clean) where
+  clean-reaches : Reaches d Same old.disk disk
+  clean-reaches = record { honesty = reads.honesty; keeping = reads.keeping; reads = reads.same; images = reads.crash }
+
   clean-tied : IsTied d old → IsTied d (with_clean old disk clean)
   clean-tied tied =
       let seen : d.seen disk ≡ d.seen old.disk = reads.same tied.honest in
@@ -51,7 +51,9 @@ module _ {D : Type 0} (d : disk.Ghosts D) (n : ℕ) (old : Paged D) (disk : D) (
         };
         first = subst (λ (content : Content). PAGE_SIZE ≤ content.size) (sym seen) tied.first;
         inside = λ m after below none. subst (λ (content : Content). PAGE_SIZE * m + PAGE_SIZE ≤ content.size) (sym seen) (tied.inside m after below none);
-        header = λ same. subst (λ (content : Content). IsFileHeader (disk_page content 0) old.committed_fields) (sym seen) (tied.header same);
+        header = λ same. subst (λ (content : Content). IsSecondHeader (disk_page content 0) old.committed_fields) (sym seen) (tied.header same);
+        kept = tied.kept;
+        is_kept = kept-read d old disk clean clean-reaches tied.kept tied.is_kept;
       }
 
   pub clean-below : KeepsBelow d old (with_clean old disk clean)
@@ -66,7 +68,8 @@ module _ {D : Type 0} (d : disk.Ghosts D) (n : ℕ) (old : Paged D) (disk : D) (
     lacks = refl;
     honesty = reads.honesty;
     keeping = reads.keeping;
-    synced = reads.synced;
+    under_way = refl;
+    kept = λ pages _ is. kept-read d old disk clean clean-reaches pages is;
     unwritten = reads.same;
     crash = reads.crash;
     most_clean = refl;

@@ -10,13 +10,15 @@ use Rattle.rs_pages.specs.Lending.{RestsAfter, EditsAfter}
 use Rattle.rs_pages.specs.Uses.{Lends, RefusesToEdit}
 use Rattle.rs_pages.proofs.Stores.{Rests-refl}
 use Rattle.rs_page_cache.specs.Changes.{Changes, IsUsedCopy}
+use Rattle.rs_journal.specs.declared.stage.Stage.TheVariants.{Fresh}
 use Rattle.rs_pager.specs.Paged.{Paged, held}
 use Rattle.rs_pager.specs.Maps.{pager_store, KeepsBelow, IsTied}
 use Rattle.rs_pager.specs.Below.{KeepsBelow-refl, KeepsBelow-trans}
 use Rattle.rs_pager.specs.Copying.{CopiesPage, ReadiesCopy}
 use Rattle.rs_pager.specs.Found.{IsAtHand, FindsFit, IsNotLent}
 use Rattle.rs_pager.proofs.Lent.{there, fit-lends, free-not_lent, finds-change, some-is}
-use Rattle.rs_pager.proofs.Edited.{PutsCopy, AddsPage, same-adds, with_changes, put-committed, changes-below, put-edits, edits-twice}
+use Rattle.rs_pager.proofs.Edited.{PutsCopy, AddsPage, same-adds, put-committed, changes-below, put-edits, edits-twice}
+use Rattle.rs_pager.proofs.Keeping.{with_changes}
 
 -- a working copy is the change that is held
 copy-is_change : (h : HeldPage) (page : List ℕ) → h.copy ≡ Some page → held_change h ≡ Some page
@@ -85,14 +87,14 @@ module _ {D : Type 0} (d : disk.Ghosts D) (n : ℕ) where
     readied-below = omega (arith, readies.below, ap (λ (f : FileHeader). f.pages) readies.edits.fields)
 
     -- what was written into the copy is the working page
-    pub readied-edits : (page : List ℕ) (changes : Changes) → PutsCopy n page mid.changes changes
+    pub readied-edits : (page : List ℕ) (changes : Changes) → mid.under_way.stage ≡ Fresh → PutsCopy n page mid.changes changes
         → EditsAfter (IsTied d) (pager_store d) (KeepsBelow d) n page old (with_changes mid changes mid.working)
-    readied-edits page changes puts = record {
+    readied-edits page changes fresh puts = record {
       edits = edits-twice (IsTied d old) (IsTied d mid) n readies.page page (pager_store d old) (pager_store d mid) (pager_store d (with_changes mid changes mid.working))
           readies.keeps.tied readies.edits (put-edits d mid n page changes puts readies.after readied-below);
       count = readies.failures;
       below = KeepsBelow-trans d old mid (with_changes mid changes mid.working) readies.keeps
-          (changes-below d mid changes mid.working (put-committed n page mid.changes changes puts));
+          (changes-below d mid changes mid.working fresh (put-committed n page mid.changes changes puts));
     }
 
     pub readied-adds : (limit : ℕ) → mid.working.pages ≤ limit → AddsPage n limit mid.working mid.working

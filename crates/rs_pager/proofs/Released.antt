@@ -15,7 +15,8 @@ use Rattle.rs_pager.specs.Paged.{Paged}
 use Rattle.rs_pager.specs.Maps.{working, pager_store, IsTied}
 use Rattle.rs_pager.specs.Taking.{RefusesToFree}
 use Rattle.rs_pager.proofs.Copied.{Loaded}
-use Rattle.rs_pager.proofs.Edited.{with_changes, put-there, put-other, put-held}
+use Rattle.rs_pager.proofs.Keeping.{with_changes}
+use Rattle.rs_pager.proofs.Edited.{put-there, put-other, put-held}
 use Rattle.rs_pager.proofs.Allocated.{puts}
 use Rattle.rs_page_cache.specs.Changes.{Changes, PutsBlank}
 

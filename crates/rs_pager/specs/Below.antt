@@ -18,7 +18,8 @@ module _ {D : Type 0} (d : disk.Ghosts D) where
     lacks = refl;
     honesty = refl;
     keeping = refl;
-    synced = refl;
+    under_way = refl;
+    kept = λ pages tied is. is;
     unwritten = λ _. refl;
     crash = λ _. passes_none d.may_leave d.left_since Same p.disk (λ _. refl);
     most_clean = refl;
@@ -33,7 +34,8 @@ module _ {D : Type 0} (d : disk.Ghosts D) where
     lacks = other.lacks ∙ one.lacks;
     honesty = other.honesty ∙ one.honesty;
     keeping = other.keeping ∙ one.keeping;
-    synced = other.synced ∙ one.synced;
+    under_way = other.under_way ∙ one.under_way;
+    kept = λ pages tied is. other.kept pages (one.tied tied) (one.kept pages tied is);
     unwritten = λ honest. other.unwritten (subst IsTrue (sym one.honesty) honest) ∙ one.unwritten honest;
     crash = λ keeps. passes_then d.may_leave d.left_since Same Same Same a.disk b.disk c.disk (λ _ _ same. same) (λ _ _ _ first then. then ∙ first)
         (one.crash keeps) (other.crash (subst IsTrue (sym one.keeping) keeps));

@@ -1,9 +1,13 @@
 pub mod Below
 pub mod Copying
+pub mod FirstHeader
 pub mod Found
+pub mod Lasts
 pub mod Maps
 pub mod Opened
+pub mod Opening
 pub mod Paged
+pub mod SecondHeader
 pub mod Stored
 pub mod Taking
-pub mod Writing
+pub mod Versions

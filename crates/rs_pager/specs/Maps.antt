@@ -1,18 +1,24 @@
 -- The two maps of pages of a pager, and what ties it to its disk.
-use Rattle.std.specs.Prelude.{◌≡◌, ◌<◌, ◌≤◌, ◌+◌, ◌*◌, ℕ, false, IsTrue, Option, Some, None, List, if◌then◌else◌}
+use Rattle.std.specs.Prelude.{◌≡◌, ◌≢◌, ◌<◌, ◌≤◌, ◌+◌, ◌*◌, ℕ, false, IsTrue, Option, Some, None, List, if◌then◌else◌}
 use Rattle.std.specs.Option.{unwrap_or}
 use Rattle.rs_disk.specs.Content.{Content}
 use Rattle.rs_disk.specs.Crash.{Same, Passes}
 use Rattle.rs_disk.specs.declared.disk.Disk as disk
 use Rattle.rs_page.specs.declared.page.TheConstants.{PAGE_SIZE}
-use Rattle.rs_page.specs.FileHeader.{IsFileHeader}
-use Rattle.rs_page.specs.declared.file_header.TheConstants.{FLAG_OFFSET}
 use Rattle.rs_pages.specs.Held.{nothing_held, held_change}
 use Rattle.rs_pages.specs.PageMap.{PageMap, SamePages, is_page}
 use Rattle.rs_pages.specs.Store.{Store}
 use Rattle.rs_page_cache.specs.Clean.{AreClean, AreAfterHeader}
 use Rattle.rs_page_cache.specs.Stored.{disk_page}
+use Rattle.rs_page_copies.specs.Listed.{AreFilled, ListsCommitted, journal_from}
+use Rattle.rs_journal.specs.FilePages.{FilePages}
+use Rattle.rs_journal.specs.Journal.{Journal, MakesPages}
+use Rattle.rs_journal.specs.Recovery.{SaysCount}
+use Rattle.rs_journal.specs.Stages.{EveryImage, IsQuiet, StageImage}
+use Rattle.rs_journal.specs.declared.stage.Stage.TheVariants.{Fresh}
 use Rattle.rs_pager.specs.Paged.{Paged, held}
+use Rattle.rs_pager.specs.SecondHeader.{IsSecondHeader}
+use Rattle.rs_pager.specs.Stored.{Stores, content_of_pages}
 
 -- a page that is held, else as the disk has it, in a file of so many pages
 abbrev pub page_or_stored : ℕ → Option (List ℕ) → Content → ℕ → Option (List ℕ)
@@ -30,6 +36,12 @@ pub record KeepsChanges {D : Type 0} (old new : Paged D) : Type 0 where
 pub record HoldsNoChange {D : Type 0} (p : Paged D) : Type 0 where
   pub none : (number : ℕ) → held p number ≡ nothing_held
   pub lacks : p.is_header_changed ≡ false
+
+-- these are the pages of this map
+pub record ArePages (map : PageMap) (pages : FilePages) : Type 0 where
+  pub says : SaysCount pages
+  pub counts : pages.count ≡ map.fields.pages
+  pub stores : Stores (content_of_pages pages) map
 
 module _ {D : Type 0} (d : disk.Ghosts D) where
   -- the committed pages: what the disk has, but for those that are changed and held
@@ -57,8 +69,30 @@ module _ {D : Type 0} (d : disk.Ghosts D) where
     is_begun = p.is_begun;
   }
 
+  -- the journal of the checkpoint that is under way
+  abbrev pub pager_journal : Paged D → Journal
+  pager_journal p = journal_from p.committed_fields.pages p.changes p.under_way
+
+  -- The checkpoint that is under way copies the committed pages that the disk lacks, and makes the committed pages of those kept last;
+  -- each image that a crash may leave is one of its stage.
+  pub record CarriesOn (p : Paged D) (kept : FilePages) : Type 0 where
+    pub checkpoint : FilePages
+    pub lists : ListsCommitted p.changes p.is_header_changed p.under_way.numbers
+    pub makes : MakesPages (pager_journal p) kept checkpoint
+    pub are : ArePages (committed p) checkpoint
+    pub every : EveryImage d (StageImage p.under_way.stage kept (pager_journal p) checkpoint) p.disk
+
+  -- these pages were kept last: where no checkpoint is under way each image that a crash may leave has them, and each committed page
+  -- past them is held
+  pub record IsKept (p : Paged D) (kept : FilePages) : Type 0 where
+    pub says : SaysCount kept
+    pub before : kept.count ≤ p.committed_fields.pages
+    pub filled : AreFilled p.changes kept.count p.committed_fields.pages
+    pub quiet : p.under_way.stage ≡ Fresh → EveryImage d (IsQuiet kept) p.disk
+    pub under_way : p.under_way.stage ≢ Fresh → CarriesOn p kept
+
   -- the disk is honest, each clean page is as the disk has it and none is page 0, no page but a changed one lies past the
-  -- end, and page 0 says the committed fields unless they are changed
+  -- end, page 0 says the committed fields unless they are changed, and some pages were kept last
   pub record IsTied (p : Paged D) : Type 0 where
     pub honest : IsTrue (d.is_honest p.disk)
     pub clean : AreClean (d.seen p.disk) p.clean
@@ -66,7 +100,9 @@ module _ {D : Type 0} (d : disk.Ghosts D) where
     pub first : PAGE_SIZE ≤ (d.seen p.disk).size
     pub inside : (number : ℕ) → 0 < number → number < p.committed_fields.pages
         → (held p number).committed ≡ None → PAGE_SIZE * number + PAGE_SIZE ≤ (d.seen p.disk).size
-    pub header : p.is_header_changed ≡ false → IsFileHeader (disk_page (d.seen p.disk) 0) p.committed_fields
+    pub header : p.is_header_changed ≡ false → IsSecondHeader (disk_page (d.seen p.disk) 0) p.committed_fields
+    pub kept : FilePages
+    pub is_kept : IsKept p kept
 
   -- The committed pages stay, what is held of them stays, and nothing is written to the disk: a crash leaves what it left before. As
   -- many clean pages may be held.
@@ -78,7 +114,8 @@ module _ {D : Type 0} (d : disk.Ghosts D) where
     pub lacks : new.is_header_changed ≡ old.is_header_changed
     pub honesty : d.is_honest new.disk ≡ d.is_honest old.disk
     pub keeping : d.keeps_crashes new.disk ≡ d.keeps_crashes old.disk
-    pub synced : d.is_synced new.disk ≡ d.is_synced old.disk
+    pub under_way : new.under_way ≡ old.under_way
+    pub kept : (pages : FilePages) → IsTied old → IsKept old pages → IsKept new pages
     pub unwritten : IsTrue (d.is_honest old.disk) → d.seen new.disk ≡ d.seen old.disk
     pub crash : IsTrue (d.keeps_crashes old.disk) → Passes d.may_leave d.left_since Same old.disk new.disk
     pub most_clean : new.most_clean ≡ old.most_clean
@@ -97,7 +134,3 @@ module _ {D : Type 0} (d : disk.Ghosts D) where
     pub most_clean : new.most_clean ≡ old.most_clean
     pub least : 2 ≤ new.committed_fields.pages
     pub within : new.committed_fields.pages ≤ new.limit
-
-  -- where the disk has all that is committed, its open flag says that the file is closed
-  pub record IsShut (p : Paged D) : Type 0 where
-    pub closed : HoldsNoChange p → (d.seen p.disk).byte FLAG_OFFSET ≡ 0

@@ -1,11 +1,12 @@
 -- What the content of a disk stands for.
-use Rattle.std.specs.Prelude.{◌≡◌, ◌≤◌, ◌*◌, ℕ, IsTrue, Some, None, if◌then◌else◌}
+use Rattle.std.specs.Prelude.{◌≤◌, ◌*◌, ℕ, Some, None, if◌then◌else◌}
 use Rattle.rs_disk.specs.Content.{Content}
 use Rattle.rs_page.specs.declared.page.TheConstants.{PAGE_SIZE}
-use Rattle.rs_page.specs.FileHeader.{IsFileHeader, is_masked}
 use Rattle.rs_page.specs.declared.file_header.FileHeader.{FileHeader}
 use Rattle.rs_pages.specs.PageMap.{PageMap, SamePages, is_page}
 use Rattle.rs_page_cache.specs.Stored.{disk_page}
+use Rattle.rs_journal.specs.FilePages.{FilePages}
+use Rattle.rs_pager.specs.SecondHeader.{IsSecondHeader}
 
 -- the pages of a file of these fields, as the content has them
 abbrev pub stored_map : Content → FileHeader → PageMap
@@ -16,14 +17,10 @@ stored_map content fields = record {
 
 -- the content stands for these pages: page 0 says their fields, the content is long enough, and the bytes are its
 pub record Stores (content : Content) (map : PageMap) : Type 0 where
-  pub header : IsFileHeader (disk_page content 0) map.fields
+  pub header : IsSecondHeader (disk_page content 0) map.fields
   pub size : PAGE_SIZE * map.fields.pages ≤ content.size
   pub pages : SamePages map (stored_map content map.fields)
 
--- the content stands for no pages of a file within this limit
-pub record IsNoFile (content : Content) (limit : ℕ) : Type 0 where
-  pub none : (map : PageMap) → Stores content map → 2 ≤ map.fields.pages → map.fields.pages ≤ limit → ⊥
-
--- the bytes of page 0 that no map of pages has are as they were
-pub record KeepsMasked (old new : Content) : Type 0 where
-  pub bytes : (place : ℕ) → IsTrue (is_masked place) → new.byte place ≡ old.byte place
+-- the bytes of a file's pages
+abbrev pub content_of_pages : FilePages → Content
+content_of_pages pages = record { size = PAGE_SIZE * pages.count; byte = pages.byte }

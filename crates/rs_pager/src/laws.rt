@@ -1,33 +1,36 @@
-//! What follows of the disk's content: which map of pages it stands for.
-//!
-//! It is one at the most. So a flush that answered Ok, and an `open` that answered Ok of the disk that is handed back, have
-//! the same pages; and such a disk is not refused as damaged.
+//! What follows of a disk's content and of what pagers keep: a content is a file of one map of pages at the most, and calls that last one
+//! after another last together.
 
-ghost use Rattle.std.specs.Prelude.{◌≤◌, ℕ};
+ghost use Rattle.std.specs.Prelude.{◌≡◌};
 ghost use Rattle.rs_disk.specs.Content.{Content};
+ghost use Rattle.rs_journal.specs.FilePages.{FilePages};
 ghost use Rattle.rs_pages.specs.PageMap.{PageMap, SamePages};
-ghost use Rattle.rs_pager.specs.Maps.{committed, KeepsMaps, HoldsNoChange, IsTied};
-ghost use Rattle.rs_pager.specs.Opened.{WritesAll};
+ghost use Rattle.rs_pager.specs.Lasts.{Lasts};
+ghost use Rattle.rs_pager.specs.Maps.{committed, IsKept, IsTied, KeepsBelow};
 ghost use Rattle.rs_pager.specs.Paged.{Paged};
-ghost use Rattle.rs_pager.specs.Stored.{Stores, IsNoFile};
+ghost use Rattle.rs_pager.specs.Versions.{IsFileOfPages};
 
 use rs_disk::Disk;
 
-/// A disk stands for one map of pages at the most.
+/// A content is a file of one map of pages at the most.
 pub fn disk_stands_for_one_map()
     ensures { (content : Content) (one other : PageMap)
-        → Stores content one → Stores content other → SamePages one other }
+        → IsFileOfPages content one → IsFileOfPages content other → SamePages one other }
 {}
 
-/// A tied pager that holds no change has its committed pages on the disk.
-pub fn pager_without_changes_is_stored<D: Disk>()
-    ensures { (p : Paged D) → IsTied D.Disk p → HoldsNoChange p → 2 ≤ p.committed_fields.pages
-        → Stores (D.seen p.disk) (committed D.Disk p) }
+/// Calls that keep what is below the working pages last.
+pub fn what_is_kept_below_lasts<D: Disk>()
+    ensures { (old new : Paged D) → KeepsBelow D.Disk old new → Lasts D.Disk old new }
 {}
 
-/// A disk to which a flush wrote all is a file within the pager's limit: no `open` with this limit, or a greater one, finds
-/// it damaged.
-pub fn flushed_disk_is_a_file<D: Disk>()
-    ensures { (old new : Paged D) (limit : ℕ) → KeepsMaps D.Disk old new → WritesAll D.Disk old new
-        → new.limit ≤ limit → IsNoFile (D.seen new.disk) limit → ⊥ }
+/// Calls that last one after another, where the first keeps the committed pages, last together.
+pub fn what_lasts_goes_on_to_last<D: Disk>()
+    ensures { (a b c : Paged D) → (IsTied D.Disk a → IsTied D.Disk b) → (IsTied D.Disk a → SamePages (committed D.Disk b) (committed D.Disk a))
+        → Lasts D.Disk a b → Lasts D.Disk b c → Lasts D.Disk a c }
+{}
+
+/// What lasts goes on to last where the disk stays as it is, and what was kept is kept still.
+pub fn what_lasts_is_settled<D: Disk>()
+    ensures { (a b c : Paged D) → Lasts D.Disk a b → c.disk ≡ b.disk → ((pages : FilePages) → IsKept D.Disk b pages → IsKept D.Disk c pages)
+        → Lasts D.Disk a c }
 {}

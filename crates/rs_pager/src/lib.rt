@@ -1,15 +1,16 @@
-//! Numbered pages over a disk: a map of committed pages and one of working pages.
+//! Numbered pages over a disk in a file of version 2: a map of committed pages and one of working pages.
 //!
-//! One set of changes is begun at a time. It is committed or abandoned as a whole, which takes no memory and
-//! touches no disk. What is committed reaches the disk at a flush, or as changes are begun where many are held.
+//! One set of changes is begun at a time. It is committed or abandoned as a whole, which takes no memory and touches no disk. What is
+//! committed is made the file's by a checkpoint, so that at each moment a crash leaves the pages kept last or the committed ones.
 #![tactic(auto)]
 
-mod flushing;
+mod checkpointing;
 pub mod laws;
 pub mod limits;
 mod opening;
 pub mod pager;
 mod paging;
 mod reading;
+pub mod second_header;
 
 pub use pager::{MOST_CHANGED, Pager};

@@ -4,17 +4,21 @@
 //! are the committed ones with the changes since `begin`. Clean pages are held too, a bounded number of them, which is
 //! greater while a whole file is read.
 
-ghost use Rattle.std.specs.Prelude.{◌≡◌, ◌≤◌, ◌<◌, ◌^◌, ◌-◌, min, ℕ, true, false, IsTrue, None, IsOk, OnOk, OnErr, IsOkUnless, length, []};
-ghost use Rattle.rs_disk.specs.Counts.{Counts};
+ghost use Rattle.std.specs.Prelude.{◌≡◌, ◌≢◌, ◌⊎◌, ◌<◌, ◌≤◌, ◌^◌, ◌-◌, min, ℕ, true, false, None, IsOk, OnOk, OnErr, IfErr, MatchResult, length, []};
+ghost use Rattle.rs_journal.specs.FilePages.{FilePages};
 ghost use Rattle.rs_pages.specs.PageMap.{SamePages};
 ghost use Rattle.rs_page_cache.specs.Changes.{ListsHeld};
 ghost use Rattle.rs_pager.specs.Paged.{held};
-ghost use Rattle.rs_pager.specs.Maps.{committed, working, KeepsChanges, KeepsMaps, HoldsNoChange, IsShut, IsTied};
-ghost use Rattle.rs_pager.specs.Opened.{Commits, Abandons, WritesAll, WritesAtMost};
+ghost use Rattle.rs_journal.specs.declared.stage.Stage.TheVariants.{Fresh};
+ghost use Rattle.rs_pager.specs.Lasts.{Lasts};
+ghost use Rattle.rs_pager.specs.Maps.{committed, working, KeepsChanges, KeepsMaps, HoldsNoChange, IsKept, IsTied};
+ghost use Rattle.rs_pager.specs.Opened.{Commits, Abandons, CountsFault};
 
 use rs_disk::Disk;
+use rs_journal::Stage;
 use rs_page::FileHeader;
 use rs_page_cache::{Changes, CleanPages, MOST_CLEAN, MOST_WHILE_OPENING};
+use rs_page_copies::UnderWay;
 use rs_refusal::Refusal;
 use std::marker::Model;
 
@@ -34,6 +38,8 @@ pub struct Pager<D: Disk> {
     pub(crate) is_header_changed: bool,
     pub(crate) is_begun: bool,
     pub(crate) full_refusals: u64,
+    /// The checkpoint that is under way.
+    pub(crate) under_way: UnderWay,
 }
 
 impl<D: Disk> Model for Pager<D> {
@@ -52,34 +58,33 @@ impl<D: Disk> Model for Pager<D> {
       is_header_changed = p.is_header_changed;
       is_begun = p.is_begun;
       full_refusals = p.full_refusals;
+      under_way = p.under_way;
     } };
 
-    ghost invariant = { λ p. IsSound p.limit p.changes p.committed_fields p.working p.is_begun };
+    ghost invariant = { λ p. IsSound p.limit p.changes p.committed_fields p.working p.is_begun p.under_way.stage };
 }
 
 impl<D: Disk> Pager<D> {
-    /// Makes room for changes: where more than `MOST_CHANGED` pages are held as changes, all that is committed is written to the disk.
-    /// After a refusal (91) what was held as changed is held still.
+    /// Makes room for changes: where a checkpoint was stopped by a fault, or more than `MOST_CHANGED` pages are held as changes, all that is
+    /// committed is made the file's by a checkpoint. After a refusal (90, 91) what was held as changed is held still, or is kept.
     pub fn make_room(&mut self) -> Result<(), Refusal>
         requires { self.old.is_begun ≡ false }
         ensures keeps { KeepsMaps D.Disk self.old self.new }
-        ensures closed { IsTrue (D.is_honest self.old.disk) → IsShut D.Disk self.old → IsShut D.Disk self.new }
-        ensures others { IsTrue (D.is_honest self.old.disk) → WritesAtMost D.Disk self.old self.new }
+        ensures lasts { Lasts D.Disk self.old self.new }
         ensures same { SamePages (working D.Disk self.new) (committed D.Disk self.new) }
-        ensures few { length self.old.changes ≤ MOST_CHANGED → IsOk result × (self.new ≡ self.old) }
-        ensures many { MOST_CHANGED < length self.old.changes
-            → OnOk result (HoldsNoChange self.new × (self.new.changes ≡ []) × (D.is_synced self.new.disk ≡ true)) }
-        ensures written { MOST_CHANGED < length self.old.changes → IsTied D.Disk self.old
-            → OnOk result (WritesAll D.Disk self.old self.new) }
+        ensures few { self.old.under_way.stage ≡ Fresh → length self.old.changes ≤ MOST_CHANGED → IsOk result × (self.new ≡ self.old) }
+        ensures many { (MOST_CHANGED < length self.old.changes) ⊎ (self.old.under_way.stage ≢ Fresh) → OnOk result (HoldsNoChange self.new × (self.new.changes ≡ [])) }
         ensures shut { self.new.is_begun ≡ false }
+        ensures fresh { OnOk result (self.new.under_way.stage ≡ Fresh) }
         ensures bound { OnOk result (length self.new.changes ≤ MOST_CHANGED) }
         ensures copies { (number : ℕ) → (held self.new number).copy ≡ None }
-        ensures refused { OnErr result (KeepsChanges self.old self.new) }
-        ensures refusal { IsOkUnless result Refusal.Disk }
-        ensures count { Counts result (D.failures self.old.disk) (D.failures self.new.disk) }
+        ensures refused { OnErr result (KeepsChanges self.old self.new ⊎ HoldsNoChange self.new) }
+        ensures refusal { IfErr result (λ why. (why ≡ Refusal.OutOfMemory) ⊎ (why ≡ Refusal.Disk)) }
+        ensures count { MatchResult result (λ _. D.failures self.new.disk ≡ D.failures self.old.disk)
+            (λ why. CountsFault why (D.failures self.old.disk) (D.failures self.new.disk)) }
     {
-        if self.changes.len() > MOST_CHANGED {
-            self.flush()?;
+        if self.changes.len() > MOST_CHANGED || self.under_way.stage() != Stage::Fresh {
+            self.checkpoint()?;
         }
         Ok(())
     }
@@ -88,6 +93,7 @@ impl<D: Disk> Pager<D> {
     pub fn begin(&mut self)
         requires shut { self.old.is_begun ≡ false }
         requires few { length self.old.changes ≤ MOST_CHANGED }
+        requires fresh { self.old.under_way.stage ≡ Fresh }
         ensures begins { self.new ≡ record self.old { is_begun = true } }
         ensures keeps { KeepsMaps D.Disk self.old self.new }
         ensures same { SamePages (working D.Disk self.new) (committed D.Disk self.new) }
@@ -102,6 +108,7 @@ impl<D: Disk> Pager<D> {
         ensures committed { SamePages (committed D.Disk self.new) (working D.Disk self.old) }
         ensures working { SamePages (working D.Disk self.new) (working D.Disk self.old) }
         ensures tied { IsTied D.Disk self.old → IsTied D.Disk self.new }
+        ensures kept { (pages : FilePages) → IsKept D.Disk self.old pages → IsKept D.Disk self.new pages }
     {
         self.changes.commit();
         self.is_header_changed = self.is_header_changed || self.committed_fields != self.working;
@@ -116,6 +123,7 @@ impl<D: Disk> Pager<D> {
         ensures committed { SamePages (committed D.Disk self.new) (committed D.Disk self.old) }
         ensures working { SamePages (working D.Disk self.new) (committed D.Disk self.old) }
         ensures tied { IsTied D.Disk self.old → IsTied D.Disk self.new }
+        ensures kept { (pages : FilePages) → IsKept D.Disk self.old pages → IsKept D.Disk self.new pages }
     {
         self.changes.abandon();
         self.working = self.committed_fields;
@@ -161,9 +169,11 @@ impl<D: Disk> Pager<D> {
             is_header_changed: _,
             is_begun: _,
             full_refusals: _,
+            under_way,
         } = self;
         drop(changes);
         drop(clean);
+        drop(under_way);
         disk
     }
 
@@ -176,6 +186,21 @@ impl<D: Disk> Pager<D> {
     {
         let changed = self.changes.held().min(u32::MAX as usize);
         (changed as u32, self.clean.len() as u32)
+    }
+
+    /// The greatest number of pages. No more are committed.
+    pub fn limit(&self) -> u32
+        ensures limit { result ≡ self.now.limit }
+        ensures within { self.now.committed_fields.pages ≤ self.now.limit }
+    {
+        self.limit
+    }
+
+    /// Whether the disk lacks page 0 as it is committed. Once a file was opened, it does where the file is one of version 1.
+    pub fn lacks_first_page(&self) -> bool
+        ensures { result ≡ self.now.is_header_changed }
+    {
+        self.is_header_changed
     }
 
     /// How often a page was refused because the file is full. The count stops at 2^64 - 1.

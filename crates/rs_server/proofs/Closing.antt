@@ -1,11 +1,14 @@
--- What a closed file stands for, within the limit of any file.
-use Rattle.std.proofs.Common.{◌≡◌, ◌≤◌, ℕ, true, List, Option, Some, None, arith, refl}
-use Rattle.std.specs.Io.KnownBytes.{Keeps}
+-- What a closed file stands for, within the limit of any file, and what is told of a close.
+use Rattle.std.proofs.Common.{◌≡◌, ◌≤◌, ◌⊎◌, ℕ, inl, inr, Option, Some, None, IsTrue, ap, arith, subst, sym}
 use Rattle.rs_disk.specs.Content.{Content}
 use Rattle.rs_disk.specs.declared.disk.Disk as disk
 use Rattle.rs_machine.specs.State.{State}
 use Rattle.rs_pages.specs.declared.pages.TheConstants.{GREATEST_LIMIT}
-use Rattle.rs_server.specs.Disks.{IsClosedAs}
+use Rattle.rs_refusal.specs.declared.refusal.Refusal.{Refusal}
+use Rattle.rs_refusal.specs.declared.refusal.Refusal.TheVariants as refusal
+use Rattle.rs_server.specs.Disks.{IsClosedAs, TellsFirst}
+use Rattle.rs_server.specs.declared.report.Failure.{Failure}
+use Rattle.rs_server.specs.declared.report.Failure.TheVariants.{Refused}
 use Rattle.rs_engine.specs.Standing.{Stands}
 
 -- a file within one limit is one within a greater one
@@ -14,18 +17,26 @@ stands_within limit most below content state stands = record {
   file = record {
     pages = stands.file.pages;
     stores = stands.file.stores;
-    within = omega (arith, stands.file.within, below);
-    contents = stands.file.contents;
-    stands = stands.file.stands;
+    stand = record {
+      within = omega (arith, stands.file.stand.within, below);
+      contents = stands.file.stand.contents;
+      stands = stands.file.stand.stands;
+    };
   };
   closed = stands.closed;
 }
 
-pub closed_as : {D : Type 0} (d : disk.Ghosts D) (limit : ℕ) → limit ≤ GREATEST_LIMIT → (closed : D) (state : State) → Stands limit (d.seen closed) state → d.is_synced closed ≡ true
-    → IsClosedAs d GREATEST_LIMIT state closed
-closed_as d limit below closed state stands synced = record { stands = stands_within limit GREATEST_LIMIT below (d.seen closed) state stands; synced = synced }
+pub closed_as : {D : Type 0} (d : disk.Ghosts D) (limit : ℕ) → limit ≤ GREATEST_LIMIT → (closed : D) (state : State) → Stands limit (d.seen closed) state
+    → (IsTrue (d.keeps_crashes closed) → (image : Content) → d.may_leave closed image → Stands limit image state) → IsClosedAs d GREATEST_LIMIT state closed
+closed_as d limit below closed state stands durable = record {
+  stands = stands_within limit GREATEST_LIMIT below (d.seen closed) state stands;
+  durable = λ keeps image left. stands_within limit GREATEST_LIMIT below image state (durable keeps image left);
+}
 
--- what is known of a stream stays where nothing is done with it
-pub kept : (known : Option (List ℕ)) → Keeps known known
-kept None = tt
-kept (Some bytes) = refl
+-- why the file was not closed is told where nothing failed before
+pub tells_why : (D : Type 0) (before : Option Failure) (why : Refusal) → before ≡ None → (why ≡ refusal.OutOfMemory) ⊎ (why ≡ refusal.Disk)
+    → TellsFirst {D = D} before None (Some (Refused why))
+tells_why D before why none cause = subst (λ (b : Option Failure). TellsFirst {D = D} b None (Some (Refused why))) (sym none) (elim cause [
+  | inl memory ↦ inl (ap (λ (w : Refusal). Some (Refused w)) memory)
+  | inr failed ↦ inr (ap (λ (w : Refusal). Some (Refused w)) failed)
+])

@@ -4,3 +4,4 @@ mod Closing
 mod Damage
 mod Reopenings
 mod Dumps
+mod Unopened

@@ -1,11 +1,16 @@
 -- What comes of a file on a disk: it is made, or opened, served and closed.
-use Rattle.std.specs.Prelude.{◌≡◌, ◌≢◌, ◌⊎◌, ℕ, true, List, Option, Some, None, Result, Ok, Err, IfSome}
+use Rattle.std.specs.Prelude.{◌≡◌, ◌≢◌, ◌⊎◌, ℕ, List, Option, Some, None, Result, Ok, Err, IfSome, IsTrue}
 use Rattle.std.specs.Io.KnownBytes.{Consumes, Keeps}
 use Rattle.rs_disk.specs.Content.{Content}
 use Rattle.rs_disk.specs.declared.disk.Disk as disk
+use Rattle.rs_journal.specs.FilePages.{FilePages}
+use Rattle.rs_journal.specs.Journal.{Recovers}
+use Rattle.rs_journal.specs.Recovery.{Recovered}
 use Rattle.rs_machine.specs.Served.{Machine}
 use Rattle.rs_machine.specs.State.{State, fresh}
 use Rattle.rs_machine.specs.Step.{without_cursors}
+use Rattle.rs_pager.specs.Maps.{ArePages}
+use Rattle.rs_pages.specs.PageMap.{PageMap}
 use Rattle.rs_protocol.specs.Ends.{Ends}
 use Rattle.rs_protocol.specs.declared.stream.End.{End}
 use Rattle.rs_protocol.specs.declared.stream.Fault.{Fault}
@@ -33,11 +38,12 @@ abbrev pub failure_of : Result End Fault → Option Failure
 failure_of (Ok end) = None
 failure_of (Err fault) = Some (Stream fault)
 
--- the first of it and a disk that was not closed
-abbrev pub first_failure : {D : Type 0} → Option Failure → Option D → Option Failure
-first_failure (Some failure) closed = Some failure
-first_failure None (Some disk) = None
-first_failure None None = Some (Refused refusal.Disk)
+-- The first failure is told: one that came before the file was closed, or else why it was not closed, which is want of memory or of the
+-- disk.
+abbrev pub TellsFirst : {D : Type 0} → Option Failure → Option D → Option Failure → Type 0
+TellsFirst (Some failure) closed told = told ≡ Some failure
+TellsFirst None (Some disk) told = told ≡ None
+TellsFirst None None told = (told ≡ Some (Refused refusal.OutOfMemory)) ⊎ (told ≡ Some (Refused refusal.Disk))
 
 -- ---- services
 
@@ -48,15 +54,15 @@ pub record ServesInput (outcome : Result End Fault) (first last : Machine) (unre
   pub ended : Ends outcome told unread_now first last before after
 
 module _ {D : Type 0} (d : disk.Ghosts D) where
-  -- the disk stands for the state, and that is on the medium
+  -- the disk stands for the state, and so does each image that a crash may leave
   pub record IsClosedAs (limit : ℕ) (state : State) (disk : D) : Type 0 where
     pub stands : Stands limit (d.seen disk) state
-    pub synced : d.is_synced disk ≡ true
+    pub durable : IsTrue (d.keeps_crashes disk) → (image : Content) → d.may_leave disk image → Stands limit image state
 
-  -- a file of a machine was closed, as that machine's state without its cursors; or its disk failed, where nothing had failed before
+  -- a file of a machine was closed, as that machine's state without its cursors; or it was not, and the first failure is told
   pub record Closes (limit : ℕ) (machine : Machine) (before : Option Failure) (result : Result D (Option D × Failure)) : Type 0 where
     pub closed : IfSome (disk_of result) (IsClosedAs limit (without_cursors machine.state))
-    pub told : told_of result ≡ first_failure before (disk_of result)
+    pub told : TellsFirst before (disk_of result) (told_of result)
 
   -- the input was served by this machine, and then the file was closed
   pub record ServesAndCloses (limit : ℕ) (first : Machine) (result : Result D (Option D × Failure)) (unread unread_now before after : Option (List ℕ)) : Type 0 where
@@ -71,8 +77,8 @@ module _ {D : Type 0} (d : disk.Ghosts D) where
     pub stood : Stands limit content first.state
     pub serves : ServesAndCloses limit first result unread unread_now before after
 
-  -- The disk was not opened, and is handed back as it was: it is a file of no state, or one that was not closed, or memory or the disk
-  -- gave out. Nothing of the streams was read or written.
+  -- The disk was not opened, and is handed back: it is a file of no state, or one of version 1 that was not closed, or memory or the disk
+  -- gave out. One of version 2 was recovered, as far as the disk allowed. Nothing of the streams was read or written.
   pub record RefusesFile (limit : ℕ) (old : D) (result : Result D (Option D × Failure)) (unread unread_now before after : Option (List ℕ)) : Type 0 where
     pub disk : D
     pub why : Refusal
@@ -80,7 +86,7 @@ module _ {D : Type 0} (d : disk.Ghosts D) where
     pub wants : WantsOpening why
     pub damaged : why ≡ refusal.DamagedFile → IsNoFileOfAny limit (d.seen old)
     pub left_open : why ≡ refusal.FileNotClosed → IsLeftOpen limit (d.seen old)
-    pub seen : d.seen disk ≡ d.seen old
+    pub recovers : (map : PageMap) (pages : FilePages) → ArePages map pages → Recovers (d.seen old) pages → Recovered d pages result old disk
     pub input : Keeps unread unread_now
     pub output : Keeps before after
 

@@ -29,7 +29,8 @@ pub fn create_on<D: Disk + Drop>(alloc: Global, disk: D) -> Result<D, (Option<D>
     }
 }
 
-/// Opens the file that the disk holds, serves the lines of the input on the output, and closes it, after a fault too.
+/// Opens the file that the disk holds, serves the lines of the input on the output, and closes it, after a fault too. A file of version 2 is
+/// recovered as it is opened, and one of version 1 that was closed becomes one of version 2.
 pub fn serve_disk<D: Disk + Drop, R: Read, W: Write>(
     alloc: Global,
     disk: D,
@@ -72,7 +73,7 @@ pub(crate) fn failure_after(outcome: Result<End, Fault>) -> Option<Failure<'stat
     }
 }
 
-/// Closes the file. The failure of its disk is told where there was none before.
+/// Closes the file. Where that is refused (90, 91) the disk is not handed back, and the refusal is told where nothing failed before.
 pub(crate) fn close_after<'a, D: Disk + Drop>(
     engine: Engine<D>,
     failure: Option<Failure<'a>>,

@@ -2,6 +2,7 @@ pub mod Begun
 pub mod NoFile
 pub mod Brought
 pub mod Changed
+pub mod Enduring
 pub mod Erased
 pub mod Files
 pub mod Given
@@ -16,6 +17,7 @@ pub mod MayGo
 pub mod NoneDead
 pub mod Numbered
 pub mod OneState
+pub mod OpenedPages
 pub mod Placed
 pub mod Positions
 pub mod Redefined

@@ -5,11 +5,8 @@ use Rattle.std.proofs.lemmas.Bool.{cases_lt, eqb-false}
 use Rattle.rs_disk.specs.Content.{Content}
 use Rattle.rs_file.specs.Contents.{Contents, HoldsAll}
 use Rattle.rs_machine.specs.State.{State}
-use Rattle.rs_page.specs.FileHeader.{is_masked}
-use Rattle.rs_page.specs.declared.file_header.TheConstants.{FLAG_OFFSET}
-use Rattle.rs_page.specs.declared.page.TheConstants.{PAGE_SIZE}
 use Rattle.rs_page_owners.proofs.Moving.{one_at-same}
-use Rattle.rs_pager.specs.Stored.{IsNoFile, Stores}
+use Rattle.rs_pager.specs.Versions.{IsNoFile}
 use Rattle.rs_pages.specs.PageMap.{PageMap}
 use Rattle.rs_store.specs.Standing.{IsFileOf}
 use Rattle.rs_store.specs.Calls.{IsNoFileOfAny}
@@ -24,5 +21,5 @@ two_pages map contents holds = elim (cases_lt 1 map.fields.pages) [
 -- no pages, no file
 pub no_file_of_any : (content : Content) (limit : ℕ) → IsNoFile content limit → IsNoFileOfAny limit content
 no_file_of_any content limit lacks = record {
-  none = λ state is. lacks.none is.pages is.stores (two_pages is.pages is.contents is.stands.holds) is.within;
+  none = λ state is. lacks.none is.pages is.stores (two_pages is.pages is.stand.contents is.stand.stands.holds) is.stand.within;
 }

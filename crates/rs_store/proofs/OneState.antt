@@ -9,7 +9,7 @@ use Rattle.rs_facts.specs.Fact.{Names}
 use Rattle.rs_file.specs.Contents.{Contents}
 use Rattle.rs_machine.specs.State.{State, no_cursors}
 use Rattle.rs_pager.specs.Maps.{committed}
-use Rattle.rs_pager.specs.Stored.{Stores}
+use Rattle.rs_pager.specs.Versions.{IsFileOfPages}
 use Rattle.rs_pages.specs.PageMap.{PageMap, SamePages}
 use Rattle.rs_file.proofs.Loaded.{same_map}
 use Rattle.rs_file_meaning.specs.Seen.{referents_seen, spans_seen}
@@ -43,7 +43,7 @@ module _ {D : Type 0} (d : disk.Ghosts D) where
 
 -- what is said of disks and of their pages
 abbrev pub DiskHasOneMap : Type 0
-DiskHasOneMap = (content : Content) (one other : PageMap) → Stores content one → Stores content other → SamePages one other
+DiskHasOneMap = (content : Content) (one other : PageMap) → IsFileOfPages content one → IsFileOfPages content other → SamePages one other
 
 abbrev pub PagesHaveOneState : Type 0
 PagesHaveOneState = (pages : PageMap) (contents others : Contents) (one other : State) → StandsFor pages contents one → StandsFor pages others other → one ≡ other
@@ -51,4 +51,4 @@ PagesHaveOneState = (pages : PageMap) (contents others : Contents) (one other : 
 pub disk_one : DiskHasOneMap → PagesHaveOneState → (limit most : ℕ) (disk : Content) (one other : State) → IsFileOf limit disk one → IsFileOf most disk other → one ≡ other
 disk_one one_map alone limit most disk one other is are =
     let pages : is.pages ≡ are.pages = same_map is.pages are.pages (one_map disk is.pages are.pages is.stores are.stores) in
-    alone are.pages is.contents are.contents one other (subst (λ (map : PageMap). StandsFor map is.contents one) pages is.stands) are.stands
+    alone are.pages is.stand.contents are.stand.contents one other (subst (λ (map : PageMap). StandsFor map is.stand.contents one) pages is.stand.stands) are.stand.stands

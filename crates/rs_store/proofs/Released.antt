@@ -29,10 +29,11 @@ use Rattle.rs_store.specs.Changing.{Always}
 use Rattle.rs_store.specs.Kept.{IsAtRest, Keeps, StandsIn, StoreState}
 use Rattle.rs_store.specs.Releasing.{HasReleased, LeavesReleased}
 use Rattle.rs_store.specs.Settling.{HasBegun, IsKept, Settles}
-use Rattle.rs_store.proofs.HeldChanges.{still_as_it_was, still_by_changes}
+use Rattle.rs_store.proofs.Enduring.{lasts_kept}
+use Rattle.rs_store.proofs.HeldChanges.{still_as_it_was}
 use Rattle.rs_store.proofs.Keeping.{pages_back, store_over}
 use Rattle.rs_store.proofs.Same.{SameMeant, SameSays, SameState, meant_moves, same_accepted, state_moves}
-use Rattle.rs_store.proofs.Settled.{EventsStay, LiveByRecords, LiveJoined, ReferentsStay, clears_table, holds_same, left_refused, live_same, may_next, memory_same, no_file_refuted, parts_of, records_same, rests_refused, shut_kept, stands_at_first}
+use Rattle.rs_store.proofs.Settled.{EventsStay, LiveByRecords, LiveJoined, ReferentsStay, clears_table, holds_same, left_refused, live_same, may_next, memory_same, no_file_refuted, parts_of, records_same, rests_refused, stands_at_first}
 use Rattle.rs_versioned.specs.Referents.{ReferentRecord}
 
 -- what the law of a file from which records are cleared says
@@ -79,7 +80,7 @@ rests_released d (Ok answer) between last file changed settled catalog rests kee
 rests_released d (Err why) between last file changed settled catalog rests keeps may settles = rests_refused file changed settled catalog rests keeps settles.file
 
 module _ {D : Type 0} (d : disk.Ghosts D) where
-  -- nothing was begun, since the disk failed
+  -- nothing was begun, since there was no memory or the disk failed
   pub unreleased : {T : Type 0} (why : Refusal) (was : StoreState D) (first : Paged D) → BeginsChange d (Err why) was.pager first
       → LeavesReleased d {T = T} (Err why) was (store_over d first was.file was.catalog was.referents)
   unreleased why was first begins =
@@ -87,16 +88,19 @@ module _ {D : Type 0} (d : disk.Ghosts D) where
       record {
         stays = keeps.contents;
         opened = still_as_it_was was.file was.file refl;
-        changes = still_by_changes d was.pager first begins.unbegun;
-        refused = inr (inl begins.refused);
-        sound = λ from state stands is. let e : why ≡ refusal.DamagedFile = cc in absurd (cc (e, begins.refused));
+        changes = begins.unbegun;
+        refused = elim begins.refused [ inl memory ↦ inl memory | inr failed ↦ inr (inl failed) ];
+        sound = λ from state stands is.
+            let e : why ≡ refusal.DamagedFile = cc in
+            elim begins.refused [ inl memory ↦ absurd (cc (e, memory)) | inr failed ↦ absurd (cc (e, failed)) ];
         catalog = refl;
         referents = refl;
         accepted = refl;
-        failures = record { disk = λ is. begins.count; other = λ isnt. absurd (isnt begins.refused) };
+        failures = begins.count;
         full = omega (arith, keeps.full);
         honesty = keeps.honesty;
         limit = keeps.limit;
+        lasts = keeps.endures.lasts;
       }
 
   module _ (old : StoreState D) (first between last : Paged D) (file changed settled : OpenedFile) (catalog : Definitions) (referents : Numbered HeldReferents)
@@ -120,6 +124,7 @@ module _ {D : Type 0} (d : disk.Ghosts D) where
       full = kept.commits.full ∙ stores.ends.full ∙ begun.keeps.full;
       honesty = ap d.is_honest kept.commits.disk ∙ below.honesty ∙ begun.keeps.honesty;
       limit = kept.commits.limit ∙ stores.counts.limit ∙ begun.keeps.limit;
+      lasts = lasts_kept d old.pager first between last begun.keeps.endures below changed settled kept;
     }
     left_released {T = T} (Err why) stores keeps whole room back =
         let left = left_refused d old first between last file changed settled catalog referents begun below {may = Always} {T = T} why catalog referents stores
@@ -143,6 +148,7 @@ module _ {D : Type 0} (d : disk.Ghosts D) where
           full = omega (arith, stores.counts.full_refusals, back.abandons.full, begun.keeps.full);
           honesty = left.honesty;
           limit = left.limit;
+          lasts = left.lasts;
         }
 
     -- ---- the state
@@ -175,7 +181,6 @@ module _ {D : Type 0} (d : disk.Ghosts D) where
                   accepted = sym level ∙ fewer.stands.opened.accepted ∙ sym kept.file.accepted;
                 };
                 memory = memory_same catalog referents one other same fewer.stands.memory;
-                shut = shut_kept d old first between last file changed settled catalog referents begun below before keeps kept.commits;
               };
               live = omega (arith, fewer.stands.live, level);
               meant = meant_moves says meant_alike oldest one other same fewer.stands.meant;

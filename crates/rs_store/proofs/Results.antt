@@ -13,3 +13,7 @@ err_always (Err e) p = p
 pub err_with : {T E P Q : Type 0} (r : Result T E) → (P → Q) → OnErr r P → OnErr r Q
 err_with (Ok x) gives p = tt
 err_with (Err e) gives p = gives p
+
+pub ok_with : {T E P Q : Type 0} (r : Result T E) → (P → Q) → OnOk r P → OnOk r Q
+ok_with (Ok x) gives p = gives p
+ok_with (Err e) gives p = tt

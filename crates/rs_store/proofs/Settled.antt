@@ -30,12 +30,9 @@ use Rattle.rs_file_parts.proofs.Ready.{ready_after}
 use Rattle.rs_machine.specs.Lawful.{AreViewsMeant}
 use Rattle.rs_machine.specs.State.{State}
 use Rattle.rs_machine.specs.declared.limits.TheConstants.{CHANGES}
-use Rattle.rs_page.specs.declared.file_header.TheConstants.{FLAG_OFFSET}
-use Rattle.rs_pager.proofs.Flushed.{page_or-none}
-use Rattle.rs_pager.specs.Maps.{HoldsNoChange, IsShut, IsTied, KeepsBelow, committed, pager_store, working}
+use Rattle.rs_pager.specs.Maps.{IsTied, KeepsBelow, committed, pager_store, working}
 use Rattle.rs_pager.specs.Opened.{Abandons, Commits}
 use Rattle.rs_pager.specs.Paged.{Paged, held}
-use Rattle.rs_pages.specs.Held.{HeldPage, nothing_held}
 use Rattle.rs_pages.specs.PageMap.{PageMap}
 use Rattle.rs_pages.proofs.Stores.{SamePages-trans}
 use Rattle.rs_refusal.specs.Counts.{counted_on}
@@ -50,7 +47,8 @@ use Rattle.rs_store.specs.Bracket.{BeginsChange, ComesToRest}
 use Rattle.rs_store.specs.Changing.{HasBecome, LeavesStore}
 use Rattle.rs_store.specs.Kept.{IsAtRest, Keeps, StandsIn, StoreState}
 use Rattle.rs_store.specs.Settling.{HasBegun, IsFileKept, IsFileTakenBack, IsKept, IsTakenBack, Settles}
-use Rattle.rs_store.proofs.HeldChanges.{still_as_it_was, still_by_changes, still_taken_back}
+use Rattle.rs_store.proofs.Enduring.{lasts_kept, lasts_taken_back}
+use Rattle.rs_store.proofs.HeldChanges.{still_as_it_was, still_taken_back}
 use Rattle.rs_store.proofs.Keeping.{pages_back, store_over}
 use Rattle.rs_store.proofs.Same.{SameMeant, SameSays, SameState, meant_moves, same_accepted, state_moves}
 use Rattle.rs_value.specs.declared.column.ColumnType.{ColumnType}
@@ -212,11 +210,6 @@ as_it_was was is contents same opened =
     let still = still_opened was is contents same (parts_of was contents opened) in
     record { definitions = still.definitions; pages = still.pages; tables = still.tables; referents = still.referents; accepted = opened.accepted ∙ sym same.accepted }
 
--- what is held of a page, where there is neither a committed page nor a copy
-both_none : (h : HeldPage) → h.committed ≡ None → h.copy ≡ None → h ≡ nothing_held
-both_none h committed copy =
-    ap (λ (page : Option (List ℕ)). record h { committed = page }) committed ∙ ap (λ (page : Option (List ℕ)). record nothing_held { copy = page }) copy
-
 -- ---- a store whose changes were begun
 
 module _ {D : Type 0} (d : disk.Ghosts D) where
@@ -229,24 +222,30 @@ module _ {D : Type 0} (d : disk.Ghosts D) where
     failures = begins.count;
   }
 
-  -- no change was begun, since the disk failed
+  -- no change was begun, since there was no memory or the disk failed
   pub left_unbegun : {may : State → Type 0} {T : Type 0} (why : Refusal) (was : StoreState D) (first : Paged D)
       → BeginsChange d (Err why) was.pager first → LeavesStore d may {T = T} (Err why) was (store_over d first was.file was.catalog was.referents)
   left_unbegun why was first begins =
       let keeps = begins.keeps was.file was.catalog was.referents in
       record {
         stays = keeps.contents;
-        cause = inr (inl begins.refused);
-        sound = λ from state stands allowed is. let e : why ≡ refusal.DamagedFile = cc in absurd (cc (e, begins.refused));
+        cause = elim begins.refused [ inl memory ↦ inl memory | inr failed ↦ inr (inl failed) ];
+        sound = λ from state stands allowed is.
+            let e : why ≡ refusal.DamagedFile = cc in
+            elim begins.refused [ inl memory ↦ absurd (cc (e, memory)) | inr failed ↦ absurd (cc (e, failed)) ];
         catalog = refl;
         referents = λ route. refl;
         opened = still_as_it_was was.file was.file refl;
-        changes = still_by_changes d was.pager first begins.unbegun;
+        changes = begins.unbegun;
         accepted = refl;
-        failures = record { disk = λ is. begins.count; other = λ isnt. absurd (isnt begins.refused) };
-        full = record { full = λ is. absurd (cc (is, begins.refused)); other = λ isnt. omega (arith, keeps.full) };
+        failures = begins.count;
+        full = record {
+          full = λ is. elim begins.refused [ inl memory ↦ absurd (cc (is, memory)) | inr failed ↦ absurd (cc (is, failed)) ];
+          other = λ isnt. omega (arith, keeps.full);
+        };
         honesty = keeps.honesty;
         limit = keeps.limit;
+        lasts = keeps.endures.lasts;
       }
 
   module _ (old : StoreState D) (first between last : Paged D) (file changed settled : OpenedFile) (catalog : Definitions) (referents : Numbered HeldReferents)
@@ -260,30 +259,6 @@ module _ {D : Type 0} (d : disk.Ghosts D) where
     at_first contents kept =
         let at = begun.keeps.contents contents kept in
         subst (λ (m : PageMap). HoldsAll m contents) (sym (same_map (working d first) (committed d first) at.same)) at.holds
-
-    -- where the disk has all that is committed afterwards, it had all before, and nothing was written
-    shut_after : (contents : Contents) → Keeps d old contents → last.disk ≡ between.disk
-        → (HoldsNoChange last → (number : ℕ) → (held between number).committed ≡ None) → (HoldsNoChange last → between.is_header_changed ≡ false) → IsShut d last
-    shut_after contents kept same none lacks =
-        let at = begun.keeps.contents contents kept in
-        record {
-          closed = λ holds. ap (λ (disk : D). (d.seen disk).byte FLAG_OFFSET) same ∙ ap (λ (content : Content). content.byte FLAG_OFFSET) (below.unwritten at.tied.honest)
-              ∙ at.shut.closed (record {
-                none = λ number. both_none (held first number) (sym (below.changed number) ∙ none holds number) (begun.begins.copies number);
-                lacks = sym below.lacks ∙ lacks holds;
-              });
-        }
-
-    pub shut_kept : (contents : Contents) → Keeps d old contents → Commits between last → IsShut d last
-    shut_kept contents kept commits = shut_after contents kept commits.disk
-        (λ holds number. page_or-none (held between number).copy (held between number).committed
-        (ap (λ (h : HeldPage). h.committed) (sym (commits.held number) ∙ holds.none number)))
-        (λ holds. (commits.lacks.0 holds.lacks).0)
-
-    shut_taken_back : (contents : Contents) → Keeps d old contents → Abandons between last → IsShut d last
-    shut_taken_back contents kept back = shut_after contents kept back.disk
-        (λ holds number. ap (λ (h : HeldPage). h.committed) (sym (back.held number) ∙ holds.none number))
-        (λ holds. sym back.lacks ∙ holds.lacks)
 
     keeps_taken_back : (contents : Contents) (now : Definitions) (held : Numbered HeldReferents) → Keeps d old contents → KeepsCommitted file changed → IsCommitted file
         → IsTakenBack d between last changed settled → now ≡ catalog → ((route : ℕ) → referents_on held route ≡ referents_on referents route) → Keeps d (after now held) contents
@@ -299,7 +274,6 @@ module _ {D : Type 0} (d : disk.Ghosts D) where
             catalog = subst (λ (definitions : Definitions). AreDefinitionsAt contents.directory.accepted contents.definitions definitions) (sym same) at.memory.catalog;
             referents = λ route. alike route ∙ at.memory.referents route;
           };
-          shut = shut_taken_back contents kept back.abandons;
         }
 
     -- a store that stands in a state has begun its changes in pages that hold a file
@@ -353,6 +327,7 @@ module _ {D : Type 0} (d : disk.Ghosts D) where
           };
           honesty = ap d.is_honest back.abandons.disk ∙ below.honesty ∙ begun.keeps.honesty;
           limit = back.abandons.limit ∙ stores.counts.limit ∙ begun.keeps.limit;
+          lasts = lasts_taken_back d old.pager first between last begun.keeps.endures below changed settled back;
         }
 
     -- a change that was made counts one version more, and no refusal
@@ -372,6 +347,7 @@ module _ {D : Type 0} (d : disk.Ghosts D) where
       full = kept.commits.full ∙ stores.ends.full ∙ begun.keeps.full;
       honesty = ap d.is_honest kept.commits.disk ∙ below.honesty ∙ begun.keeps.honesty;
       limit = kept.commits.limit ∙ stores.counts.limit ∙ begun.keeps.limit;
+      lasts = lasts_kept d old.pager first between last begun.keeps.endures below changed settled kept;
     }
 
     -- what a change of records leaves, made or refused
@@ -430,7 +406,6 @@ module _ {D : Type 0} (d : disk.Ghosts D) where
                   accepted = sym level ∙ becomes.stands.opened.accepted ∙ sym kept.file.accepted;
                 };
                 memory = memory_same now held one other same becomes.stands.memory;
-                shut = shut_kept before keeps kept.commits;
               };
               live = omega (arith, becomes.stands.live, level);
               meant = meant_moves says meant_alike oldest one other same becomes.stands.meant;

@@ -50,7 +50,6 @@ use Rattle.rs_store.specs.Kept.{IsAtRest, Keeps, StoreState}
 use Rattle.rs_store.specs.Placing.{HasNoNumber, IsNumberedAt}
 use Rattle.rs_store.specs.Reading.{GivesValue, HasNoIndex, HasRead, HasReadIndex, IsIndexAt, IsTableNumbered, ReadsStore, ReadsTable, lives}
 use Rattle.rs_store.specs.declared.reading.IndexKey.{IndexKey}
-use Rattle.rs_store.proofs.HeldChanges.{changes_by_reading, shut_later}
 use Rattle.rs_store.proofs.Keeping.{keeps_by_moves, moves_by_reading, store_over}
 use Rattle.rs_store.proofs.Numbered.{lies_at, none_lie}
 use Rattle.rs_store.proofs.Placed.{goes_with, place_of_number}
@@ -183,8 +182,7 @@ module _ {D : Type 0} (d : disk.Ghosts D) where
       → RefusesToLoad r → RestsAfter (IsTied d) (pager_store d) (KeepsBelow d) r was now
       → ReadsStore d (store_over d was file catalog referents) (store_over d now file catalog referents)
   reads_by_reading r was now file catalog referents refused rests = record {
-    keeps = keeps_by_moves d was now file catalog referents (moves_by_reading d r was now rests)
-        (λ tied shut. shut_later d was now (changes_by_reading d r was now rests) (rests.below.unwritten tied.honest) shut);
+    keeps = keeps_by_moves d was now file catalog referents (moves_by_reading d r was now rests);
     tied = rests.below.tied;
     committed_pages = rests.below.committed;
     working_pages = rests.rests.keeps.pages;
@@ -194,7 +192,6 @@ module _ {D : Type 0} (d : disk.Ghosts D) where
       committed_fields = rests.below.committed_fields;
       working_fields = rests.rests.keeps.fields;
     };
-    synced = rests.below.synced;
     seen = rests.below.unwritten;
     failures = failures_stay r was now refused rests;
   }

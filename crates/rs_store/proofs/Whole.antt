@@ -4,6 +4,7 @@ use Rattle.rs_disk.specs.declared.disk.Disk as disk
 use Rattle.rs_page_cache.specs.declared.clean.TheConstants.{MOST_CLEAN, MOST_WHILE_OPENING}
 use Rattle.rs_pager.specs.Maps.{IsTied, KeepsBelow, pager_store}
 use Rattle.rs_pager.specs.Paged.{Paged}
+use Rattle.rs_pager.proofs.Keeping.{forgotten-kept}
 use Rattle.rs_pages.specs.Lending.{RestsAfter}
 use Rattle.rs_refusal.specs.declared.refusal.Refusal.{Refusal}
 
@@ -37,7 +38,9 @@ module _ {D : Type 0} (d : disk.Ghosts D) {T : Type 0} (r : Result T Refusal) (p
       lacks = after.below.lacks;
       honesty = after.below.honesty;
       keeping = after.below.keeping;
-      synced = after.below.synced;
+      under_way = after.below.under_way;
+      kept = λ pages tied is.
+          forgotten-kept d read MOST_CLEAN pages (after.below.kept pages (tied_there tied) (forgotten-kept d p MOST_WHILE_OPENING pages is));
       unwritten = after.below.unwritten;
       crash = after.below.crash;
       most_clean = sym narrow;

@@ -1,21 +1,20 @@
 -- A change from its beginning to its end: what begins it, how it comes to rest, and in which state it leaves a store.
-use Rattle.std.specs.Prelude.{◌≡◌, ◌≤◌, ◌+◌, ℕ, Bool, true, IsOkUnless, OnErr, OnOk, Result}
+use Rattle.std.specs.Prelude.{◌≡◌, ◌≤◌, ◌+◌, ◌⊎◌, ℕ, IfErr, MatchResult, OnErr, OnOk, Result}
 use Rattle.std.specs.List.{AllByRecursion}
 use Rattle.rs_catalog.specs.Definitions.{Definitions, Numbered}
 use Rattle.rs_catalog.specs.Referents.{HeldReferents}
 use Rattle.rs_catalog_pages.specs.Said.{said_catalogue}
 use Rattle.rs_changes.specs.Calls.{MayChange}
-use Rattle.rs_disk.specs.Counts.{Counts}
 use Rattle.rs_disk.specs.declared.disk.Disk as disk
 use Rattle.rs_file.specs.declared.opened.OpenedFile.{OpenedFile}
 use Rattle.rs_machine.specs.Lawful.{AreColumnsOfTable, Each}
 use Rattle.rs_machine.specs.State.{State}
-use Rattle.rs_pager.specs.Maps.{KeepsChanges}
+use Rattle.rs_pager.specs.Opened.{CountsFault}
 use Rattle.rs_pager.specs.Paged.{Paged}
 use Rattle.rs_refusal.specs.declared.refusal.Refusal.{Refusal}
 use Rattle.rs_refusal.specs.declared.refusal.Refusal.TheVariants as refusal
 use Rattle.rs_store.specs.Calls.{KeepsStore}
-use Rattle.rs_store.specs.Changing.{HasBecome}
+use Rattle.rs_store.specs.Changing.{HasBecome, StillHolds}
 use Rattle.rs_store.specs.Kept.{StandsIn, StoreState}
 use Rattle.rs_store.specs.Settling.{BeginsWith}
 use Rattle.rs_stored_catalog.specs.Listing.{listing_of}
@@ -34,15 +33,16 @@ pub record ComesToRest (was is : OpenedFile) (now : Definitions) : Type 0 where
 module _ {D : Type 0} (d : disk.Ghosts D) where
   -- ---- its beginning
 
-  -- Changes are begun in pages over which a store keeps what it kept, whatever is open and in memory; or the disk failed, and none are.
+  -- Changes are begun in pages over which a store keeps what it kept, whatever is open and in memory; or there was no memory or the disk
+  -- failed, and none are.
   pub record BeginsChange (result : Result (Unit {0}) Refusal) (old new : Paged D) : Type 0 where
     pub keeps : (file : OpenedFile) (catalog : Definitions) (referents : Numbered HeldReferents)
         → KeepsStore d (record { pager = old; file = file; catalog = catalog; referents = referents })
         (record { pager = new; file = file; catalog = catalog; referents = referents })
     pub begins : OnOk result (BeginsWith d old new)
-    pub unbegun : OnErr result (KeepsChanges old new)
-    pub refused : IsOkUnless result refusal.Disk
-    pub count : Counts result (d.failures old.disk) (d.failures new.disk)
+    pub unbegun : OnErr result (StillHolds d old new)
+    pub refused : IfErr result (λ why. (why ≡ refusal.OutOfMemory) ⊎ (why ≡ refusal.Disk))
+    pub count : MatchResult result (λ _. d.failures new.disk ≡ d.failures old.disk) (λ why. CountsFault why (d.failures old.disk) (d.failures new.disk))
 
   -- ---- its end
 

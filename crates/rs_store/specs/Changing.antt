@@ -1,5 +1,5 @@
 -- What a change makes of a store: the state of the next version, in which live versions see what they saw.
-use Rattle.std.specs.Prelude.{◌≡◌, ◌≢◌, ◌≤◌, ◌+◌, ℕ, Err, Result, MatchResult, OnErr, Some, true, IfErr, ◌⊎◌}
+use Rattle.std.specs.Prelude.{◌≡◌, ◌≢◌, ◌≤◌, ◌+◌, ℕ, Err, Result, MatchResult, OnErr, Some, IfErr, ◌⊎◌}
 use Rattle.std.specs.FinMap as names
 use Rattle.rs_catalog.specs.Definitions.{Definitions, RouteItem, TableItem}
 use Rattle.rs_catalog.specs.Events.{behind}
@@ -12,6 +12,7 @@ use Rattle.rs_file.specs.Contents.{Contents}
 use Rattle.rs_file_parts.specs.Parts.{IsAsItWas}
 use Rattle.rs_machine.specs.Checks.{column_types}
 use Rattle.rs_machine.specs.State.{State}
+use Rattle.rs_pager.specs.Lasts.{Lasts}
 use Rattle.rs_pager.specs.Maps.{HoldsNoChange, KeepsChanges}
 use Rattle.rs_pager.specs.Opened.{CountsFault}
 use Rattle.rs_pager.specs.Paged.{Paged}
@@ -63,19 +64,14 @@ module _ {D : Type 0} (d : disk.Ghosts D) where
     pub full : why ≡ refusal.FileFull → new ≡ counted_on old
     pub other : why ≢ refusal.FileFull → old ≤ new
 
-  -- no page is held as changed: all were written, and the disk is synced
-  pub record HasWritten (p : Paged D) : Type 0 where
-    pub none : HoldsNoChange p
-    pub synced : d.is_synced p.disk ≡ true
-
   -- the held changes are as they were, or all of them have been written; no page is committed besides
   pub record StillHolds (old new : Paged D) : Type 0 where
     pub committed_fields : new.committed_fields ≡ old.committed_fields
     pub working_fields : new.working ≡ old.working
-    pub changes : KeepsChanges old new ⊎ HasWritten new
+    pub changes : KeepsChanges old new ⊎ HoldsNoChange new
 
-  -- What a change leaves, whatever it is: after a refusal the store keeps what it kept, the same is in memory, and what is open and the
-  -- held changes are as they were, whatever the disk is. 91 comes exactly where the disk's failures rose, by one; 92 only where the full
+  -- What a change leaves, whatever it is: what lasts, and after a refusal the store keeps what it kept, the same is in memory, and what is
+  -- open and the held changes are as they were, whatever the disk is. 91 comes exactly where the disk's failures rose, by one; 92 only where the full
   -- refusals rose; 94 never where the store stands in a state that may change so.
   pub record LeavesStore (may : State → Type 0) {T : Type 0} (result : Result T Refusal) (old new : StoreState D) : Type 0 where
     pub stays : (contents : Contents) → Keeps d old contents → OnErr result (Keeps d new contents)
@@ -92,3 +88,4 @@ module _ {D : Type 0} (d : disk.Ghosts D) where
         (λ why. CountsFull why old.pager.full_refusals new.pager.full_refusals)
     pub honesty : d.is_honest new.pager.disk ≡ d.is_honest old.pager.disk
     pub limit : new.pager.limit ≡ old.pager.limit
+    pub lasts : Lasts d old.pager new.pager

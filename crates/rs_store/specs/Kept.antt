@@ -17,7 +17,7 @@ use Rattle.rs_machine.specs.Lawful.{AreColumnsOfTable, AreViewsMeant, Each}
 use Rattle.rs_machine.specs.State.{State}
 use Rattle.rs_machine.specs.declared.limits.TheConstants.{CHANGES}
 use Rattle.rs_page_cache.specs.declared.clean.TheConstants.{MOST_CLEAN}
-use Rattle.rs_pager.specs.Maps.{IsShut, IsTied, committed, working}
+use Rattle.rs_pager.specs.Maps.{IsTied, committed, working}
 use Rattle.rs_pager.specs.Paged.{Paged}
 use Rattle.rs_pages.specs.PageMap.{SamePages}
 use Rattle.rs_stored_catalog.specs.Listing.{listing_of}
@@ -48,14 +48,13 @@ pub record IsSound (is_begun : Bool) (most_clean : ℕ) (file : OpenedFile) (cat
 
 module _ {D : Type 0} (d : disk.Ghosts D) where
   -- The store keeps these contents: its committed pages hold them, and nothing has changed in them since. What is open is theirs,
-  -- and so is what is in memory. Where the disk has all of it, its open flag says that the file is closed.
+  -- and so is what is in memory.
   pub record Keeps (store : StoreState D) (contents : Contents) : Type 0 where
     pub tied : IsTied d store.pager
     pub same : SamePages (working d store.pager) (committed d store.pager)
     pub holds : HoldsAll (committed d store.pager) contents
     pub opened : IsOpenedFile store.file contents
     pub memory : AreInMemory store.catalog store.referents contents
-    pub shut : IsShut d store.pager
 
   -- the store keeps contents which are meant from the oldest version on, and have this state
   pub record StandsIn (oldest : ℕ) (store : StoreState D) (state : State) : Type 0 where

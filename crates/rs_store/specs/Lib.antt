@@ -3,6 +3,7 @@ pub mod Calls
 pub mod Changing
 pub mod Indexing
 pub mod Kept
+pub mod Lasting
 pub mod Listing
 pub mod Loading
 pub mod Making

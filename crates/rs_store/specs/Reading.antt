@@ -120,6 +120,5 @@ module _ {D : Type 0} (d : disk.Ghosts D) where
     pub committed_pages : IsTied d old.pager → SamePages (committed d new.pager) (committed d old.pager)
     pub working_pages : IsTied d old.pager → SamePages (working d new.pager) (working d old.pager)
     pub changes : KeepsChanges old.pager new.pager
-    pub synced : d.is_synced new.pager.disk ≡ d.is_synced old.pager.disk
     pub seen : IsTrue (d.is_honest old.pager.disk) → d.seen new.pager.disk ≡ d.seen old.pager.disk
     pub failures : d.failures old.pager.disk ≤ d.failures new.pager.disk

@@ -5,6 +5,7 @@ use Rattle.rs_file.specs.Calls.{RefusesToLoad}
 use Rattle.rs_file.specs.Contents.{Contents}
 use Rattle.rs_file_parts.specs.Parts.{IsAsItWas}
 use Rattle.rs_machine.specs.State.{State}
+use Rattle.rs_pager.specs.Lasts.{Lasts}
 use Rattle.rs_pager.specs.Opened.{CountsFault}
 use Rattle.rs_refusal.specs.declared.refusal.Refusal.{Refusal}
 use Rattle.rs_changes.specs.Clearing.{LosesRecords}
@@ -39,3 +40,4 @@ module _ {D : Type 0} (d : disk.Ghosts D) where
         (λ why. old.pager.full_refusals ≤ new.pager.full_refusals)
     pub honesty : d.is_honest new.pager.disk ≡ d.is_honest old.pager.disk
     pub limit : new.pager.limit ≡ old.pager.limit
+    pub lasts : Lasts d old.pager new.pager

@@ -4,7 +4,8 @@ use Rattle.rs_disk.specs.declared.disk.Disk as disk
 use Rattle.rs_file.specs.declared.opened.OpenedFile.{OpenedFile}
 use Rattle.rs_file_parts.specs.Calls.{StaysOpened}
 use Rattle.rs_file_parts.specs.Parts.{HaveAllDiedBy, IsAsItWas, IsCommitted, IsReady, KeepsCommitted}
-use Rattle.rs_pager.specs.Maps.{IsTied, committed, working}
+use Rattle.rs_journal.specs.FilePages.{FilePages}
+use Rattle.rs_pager.specs.Maps.{IsTied, IsKept as KeepsPages, committed, working}
 use Rattle.rs_pager.specs.Opened.{Abandons, Commits}
 use Rattle.rs_pager.specs.Paged.{Paged, held}
 use Rattle.rs_pages.specs.PageMap.{SamePages}
@@ -47,6 +48,7 @@ module _ {D : Type 0} (d : disk.Ghosts D) where
     pub committed_pages : SamePages (committed d new) (working d old)
     pub working_pages : SamePages (working d new) (working d old)
     pub tied : IsTied d old → IsTied d new
+    pub kept : (pages : FilePages) → KeepsPages d old pages → KeepsPages d new pages
     pub file : IsFileKept was is
 
   -- the working pages are the committed ones again, and so is what is open
@@ -55,6 +57,7 @@ module _ {D : Type 0} (d : disk.Ghosts D) where
     pub committed_pages : SamePages (committed d new) (committed d old)
     pub working_pages : SamePages (working d new) (committed d old)
     pub tied : IsTied d old → IsTied d new
+    pub kept : (pages : FilePages) → KeepsPages d old pages → KeepsPages d new pages
     pub file : IsFileTakenBack was is
 
   -- a change that was made is kept, and one that was refused is taken back

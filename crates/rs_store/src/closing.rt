@@ -1,10 +1,9 @@
 //! This module writes what a store keeps to its disk: it is saved, read anew, and closed.
 
-ghost use Rattle.std.specs.Prelude.{◌≡◌, ◌≢◌, ℕ, true, false, Err, IsOkUnless, IsTrue, MatchResult, OnErr, OnOk};
+ghost use Rattle.std.specs.Prelude.{◌≡◌, ◌≢◌, ◌⊎◌, ℕ, Err, IfErr, MatchResult, OnErr, OnOk};
 ghost use Rattle.rs_file.specs.Calls.{RefusesToLoad};
-ghost use Rattle.rs_disk.specs.Counts.{Counts};
 ghost use Rattle.rs_machine.specs.State.{State};
-ghost use Rattle.rs_pager.specs.Maps.{HoldsNoChange, KeepsChanges};
+ghost use Rattle.rs_pager.specs.Maps.{HoldsNoChange, KeepsBelow, KeepsChanges};
 ghost use Rattle.rs_pager.specs.Opened.{CountsFault};
 ghost use Rattle.rs_store.specs.Calls.{Closes, CountsClosing, KeepsStore, Reopens, Saves};
 ghost use Rattle.rs_store.specs.Changing.{StillHolds};
@@ -20,22 +19,23 @@ use rs_refusal::Refusal;
 use std::alloc::Global;
 
 impl<D: Disk> Store<D> {
-    /// Writes all that the disk lacks, and waits until it is on the medium; the file is a closed one then, as it was before. The store keeps
-    /// what it kept, whatever is answered, and after a refusal it holds the same changes. It is refused with 91 alone.
+    /// Makes all that the store keeps the file's, by a checkpoint, and waits until it is on the medium. The store keeps what it kept,
+    /// whatever is answered; a crash meanwhile leaves what was saved last or what is saved now. It is refused with 90 before anything is
+    /// written, and with 91; then it holds the same changes, or all of them are written and only the cut of the file failed.
     pub fn save(&mut self) -> Result<(), Refusal>
         ensures keeps { KeepsStore D.Disk self.old self.new }
         ensures changes { StillHolds D.Disk self.old.pager self.new.pager }
         ensures saves { Saves D.Disk result self.old self.new }
         ensures written { OnOk result (HoldsNoChange self.new.pager) }
-        ensures refused { IsOkUnless result Refusal.Disk }
-        ensures count { Counts result (D.failures self.old.pager.disk) (D.failures self.new.pager.disk) }
+        ensures refused { IfErr result (λ why. (why ≡ Refusal.OutOfMemory) ⊎ (why ≡ Refusal.Disk)) }
+        ensures count { MatchResult result (λ _. D.failures self.new.pager.disk ≡ D.failures self.old.pager.disk)
+            (λ why. CountsFault why (D.failures self.old.pager.disk) (D.failures self.new.pager.disk)) }
     {
-        self.pager.flush()
+        self.pager.checkpoint()
     }
 
-    /// Saves, and reads and checks the whole file anew, page 0 first, beside what is in use, which it then takes the place of. The open
-    /// flag is not looked at. It is refused with 90, with 91, and with 94 only where the disk does not give back what was written; after a refusal
-    /// the store keeps what it kept.
+    /// Saves, and reads and checks the whole file anew, page 0 first, beside what is in use, which it then takes the place of. It is refused
+    /// with 90, with 91, and with 94 only where the disk does not give back what was written; after a refusal the store keeps what it kept.
     pub fn reopen(&mut self, alloc: Global) -> Result<(), Refusal>
         ensures reopens { Reopens D.Disk result self.old self.new }
         ensures saves { Saves D.Disk result self.old self.new }
@@ -48,7 +48,7 @@ impl<D: Disk> Store<D> {
         self.read_anew(alloc)
     }
 
-    /// Saves, and gives the disk back. A refusal (91) hands back the store, which keeps what it kept.
+    /// Saves, and gives the disk back. A refusal (90, 91) hands back the store, which keeps what it kept.
     pub fn close(self) -> Result<D, (Store<D>, Refusal)>
         ensures closes { Closes D.Disk self result }
         ensures count { CountsClosing D.Disk self result }
@@ -66,8 +66,7 @@ impl<D: Disk> Store<D> {
         requires written { HoldsNoChange self.old.pager }
         ensures keeps { KeepsStore D.Disk self.old self.new }
         ensures changes { KeepsChanges self.old.pager self.new.pager }
-        ensures synced { D.is_synced self.new.pager.disk ≡ D.is_synced self.old.pager.disk }
-        ensures seen { IsTrue (D.is_honest self.old.pager.disk) → D.seen self.new.pager.disk ≡ D.seen self.old.pager.disk }
+        ensures below { KeepsBelow D.Disk self.old.pager self.new.pager }
         ensures sound { (oldest : ℕ) (state : State) → StandsIn D.Disk oldest self.old state → result ≢ Err Refusal.DamagedFile }
         ensures refused { RefusesToLoad result }
         ensures count { MatchResult result (λ _. D.failures self.new.pager.disk ≡ D.failures self.old.pager.disk)
@@ -81,8 +80,7 @@ impl<D: Disk> Store<D> {
     fn read_anew(&mut self, alloc: Global) -> Result<(), Refusal>
         ensures reopens { Reopens D.Disk result self.old self.new }
         ensures changes { OnErr result (KeepsChanges self.old.pager self.new.pager) }
-        ensures synced { D.is_synced self.new.pager.disk ≡ D.is_synced self.old.pager.disk }
-        ensures seen { IsTrue (D.is_honest self.old.pager.disk) → D.seen self.new.pager.disk ≡ D.seen self.old.pager.disk }
+        ensures below { KeepsBelow D.Disk self.old.pager self.new.pager }
         ensures refused { RefusesToLoad result }
         ensures count { MatchResult result (λ _. D.failures self.new.pager.disk ≡ D.failures self.old.pager.disk)
             (λ why. CountsFault why (D.failures self.old.pager.disk) (D.failures self.new.pager.disk)) }

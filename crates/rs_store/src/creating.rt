@@ -1,7 +1,8 @@
 //! This module makes a file in which nothing is defined, as a store.
 
-ghost use Rattle.std.specs.Prelude.{◌≡◌, ◌≢◌, ◌≤◌, ◌⊎◌, [], true, false, Err, IfErr, IfOk, IsTrue, MatchResult, OnOk};
+ghost use Rattle.std.specs.Prelude.{◌≡◌, ◌≢◌, ◌≤◌, [], false, Err, IfErr, IfOk, IsTrue, MatchResult, OnOk};
 ghost use Rattle.rs_machine.specs.State.{fresh};
+ghost use Rattle.rs_journal.specs.declared.stage.Stage.TheVariants.{Fresh};
 ghost use Rattle.rs_pager.specs.Opened.{CountsFault, IsCreated};
 ghost use Rattle.rs_store.specs.Calls.{Creates, HandsOver, WantsCreating};
 ghost use Rattle.rs_store.specs.Kept.{IsAtRest};
@@ -20,7 +21,7 @@ use rs_refusal::Refusal;
 use std::alloc::Global;
 
 impl<D: Disk> Store<D> {
-    /// Writes a file in which nothing is defined in place of all that the disk holds, and syncs it. `limit` is the greatest number of
+    /// Writes a file of version 2 in which nothing is defined in place of all that the disk holds, and syncs it. `limit` is the greatest number of
     /// pages. It is refused with 90 and 91; with 92 never, though no clause says so, since three pages have room within each
     /// limit; and with 94 only where the disk does not give back what was written. A refusal hands the disk back, with any part of this
     /// done.
@@ -29,7 +30,6 @@ impl<D: Disk> Store<D> {
         requires greatest { limit ≤ GREATEST_LIMIT }
         ensures creates { IsTrue (D.is_honest disk) → Creates D.Disk result }
         ensures hands { HandsOver D.Disk limit disk result }
-        ensures synced { IfOk result (λ store. D.is_synced store.pager.disk ≡ true) }
         ensures refused { IfErr result (λ refused. WantsCreating refused.1) }
     {
         let mut pager = Pager::create(alloc, disk, limit)?;
@@ -45,6 +45,7 @@ impl<D: Disk> Store<D> {
 fn create_pages<D: Disk>(alloc: Global, pager: &mut Pager<D>) -> Result<Loaded, Refusal>
     requires shut { pager.old.is_begun ≡ false }
     requires few { pager.old.changes ≡ [] }
+    requires fresh { pager.old.under_way.stage ≡ Fresh }
     ensures made { IsTrue (D.is_honest pager.old.disk) → IsCreated D.Disk pager.old
         → IfOk result (λ loaded. HasFresh D.Disk pager.new loaded.file loaded.catalog loaded.referents) }
     ensures sound { IsTrue (D.is_honest pager.old.disk) → IsCreated D.Disk pager.old → result ≢ Err Refusal.DamagedFile }
@@ -53,7 +54,6 @@ fn create_pages<D: Disk>(alloc: Global, pager: &mut Pager<D>) -> Result<Loaded, 
     ensures limit { pager.new.limit ≡ pager.old.limit }
     ensures most_clean { pager.new.most_clean ≡ pager.old.most_clean }
     ensures honesty { D.is_honest pager.new.disk ≡ D.is_honest pager.old.disk }
-    ensures synced { OnOk result (D.is_synced pager.new.disk ≡ true) }
     ensures refused { IfErr result WantsCreating }
     ensures count { MatchResult result (λ _. D.failures pager.new.disk ≡ D.failures pager.old.disk)
         (λ why. CountsFault why (D.failures pager.old.disk) (D.failures pager.new.disk)) }
@@ -69,13 +69,13 @@ fn create_pages<D: Disk>(alloc: Global, pager: &mut Pager<D>) -> Result<Loaded, 
 fn write_nothing<D: Disk>(alloc: Global, pager: &mut Pager<D>) -> Result<(), Refusal>
     requires shut { pager.old.is_begun ≡ false }
     requires few { pager.old.changes ≡ [] }
+    requires fresh { pager.old.under_way.stage ≡ Fresh }
     ensures writes { IsTrue (D.is_honest pager.old.disk) → IsCreated D.Disk pager.old → OnOk result (IsFreshFile D.Disk pager.new) }
     ensures sound { IsTrue (D.is_honest pager.old.disk) → IsCreated D.Disk pager.old → result ≢ Err Refusal.DamagedFile }
     ensures shut { OnOk result (pager.new.is_begun ≡ false) }
     ensures limit { pager.new.limit ≡ pager.old.limit }
     ensures most_clean { pager.new.most_clean ≡ pager.old.most_clean }
     ensures honesty { D.is_honest pager.new.disk ≡ D.is_honest pager.old.disk }
-    ensures synced { OnOk result (D.is_synced pager.new.disk ≡ true) }
     ensures refused { IfErr result WantsCreating }
     ensures count { MatchResult result (λ _. D.failures pager.new.disk ≡ D.failures pager.old.disk)
         (λ why. CountsFault why (D.failures pager.old.disk) (D.failures pager.new.disk)) }
@@ -87,5 +87,5 @@ fn write_nothing<D: Disk>(alloc: Global, pager: &mut Pager<D>) -> Result<(), Ref
     }
     pager.commit();
     created_file_stands_for_the_fresh_state();
-    pager.flush()
+    pager.checkpoint()
 }

@@ -59,6 +59,14 @@ impl<D: Disk> Store<D> {
         self.file.accepted
     }
 
+    /// The greatest number of pages. No more are kept.
+    pub fn limit(&self) -> u32
+        ensures limit { result ≡ self.now.pager.limit }
+        ensures within { self.now.pager.committed_fields.pages ≤ self.now.pager.limit }
+    {
+        self.pager.limit()
+    }
+
     /// How many changed pages (2^32 - 1 at the most) and how many clean ones are held in memory.
     pub fn held(&self) -> (u32, u32)
         ensures changed { result.0 ≡ min (length self.now.pager.changes) (2 ^ 32 - 1) }

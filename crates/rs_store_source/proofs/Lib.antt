@@ -10,5 +10,6 @@ pub mod Counted
 pub mod Facts
 pub mod Keyed
 pub use Rattle.rs_store.proofs.Placed
+pub use Rattle.rs_store.proofs.Enduring
 pub use Rattle.rs_store.proofs.HeldChanges
 pub use Rattle.rs_store.proofs.Results

@@ -41,7 +41,6 @@ module _ {D : Type 0} (d : disk.Ghosts D) where
     committed_pages = λ tied. record { fields = refl; pages = λ n. refl };
     working_pages = λ tied. record { fields = refl; pages = λ n. refl };
     changes = changes-refl store.pager;
-    synced = refl;
     seen = λ honest. refl;
     failures = omega arith;
   }
@@ -53,7 +52,6 @@ module _ {D : Type 0} (d : disk.Ghosts D) where
     committed_pages = λ tied. SamePages-trans _ _ _ (other.committed_pages (one.tied tied)) (one.committed_pages tied);
     working_pages = λ tied. SamePages-trans _ _ _ (other.working_pages (one.tied tied)) (one.working_pages tied);
     changes = changes-trans a.pager b.pager c.pager one.changes other.changes;
-    synced = other.synced ∙ one.synced;
     seen = λ honest. other.seen (subst IsTrue (sym one.keeps.honesty) honest) ∙ one.seen honest;
     failures = omega (arith, one.failures, other.failures);
   }

@@ -3,6 +3,7 @@ pub mod Routes
 pub mod Shown
 pub use Rattle.rs_store.specs.Calls
 pub use Rattle.rs_store.specs.Kept
+pub use Rattle.rs_store.specs.Lasting
 pub use Rattle.rs_store.specs.Reading
 pub use Rattle.rs_store.specs.Standing
 pub use Rattle.rs_store.specs.ChangeLawsChanging

@@ -3,11 +3,10 @@
 //! It promises that the file it leaves stands for the state that it was in, without cursors, and that it opens a file as the state
 //! that the file stands for.
 
-ghost use Rattle.std.specs.Prelude.{◌≡◌, ◌≤◌, ◌-◌, ◌^◌, ℕ, true, IfErr, IfOk, IsOkUnless, IsTrue, MatchResult, Ok, OnErr, OnOk, length, min};
+ghost use Rattle.std.specs.Prelude.{◌≡◌, ◌≤◌, ◌-◌, ◌^◌, ◌⊎◌, ℕ, IfErr, IsTrue, MatchResult, Ok, OnErr, OnOk, length, min};
 ghost use Rattle.rs_file.specs.Calls.{RefusesToLoad};
 ghost use Rattle.std.specs.FinMap as names;
 ghost use Rattle.rs_cursor.specs.Held.{held_of};
-ghost use Rattle.rs_disk.specs.Counts.{Counts};
 ghost use Rattle.rs_engine.specs.Files.{Closes, Creates, Opens, Saves, stores_back, stores_of};
 ghost use Rattle.rs_engine.specs.Replied.{count_reply_of, nothing_reply_of};
 ghost use Rattle.rs_engine.specs.Serving.{Serves};
@@ -16,6 +15,7 @@ ghost use Rattle.rs_machine.specs.State.{State};
 ghost use Rattle.rs_machine.specs.Step.{counted, without_cursors};
 ghost use Rattle.rs_page_cache.specs.Changes.{ListsHeld};
 ghost use Rattle.rs_page_cache.specs.declared.clean.TheConstants.{MOST_CLEAN};
+ghost use Rattle.rs_pager.specs.Lasts.{Lasts};
 ghost use Rattle.rs_pager.specs.Opened.{CountsFault};
 ghost use Rattle.rs_store_source.specs.Calls.{CountsClosing, HandsOver, WantsCreating, WantsOpening};
 ghost use Rattle.rs_store_source.specs.Kept.{garbage_of};
@@ -38,21 +38,19 @@ impl<D: Disk> Engine<D> {
     pub fn create(alloc: Global, disk: D) -> Result<Engine<D>, (D, Refusal)>
         ensures creates { IsTrue (D.is_honest disk) → Creates D.Disk result }
         ensures hands { HandsOver D.Disk GREATEST_LIMIT disk (stores_of result) }
-        ensures synced { IfOk result (λ engine. D.is_synced engine.store.pager.disk ≡ true) }
         ensures refused { IfErr result (λ refused. WantsCreating refused.1) }
     {
         Engine::create_within(alloc, disk, GREATEST_LIMIT)
     }
 
-    /// Writes a file in which nothing is defined in place of all that the disk holds, and syncs it. `limit` is the greatest number of
-    /// pages. It is refused with 90, 91 and 92, and with 94 only where the disk does not give back what was written. A
+    /// Writes a file of version 2 in which nothing is defined in place of all that the disk holds, and syncs it. `limit` is the greatest
+    /// number of pages. It is refused with 90, 91 and 92, and with 94 only where the disk does not give back what was written. A
     /// refusal hands the disk back, with any part of this done.
     pub fn create_within(alloc: Global, disk: D, limit: u32) -> Result<Engine<D>, (D, Refusal)>
         requires least { LEAST_LIMIT ≤ limit }
         requires greatest { limit ≤ GREATEST_LIMIT }
         ensures creates { IsTrue (D.is_honest disk) → Creates D.Disk result }
         ensures hands { HandsOver D.Disk limit disk (stores_of result) }
-        ensures synced { IfOk result (λ engine. D.is_synced engine.store.pager.disk ≡ true) }
         ensures refused { IfErr result (λ refused. WantsCreating refused.1) }
     {
         fresh_state_is_lawful();
@@ -69,9 +67,11 @@ impl<D: Disk> Engine<D> {
         Engine::open_within(alloc, disk, GREATEST_LIMIT)
     }
 
-    /// Opens the file that the disk holds, and checks it as a whole. Nothing is written: the disk stays as it was, whatever is answered.
-    /// `limit` is the greatest number of pages. It is refused with 94 only where the disk is a file of no state, closed or not, and with 95
-    /// only where it is one and was not closed; it may be refused with 90 or 91 instead. A refusal hands the disk back.
+    /// Opens the file that the disk holds, and checks it as a whole. One of version 2 is recovered first, where a checkpoint was cut short;
+    /// else nothing of it is written. One of version 1 that was closed becomes one of version 2. `limit` is the greatest number of pages.
+    ///
+    /// It is refused with 94 only where the disk is a file of no state, closed or not, and with 95 only where it is one of version 1 and was
+    /// not closed; it may be refused with 90 or 91 instead. A refusal hands the disk back.
     pub fn open_within(alloc: Global, disk: D, limit: u32) -> Result<Engine<D>, (D, Refusal)>
         requires least { LEAST_LIMIT ≤ limit }
         requires greatest { limit ≤ GREATEST_LIMIT }
@@ -84,7 +84,7 @@ impl<D: Disk> Engine<D> {
         Ok(engine_over(alloc, store))
     }
 
-    /// Saves, and gives the disk back. Cursors are closed. A refusal (91) hands back the engine as it was.
+    /// Saves, and gives the disk back. Cursors are closed. A refusal (90, 91) hands back the engine as it was.
     pub fn close(self) -> Result<D, (Engine<D>, Refusal)>
         ensures closes { Closes D.Disk self result }
         ensures count { CountsClosing D.Disk self.store (stores_back result) }
@@ -107,12 +107,15 @@ impl<D: Disk> Engine<D> {
         }
     }
 
-    /// Writes all that the disk lacks, and waits until it is on the medium. It is refused with 91 alone, and otherwise answers 0.
+    /// Makes all that is kept the file's, by a checkpoint, and waits until it is on the medium; a crash meanwhile leaves what was saved
+    /// last or what is saved now. It answers 0. It is refused with 90 before anything is written, and with 91; then the changes are held
+    /// still, or all of them are written.
     pub(crate) fn save(&mut self) -> Result<u128, Refusal>
         ensures serves { Serves D.Disk (λ (state : State). Ok (counted 0 state)) (count_reply_of result) self.old self.new }
         ensures saves { Saves D.Disk result self.old self.new }
-        ensures refused { IsOkUnless result Refusal.Disk }
-        ensures count { Counts result (D.failures self.old.store.pager.disk) (D.failures self.new.store.pager.disk) }
+        ensures refused { IfErr result (λ why. (why ≡ Refusal.OutOfMemory) ⊎ (why ≡ Refusal.Disk)) }
+        ensures count { MatchResult result (λ _. D.failures self.new.store.pager.disk ≡ D.failures self.old.store.pager.disk)
+            (λ why. CountsFault why (D.failures self.old.store.pager.disk) (D.failures self.new.store.pager.disk)) }
         ensures leaves { LeavesCursors D.Disk result self.old self.new }
     {
         self.live.store.save()?;
@@ -128,6 +131,7 @@ impl<D: Disk> Engine<D> {
         ensures cursors { OnErr result (self.new.cursors ≡ self.old.cursors) }
         ensures stays { OnErr result (StaysAsItWas D.Disk self.old self.new) }
         ensures none { OnOk result (HasNone self.new) }
+        ensures lasts { Lasts D.Disk self.old.store.pager self.new.store.pager }
         ensures refused { RefusesToLoad result }
         ensures count { MatchResult result (λ _. D.failures self.new.store.pager.disk ≡ D.failures self.old.store.pager.disk)
             (λ why. CountsFault why (D.failures self.old.store.pager.disk) (D.failures self.new.store.pager.disk)) }
@@ -138,6 +142,14 @@ impl<D: Disk> Engine<D> {
         self.cursors.held.close_all();
         self.cursors.ahead.clear();
         Ok(())
+    }
+
+    /// The greatest number of pages. No more are kept.
+    pub fn limit(&self) -> u32
+        ensures limit { result ≡ self.now.store.pager.limit }
+        ensures within { self.now.store.pager.committed_fields.pages ≤ self.now.store.pager.limit }
+    {
+        self.live.store.limit()
     }
 
     /// How many changed pages (2^32 - 1 at the most) and how many clean ones are held in memory.

@@ -1,7 +1,8 @@
 //! These laws say that an engine is one machine, which lines its cursors have left, which state it stands for as a source, that its
-//! plans are chosen by that state, that a session has a number in its range, and what may be cleared where no cursor is open.
+//! plans are chosen by that state, that a session has a number in its range, what may be cleared where no cursor is open, and which state
+//! a crash leaves.
 
-ghost use Rattle.std.specs.Prelude.{◌≡◌, ◌<◌, ℕ, List, Some, false};
+ghost use Rattle.std.specs.Prelude.{◌≡◌, ◌<◌, ◌≤◌, ◌⊎◌, ℕ, IsTrue, List, Some, false};
 ghost use Rattle.std.specs.FinMap as names;
 ghost use Rattle.rs_answers.specs.Counts.{AreCounted};
 ghost use Rattle.rs_cursor.specs.Held.{held_of};
@@ -14,10 +15,13 @@ ghost use Rattle.rs_engine.specs.Single.{IsOneMachine};
 ghost use Rattle.rs_facts.specs.Fact.{Name};
 ghost use Rattle.rs_file_parts.specs.Clearing.{clearable};
 ghost use Rattle.rs_machine.specs.Served.{Machine};
-ghost use Rattle.rs_machine.specs.State.{some_cursor};
+ghost use Rattle.rs_machine.specs.State.{State, some_cursor};
+ghost use Rattle.rs_machine.specs.Step.{without_cursors};
 ghost use Rattle.rs_machine.specs.declared.limits.TheConstants.{SESSIONS};
+ghost use Rattle.rs_pager.specs.Lasts.{Lasts};
 ghost use Rattle.rs_plan.specs.declared.counts.Index.{Index};
 ghost use Rattle.rs_store_source.specs.Kept.{garbage_of};
+ghost use Rattle.rs_store_source.specs.Lasting.{IsLast, LeavesOneOf};
 
 use rs_disk::Disk;
 use rs_file_meaning::live::version_that_sees_the_same_has_the_same_world;
@@ -86,3 +90,14 @@ pub fn dead_records_may_be_cleared_where_no_cursor_is_open<D: Disk>()
 {
     dead_records_may_be_cleared::<D>();
 }
+
+/// A crash in a step, of which each says that what lasts, lasts: an image that it might have left since any start was left before, or
+/// stands for the state kept last or for the machine's, without its cursors. After the step one of these two is kept last.
+pub fn a_crash_leaves_a_state_that_was_kept<D: Disk>()
+    ensures leaves { (old new : EngineState D) (machine : Machine) (last : State) → IsMachine D.Disk old machine → IsLast D.Disk old.store.pager last
+        → Lasts D.Disk old.store.pager new.store.pager → old.store.pager.committed_fields.pages ≤ old.store.pager.limit → IsTrue (D.keeps_crashes old.store.pager.disk)
+        → LeavesOneOf D.Disk old.store.pager.limit last (without_cursors machine.state) old.store.pager.disk new.store.pager.disk }
+    ensures keeps { (old new : EngineState D) (machine : Machine) (last : State) → IsMachine D.Disk old machine → IsLast D.Disk old.store.pager last
+        → Lasts D.Disk old.store.pager new.store.pager → old.store.pager.committed_fields.pages ≤ old.store.pager.limit → new.store.pager.limit ≡ old.store.pager.limit
+        → IsLast D.Disk new.store.pager last ⊎ IsLast D.Disk new.store.pager (without_cursors machine.state) }
+{}

@@ -28,10 +28,11 @@ impl<D: Disk + Drop> Serve for Engine<D> {
 
     ghost is = { IsOneMachine D.Disk };
 
-    /// As the trait says. Where SAVE or REOPEN is accepted, the disk is synced, and stands for the state that the engine was in. Where a
-    /// change or a CLOSE is accepted, 64 of the records that no version sees any more that is looked at are gone, or all where they
-    /// are fewer. On a disk that lies too a refusal leaves each cursor and its place, what is open of the file, and the held changes, or
-    /// they are all written and the disk is synced; and no command but OPEN, FETCH, CLOSE and REOPEN changes a cursor.
+    /// As the trait says. Where SAVE or REOPEN is accepted, the disk stands for the state that the engine was in, and so does each image
+    /// that a crash may leave. Where a change or a CLOSE is accepted, 64 of the records that no version sees any more that is looked at are
+    /// gone, or all where they are fewer. On a disk that lies too a refusal leaves each cursor and its place, what is open of the file, and
+    /// the held changes, or they are all written; and no command but OPEN, FETCH, CLOSE and REOPEN changes a cursor. Whatever is answered,
+    /// a crash meanwhile leaves what was kept last or what the engine keeps (`laws::a_crash_leaves_a_state_that_was_kept`).
     fn step(&mut self, session: Session, command: Command) -> Reply
         requires said { IsSaid session (tree_of command) }
         ensures served { (old : Machine) → IsOneMachine D.Disk self.old old → (new : Machine) × IsOneMachine D.Disk self.new new

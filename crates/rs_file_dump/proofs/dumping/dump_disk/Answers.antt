@@ -1,5 +1,5 @@
--- The disk is looked at, and then dumped.
-use Rattle.std.proofs.Common.{ℕ, ◌∙◌, IsTrue, ap, inl, inr, refl, subst, sym}
+-- The disk is opened, and then dumped.
+use Rattle.std.proofs.Common.{ℕ, ◌∙◌, ap, inl, inr, refl, subst, sym}
 use Rattle.rs_file_dump.specs.declared.held.HeldFile.{HeldFile}
 use Rattle.rs_file_dump.proofs.Dumps.{dumps, dumps_whole}
 use Rattle.rs_file_dump.proofs.Files.{many_reads}
@@ -15,12 +15,6 @@ returns-in-Ok-clause-honesty g c =
     let d = g.D.Disk in
     let reads = many_reads d (λ (held : HeldFile g.row.D.Denot). held.store) _ _ c.dump-ended.ensures.reads.passes in
     ap d.is_honest c.into_disk.ensures ∙ reads.keeps.honesty ∙ c.in-Ok.ensures.hands.honesty
-
-pub returns-in-Ok-clause-seen : goal.returns-in-Ok-clause-seen
-returns-in-Ok-clause-seen g c = λ honest.
-    let d = g.D.Disk in
-    let reads = many_reads d (λ (held : HeldFile g.row.D.Denot). held.store) _ _ c.dump-ended.ensures.reads.passes in
-    ap d.seen c.into_disk.ensures ∙ reads.seen (subst IsTrue (sym c.in-Ok.ensures.hands.honesty) honest) ∙ (c.in-Ok.ensures.opens honest).seen
 
 pub returns-in-Ok-clause-dumps : goal.returns-in-Ok-clause-dumps
 returns-in-Ok-clause-dumps g c = λ honest.

@@ -1,7 +1,8 @@
 -- It is served from the state that the disk stood for; or it was not opened.
-use Rattle.std.proofs.Common.{inl, inr, refl}
+use Rattle.std.proofs.Common.{inl, inr}
 use Rattle.rs_engine.specs.Files.{machine_with}
-use Rattle.rs_server.proofs.Closing.{kept}
+use Rattle.rs_pages.specs.declared.pages.TheConstants.{GREATEST_LIMIT}
+use Rattle.rs_server.proofs.Unopened.{refuses_file}
 use Rattle.rs_server.proofs.disks.serve_disk.Goals as goal
 
 pub returns-in-Ok : goal.returns-in-Ok
@@ -16,15 +17,4 @@ returns-in-Ok g c = λ honest.
 
 pub returns-in-Err : goal.returns-in-Err
 returns-in-Err g c = λ honest.
-    let refused = c.in-Err.ensures.opens honest in
-    inr (record {
-      disk = c.in-Err.disk;
-      why = c.in-Err.refusal;
-      refused = refl;
-      wants = c.in-Err.ensures.refused;
-      damaged = refused.damaged;
-      left_open = refused.left_open;
-      seen = refused.seen;
-      input = kept _;
-      output = kept _;
-    })
+    inr (refuses_file g.D.Disk GREATEST_LIMIT c.args.disk c.in-Err.disk c.in-Err.refusal _ _ (c.in-Err.ensures.opens honest) c.in-Err.ensures.refused)

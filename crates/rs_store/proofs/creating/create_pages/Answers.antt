@@ -1,9 +1,6 @@
 -- What was written is read, and says that nothing is defined.
-use Rattle.std.proofs.Common.{◌∙◌}
 use Rattle.rs_store.proofs.Files.{fresh_is_found, fresh_loaded}
-use Rattle.rs_store.proofs.HeldChanges.{changes_by_reading, shut_later}
 use Rattle.rs_store.proofs.Keeping.{leaves_by_reading}
-use Rattle.rs_store.proofs.Results.{ok_always}
 use Rattle.rs_store.proofs.creating.create_pages.Goals as goal
 
 pub returns-clause-sound : goal.returns-clause-sound
@@ -19,9 +16,5 @@ returns-clause-made g c = λ honest created.
     let now = c.load_state.new.pages in
     let made = c.in_ok-write_nothing.ensures.writes honest created in
     let read = leaves_by_reading d c.load_state.result was now c.load_state.ensures.rests in
-    let shut = shut_later d was now (changes_by_reading d c.load_state.result was now c.load_state.ensures.rests) (read.seen made.tied.honest) made.shut in
     fresh_loaded d c.file_holds_one_thing.ensures c.meant_contents_stay_meant.ensures.says c.meant_contents_stay_meant.ensures.same c.contents_have_one_state.ensures.same
-    was made now c.load_state.result read (c.load_state.ensures.loads made.tied) shut
-
-pub returns-clause-synced : goal.returns-clause-synced
-returns-clause-synced g c = ok_always c.load_state.result (c.load_state.ensures.rests.below.synced ∙ c.in_ok-write_nothing.ensures.synced)
+    was made now c.load_state.result read (c.load_state.ensures.loads made.tied)

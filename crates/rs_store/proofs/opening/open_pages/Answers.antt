@@ -1,6 +1,6 @@
--- The pages are read and checked, and then the flag is read.
-use Rattle.std.proofs.Common.{◌≡◌, Err, ap, subst}
-use Rattle.std.specs.Prelude.{◌≢◌}
+-- The pages are read and checked, and those of version 1 are made the file's.
+use Rattle.std.proofs.Common.{◌≡◌, ◌∙◌, Err, ap, subst, sym}
+use Rattle.std.specs.Prelude.{◌≢◌, IsTrue}
 use Rattle.std.proofs.lemmas.Result.{err_from_is_err_and}
 use Rattle.rs_disk.specs.Content.{Content}
 use Rattle.rs_page.specs.declared.file_header.TheConstants.{FLAG_OFFSET}
@@ -8,18 +8,49 @@ use Rattle.rs_pager.specs.Maps.{working}
 use Rattle.rs_refusal.specs.declared.refusal.Refusal.TheVariants as refusal
 use Rattle.rs_store.proofs.Keeping.{leaves_by_reading}
 use Rattle.rs_store.proofs.Loaded.{stands_for_some}
+use Rattle.rs_store.proofs.OpenedPages.{opened_pages, opened_read}
 use Rattle.rs_store.proofs.opening.open_pages.Goals as goal
 
-pub returns-in_err-check_closed-clause-left_open : goal.returns-in_err-check_closed-clause-left_open
-returns-in_err-check_closed-clause-left_open g c = λ tied is.
+pub returns-clause-opens : goal.returns-clause-opens
+returns-clause-opens g c =
+    let d = g.D.Disk in
+    let was = c.args.pager.now in
+    let mid = c.load_whole.new.pager in
+    let read = leaves_by_reading d c.load_whole.result was mid c.load_whole.ensures.rests in
+    opened_pages d was mid c.migrate.new.pager read c.migrate.ensures.alone c.migrate.ensures.keeps c.in_ok-migrate.ensures.kept c.migrate.ensures.begun
+
+pub returns-clause-read : goal.returns-clause-read
+returns-clause-read g c = λ has.
+    let d = g.D.Disk in
+    let was = c.args.pager.now in
+    let mid = c.load_whole.new.pager in
+    opened_read d was mid c.migrate.new.pager (leaves_by_reading d c.load_whole.result was mid c.load_whole.ensures.rests) c.migrate.ensures.alone has
+
+pub returns-in_err-migrate-clause-read : goal.returns-in_err-migrate-clause-read
+returns-in_err-migrate-clause-read g c = λ has.
+    let d = g.D.Disk in
+    let was = c.args.pager.now in
+    let mid = c.load_whole.new.pager in
+    opened_read d was mid c.migrate.new.pager (leaves_by_reading d c.load_whole.result was mid c.load_whole.ensures.rests) c.migrate.ensures.alone has
+
+pub returns-clause-closed : goal.returns-clause-closed
+returns-clause-closed g c = λ honest lacks.
+    let d = g.D.Disk in
+    let below = c.load_whole.ensures.rests.below in
+    subst (λ (content : Content). content.byte FLAG_OFFSET ≡ 0) (below.unwritten honest)
+    (c.in_ok-migrate.ensures.closed (subst IsTrue (sym below.honesty) honest) (below.lacks ∙ lacks))
+
+pub returns-in_err-migrate-clause-left_open : goal.returns-in_err-migrate-clause-left_open
+returns-in_err-migrate-clause-left_open g c = λ tied is.
     let d = g.D.Disk in
     let was = c.args.pager.now in
     let mid = c.load_whole.new.pager in
     let loaded = c.in_ok-loaded.loaded in
-    let read = leaves_by_reading d c.load_whole.result was mid c.load_whole.ensures.rests in
-    let p = err_from_is_err_and c.from_residual-in_err-check_closed.result c.from_residual-in_err-check_closed.ensures.1 in
-    let why : c.in_err-check_closed.field-0.0 ≡ refusal.FileNotClosed = cc (p.1, p.2, is) in (
+    let below = c.load_whole.ensures.rests.below in
+    let p = err_from_is_err_and c.from_residual-in_err-migrate.result c.from_residual-in_err-migrate.ensures.1 in
+    let why : c.in_err-migrate.field-0.0 ≡ refusal.FileNotClosed = cc (p.1, p.2, is) in
+    let left = c.in_err-migrate.ensures.open (below.tied tied).honest (ap Err why) in (
+      sym below.lacks ∙ left.0,
       stands_for_some (working d was) loaded.file loaded.catalog loaded.referents (c.in_ok-loaded.ensures.loads tied),
-      subst (λ (content : Content). content.byte FLAG_OFFSET ≢ 0) (c.load_whole.ensures.rests.below.unwritten tied.honest)
-          (c.in_err-check_closed.ensures.open (read.tied tied).honest (ap Err why)),
+      subst (λ (content : Content). content.byte FLAG_OFFSET ≢ 0) (below.unwritten tied.honest) left.1,
     )

@@ -45,3 +45,11 @@ returns-clause-says g c =
 
 pub returns-clause-stays : goal.returns-clause-stays
 returns-clause-stays g c = λ oldest snapshots shows. shows_on g.D.Disk oldest c.args.store.now c.loop-table.store c.loop-table.invariant.passes snapshots shows
+
+pub returns-in_err-has_spans_of-clause-passes : goal.returns-in_err-has_spans_of-clause-passes
+returns-in_err-has_spans_of-clause-passes g c =
+    passes_trans g.D.Disk c.args.store.now c.loop-table.store c.has_spans_of.new.store c.loop-table.invariant.passes c.has_spans_of.ensures.passes
+
+pub returns-then-branch-clause-passes : goal.returns-then-branch-clause-passes
+returns-then-branch-clause-passes g c =
+    passes_trans g.D.Disk c.args.store.now c.loop-table.store c.has_spans_of.new.store c.loop-table.invariant.passes c.has_spans_of.ensures.passes

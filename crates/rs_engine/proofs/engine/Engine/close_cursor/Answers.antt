@@ -44,7 +44,13 @@ returns-in_err-release g c =
           (λ machine is. close_refused d c.accepted_step_leaves_the_state_lawful.ensures was machine is c.args.session c.session_is_in_range.ensures name c.stores_have_their_laws.ensures c.requires.sound now why
           c.in_err-release.ensures.leaves (refl, refl));
       stays = subst (λ (e : EngineState g.row.D.Denot). StaysOnAnyDisk d c.args.session (tree.close_cursor name) (refused why) e now) c.self.view_is
-          (record { refused = stays_uncleared d was now c.in_err-release.ensures.leaves refl refl; cursors = tt; changes = tt });
+          (record {
+            refused = stays_uncleared d was now c.in_err-release.ensures.leaves refl refl;
+            cursors = tt;
+            changes = tt;
+            lasts = c.in_err-release.ensures.leaves.lasts;
+            limit = c.in_err-release.ensures.leaves.limit;
+          });
     })
 
 pub returns : goal.returns
@@ -63,5 +69,5 @@ returns g c = record {
       let was = engine_with c.self.inside.live.store c.self.inside.live.oldest c.self.inside.cursors in
       let now = engine_with c.release.new.self c.oldest_without-oldest.result (record { held = c.close.new.self; ahead = c.forget.new.self }) in
       subst (λ (e : EngineState g.row.D.Denot). StaysOnAnyDisk g.D.Disk c.args.session (tree.close_cursor c.args.name.now.bytes) (done [] 0) e now) c.self.view_is
-      (record { refused = tt; cursors = c.close.ensures; changes = tt });
+      (record { refused = tt; cursors = c.close.ensures; changes = tt; lasts = c.in_ok-release.ensures.leaves.lasts; limit = c.in_ok-release.ensures.leaves.limit });
 }

@@ -59,5 +59,5 @@ returns g c =
           c.checks.result c.checks.ensures machine here (tree.define_alignment name (map piece_tree pieces)) c.requires.sound (next_of name (pieces_of pieces)) (is_step name (pieces_of pieces)) 0 (subst (λ (xs : List code.Piece). (unseen : Unseen) → outcome (state_by c.checks.result unseen) 0 (tree.define_alignment name (map piece_tree xs)) ≡ Ok (counted 0 (next_of name (pieces_of xs) (state_by c.checks.result unseen)))) c.deref.ensures.value c.in_ok-check_new_alignment.ensures.accepted)
           (λ (state : State). IsLawful (next_of name (pieces_of pieces) state)) (record { store = c.define_alignment.new.self; oldest = c.oldest-oldest.result; cursors = old.cursors }) c.in_ok-define_alignment.field-0 c.in_ok-define_alignment.ensures.leaves
           c.oldest-oldest.result (refl, refl) c.oldest-oldest.ensures (λ is known low high level lawful. c.in_ok-define_alignment.ensures.defines old.oldest is.state is.stands low high lawful);
-      leaves = leaves_made g.D.Disk c.self.view_is refl;
+      leaves = leaves_made g.D.Disk c.self.view_is c.in_ok-define_alignment.ensures.leaves refl;
     }

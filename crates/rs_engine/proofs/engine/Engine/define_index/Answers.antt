@@ -53,5 +53,5 @@ returns g c =
           c.checks.result c.checks.ensures machine here (tree.define_index name table c.args.column.now.bytes) c.requires.sound (next_of name table c.in_ok-of.of.place) (is_step name table c.in_ok-of.of.place) 0 c.in_ok-of.ensures.accepted
           (λ (state : State). IsLawful (next_of name table c.in_ok-of.of.place state)) (record { store = c.define_index.new.self; oldest = c.oldest-oldest.result; cursors = old.cursors }) c.in_ok-define_index.field-0 c.in_ok-define_index.ensures.leaves
           c.oldest-oldest.result (refl, refl) c.oldest-oldest.ensures (λ is known low high level lawful. c.in_ok-define_index.ensures.defines old.oldest is.state is.stands low high lawful);
-      leaves = leaves_made g.D.Disk c.self.view_is refl;
+      leaves = leaves_made g.D.Disk c.self.view_is c.in_ok-define_index.ensures.leaves refl;
     }

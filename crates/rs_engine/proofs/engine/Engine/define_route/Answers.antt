@@ -50,5 +50,5 @@ returns g c =
           c.checks.result c.checks.ensures machine here (tree.define_route name c.args.start c.args.finish) c.requires.sound (next_of name c.args.start c.args.finish) (is_step name c.args.start c.args.finish) 0 c.in_ok-check_new_route.ensures.accepted
           (λ (state : State). IsLawful (next_of name c.args.start c.args.finish state)) (record { store = c.define_route.new.self; oldest = c.oldest-oldest.result; cursors = old.cursors }) c.in_ok-define_route.field-0 c.in_ok-define_route.ensures.leaves
           c.oldest-oldest.result (refl, refl) c.oldest-oldest.ensures (λ is known low high level lawful. c.in_ok-define_route.ensures.defines old.oldest is.state is.stands low high lawful);
-      leaves = leaves_made g.D.Disk c.self.view_is refl;
+      leaves = leaves_made g.D.Disk c.self.view_is c.in_ok-define_route.ensures.leaves refl;
     }

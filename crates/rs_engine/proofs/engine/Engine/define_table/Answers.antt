@@ -66,5 +66,5 @@ returns g c =
           c.checks.result c.checks.ensures machine here (tree.define_table c.args.kind name columns) c.requires.sound (next_of c.args.kind name columns) (is_step c.args.kind name columns) 0 (subst (λ (xs : List ColumnDefinition). (unseen : Unseen) → outcome (state_by c.checks.result unseen) 0 (tree.define_table c.args.kind name (map column_tree xs)) ≡ Ok (counted 0 (next_of c.args.kind name (map column_tree xs) (state_by c.checks.result unseen)))) c.deref.ensures.value c.in_ok-check_new_table.ensures.accepted)
           (λ (state : State). IsLawful (next_of c.args.kind name columns state)) (record { store = c.define_table.new.self; oldest = c.oldest-oldest.result; cursors = old.cursors }) c.in_ok-define_table.field-0 c.in_ok-define_table.ensures.leaves
           c.oldest-oldest.result (refl, refl) c.oldest-oldest.ensures (λ is known low high level lawful. c.in_ok-define_table.ensures.defines old.oldest is.state is.stands low high lawful);
-      leaves = leaves_made g.D.Disk c.self.view_is refl;
+      leaves = leaves_made g.D.Disk c.self.view_is c.in_ok-define_table.ensures.leaves refl;
     }

@@ -60,5 +60,5 @@ returns g c =
           c.checks.result c.checks.ensures machine here (tree.define_view name query text) c.requires.sound (next_of name query) (is_step name query) 0 c.in_ok-check_new_view.ensures.accepted
           (λ (state : State). HasLine name query text × IsLawful (next_of name query state)) (record { store = c.define_view.new.self; oldest = c.oldest-oldest.result; cursors = old.cursors }) c.in_ok-define_view.field-0 c.in_ok-define_view.ensures.leaves
           c.oldest-oldest.result (refl, refl) c.oldest-oldest.ensures (λ is known low high level lawful. c.in_ok-define_view.ensures.defines old.oldest is.state is.stands low high (record { line = said.line; session = session; asks = said.asks }, lawful));
-      leaves = leaves_made g.D.Disk c.self.view_is refl;
+      leaves = leaves_made g.D.Disk c.self.view_is c.in_ok-define_view.ensures.leaves refl;
     }

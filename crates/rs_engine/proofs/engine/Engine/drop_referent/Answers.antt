@@ -54,5 +54,5 @@ returns g c =
           Always (record { store = c.drop_referent.new.self; oldest = c.oldest-oldest.result; cursors = old.cursors }) c.in_ok-drop_referent.field-0 c.in_ok-drop_referent.ensures.leaves
           c.oldest-oldest.result (refl, refl) c.oldest-oldest.ensures (λ is known low high level lawful. c.in_ok-drop_referent.ensures.drops old.oldest is.state is.stands low high
           (known (λ (state : State). has (state.referents route) name ≡ true) (λ state alone. alone) c.in_ok-check_old_referent.ensures.has, lawful));
-      leaves = leaves_made g.D.Disk c.self.view_is refl;
+      leaves = leaves_made g.D.Disk c.self.view_is c.in_ok-drop_referent.ensures.leaves refl;
     }

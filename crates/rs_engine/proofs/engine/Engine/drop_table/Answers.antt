@@ -54,5 +54,5 @@ returns g c =
           (level (none_waits_for_table machine.state name (counted 0 (next_of name machine.state))
           (found c.accepted_step_leaves_the_state_lawful.ensures g.D.Disk c.stores_have_their_laws.ensures old c.args.self.now c.self.view_is c.checks.result c.checks.ensures machine here (tree.drop_table name)
           (λ (state : State). table_dropped state name ≡ Ok (counted 0 (next_of name state))) c.in_ok-check_old_table.ensures.accepted))) old.oldest is.state is.stands low high lawful);
-      leaves = leaves_made g.D.Disk c.self.view_is refl;
+      leaves = leaves_made g.D.Disk c.self.view_is c.in_ok-drop_table.ensures.leaves refl;
     }

@@ -50,5 +50,5 @@ returns g c =
           c.checks.result c.checks.ensures machine here (tree.drop_view name) c.requires.sound (next_of name) (is_step name) 0 c.in_ok-check_old_view.ensures.accepted
           (λ (state : State). IsLawful (next_of name state)) (record { store = c.drop_view.new.self; oldest = c.oldest-oldest.result; cursors = old.cursors }) c.in_ok-drop_view.field-0 c.in_ok-drop_view.ensures.leaves
           c.oldest-oldest.result (refl, refl) c.oldest-oldest.ensures (λ is known low high level lawful. c.in_ok-drop_view.ensures.drops old.oldest is.state is.stands low high lawful);
-      leaves = leaves_made g.D.Disk c.self.view_is refl;
+      leaves = leaves_made g.D.Disk c.self.view_is c.in_ok-drop_view.ensures.leaves refl;
     }

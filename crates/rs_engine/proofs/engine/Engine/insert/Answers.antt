@@ -83,5 +83,5 @@ returns g c =
           (made_at laws d states old c.args.self.now c.self.view_is c.checks.result c.checks.ensures machine here said c.requires.sound
           (with_table_named name next) (table_step name next) count t.is Always now c.in_ok-new_facts.new_facts c.in_ok-new_facts.ensures.leaves
           c.oldest-oldest.result (refl, refl) c.oldest-oldest.ensures (λ is known low high level lawful. (c.in_ok-new_facts.ensures.inserts old.oldest is.state is.stands low high t.table (there is) lawful).0));
-      leaves = leaves_made g.D.Disk c.self.view_is refl;
+      leaves = leaves_made g.D.Disk c.self.view_is c.in_ok-new_facts.ensures.leaves refl;
     }

@@ -59,5 +59,5 @@ returns g c =
           c.checks.result c.checks.ensures machine here (tree.move_referent route name (expression_of c.args.position.now)) c.requires.sound (put route name c.in_ok-measure.measure) (is_step route name c.in_ok-measure.measure) 0 c.in_ok-measure.ensures.accepted
           Always (record { store = c.put_referent.new.self; oldest = c.oldest-oldest.result; cursors = old.cursors }) c.in_ok-put_referent.field-0 c.in_ok-put_referent.ensures.leaves
           c.oldest-oldest.result (refl, refl) c.oldest-oldest.ensures (λ is known low high level lawful. c.in_ok-put_referent.ensures.puts old.oldest is.state is.stands low high lawful);
-      leaves = leaves_made g.D.Disk c.self.view_is refl;
+      leaves = leaves_made g.D.Disk c.self.view_is c.in_ok-put_referent.ensures.leaves refl;
     }

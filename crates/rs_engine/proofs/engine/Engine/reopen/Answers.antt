@@ -1,17 +1,16 @@
 -- The store stands in the same state, and there are no cursors.
-use Rattle.std.proofs.Common.{[], Ok, Err, ap, arith, inl, inr, refl, subst, sym}
+use Rattle.std.proofs.Common.{[], Ok, Err, ap, arith, inl, inr, refl, subst}
 use Rattle.std.proofs.lemmas.Result.{err_from_is_err_and}
 use Rattle.rs_engine.specs.Files.{Saves}
 use Rattle.rs_engine.specs.Kept.{EngineState}
 use Rattle.rs_engine.specs.Serving.{Serves}
 use Rattle.rs_engine.specs.Staying.{StaysAsItWas}
-use Rattle.rs_engine.proofs.Filing.{engine_with, names_a_want, served_anew, stays, without}
+use Rattle.rs_engine.proofs.Filing.{engine_with, names_a_want, saves_by, served_anew, stays}
 use Rattle.rs_engine.proofs.Staying.{stays_unread}
 use Rattle.rs_machine.specs.Served.{done, refused}
 use Rattle.rs_machine.specs.State.{State}
 use Rattle.rs_machine.specs.Step.{counted, without_cursors}
 use Rattle.rs_store_source.proofs.Results.{err_always}
-use Rattle.rs_store_source.specs.Standing.{Stands}
 use Rattle.rs_syntax.specs.Tree.{reopen}
 use Rattle.rs_engine.proofs.engine.Engine.reopen.Goals as goal
 
@@ -47,13 +46,8 @@ returns-clause-saves g c =
     let d = g.D.Disk in
     let was = engine_with c.self.inside.live.store c.self.inside.live.oldest c.self.inside.cursors in
     let now = engine_with c.reopen.new.self c.accepted-self-inside.result (record { held = c.close_all.new.self; ahead = c.clear.new.self }) in
-    subst (λ (e : EngineState g.row.D.Denot). Saves d (Ok tt) e now) c.self.view_is (record {
-      stands = λ machine is. subst (λ (state : State). Stands now.store.pager.limit (d.seen now.store.pager.disk) state) (sym (without d was machine is))
-          (c.in_ok-reopen.ensures.saves.stands was.oldest is.state is.stands);
-      synced = c.in_ok-reopen.ensures.saves.synced;
-      honesty = c.in_ok-reopen.ensures.reopens.honesty;
-      limit = c.in_ok-reopen.ensures.reopens.limit;
-    })
+    subst (λ (e : EngineState g.row.D.Denot). Saves d (Ok tt) e now) c.self.view_is
+    (saves_by d was now tt c.in_ok-reopen.ensures.saves c.in_ok-reopen.ensures.reopens.honesty c.in_ok-reopen.ensures.reopens.limit)
 
 pub returns-in_err-reopen-clause-stays : goal.returns-in_err-reopen-clause-stays
 returns-in_err-reopen-clause-stays g c =

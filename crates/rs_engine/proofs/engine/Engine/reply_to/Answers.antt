@@ -8,7 +8,7 @@ use Rattle.rs_syntax.specs.QueryView.{query_tree}
 use Rattle.rs_engine.proofs.Replying.{replied}
 use Rattle.rs_engine.proofs.Clearing.{cleared_as}
 use Rattle.rs_engine.proofs.Reading.{reads_refl}
-use Rattle.rs_engine.proofs.Saving.{reopened_by, saved_as, saved_by}
+use Rattle.rs_engine.proofs.Saving.{reopened_by, saved_as, saved_by, saved_none}
 use Rattle.rs_engine.proofs.Staying.{stays_as, stays_counted, stays_listed, stays_reopened}
 use Rattle.rs_serve.specs.Said.{IsSaid}
 use Rattle.rs_syntax.specs.View.{location_tree, summed_tree, tree_of}
@@ -94,70 +94,70 @@ pub returns-in-Reopen-clause-served : goal.returns-in-Reopen-clause-served
 returns-in-Reopen-clause-served g c machine is = replied g.D.Disk c.args.session machine c.in-Reopen.is c.nothing_reply.ensures.reply (c.reopen.ensures.serves machine is)
 
 pub returns-in-DefineRoute-clause-saved : goal.returns-in-DefineRoute-clause-saved
-returns-in-DefineRoute-clause-saved g c = saved_as g.D.Disk _ _ _ c.args.command _ c.in-DefineRoute.is (record { stands = λ machine is. tt; synced = tt })
+returns-in-DefineRoute-clause-saved g c = saved_none g.D.Disk _ _ _ c.args.command _ c.in-DefineRoute.is (λ P. tt)
 
 pub returns-in-DefineTable-clause-saved : goal.returns-in-DefineTable-clause-saved
-returns-in-DefineTable-clause-saved g c = saved_as g.D.Disk _ _ _ c.args.command _ c.in-DefineTable.is (record { stands = λ machine is. tt; synced = tt })
+returns-in-DefineTable-clause-saved g c = saved_none g.D.Disk _ _ _ c.args.command _ c.in-DefineTable.is (λ P. tt)
 
 pub returns-in-DefineReferent-clause-saved : goal.returns-in-DefineReferent-clause-saved
-returns-in-DefineReferent-clause-saved g c = saved_as g.D.Disk _ _ _ c.args.command _ c.in-DefineReferent.is (record { stands = λ machine is. tt; synced = tt })
+returns-in-DefineReferent-clause-saved g c = saved_none g.D.Disk _ _ _ c.args.command _ c.in-DefineReferent.is (λ P. tt)
 
 pub returns-in-DefineIndex-clause-saved : goal.returns-in-DefineIndex-clause-saved
-returns-in-DefineIndex-clause-saved g c = saved_as g.D.Disk _ _ _ c.args.command _ c.in-DefineIndex.is (record { stands = λ machine is. tt; synced = tt })
+returns-in-DefineIndex-clause-saved g c = saved_none g.D.Disk _ _ _ c.args.command _ c.in-DefineIndex.is (λ P. tt)
 
 pub returns-in-DefineView-clause-saved : goal.returns-in-DefineView-clause-saved
-returns-in-DefineView-clause-saved g c = saved_as g.D.Disk _ _ _ c.args.command _ c.in-DefineView.is (record { stands = λ machine is. tt; synced = tt })
+returns-in-DefineView-clause-saved g c = saved_none g.D.Disk _ _ _ c.args.command _ c.in-DefineView.is (λ P. tt)
 
 pub returns-in-DefineAlignment-clause-saved : goal.returns-in-DefineAlignment-clause-saved
-returns-in-DefineAlignment-clause-saved g c = saved_as g.D.Disk _ _ _ c.args.command _ c.in-DefineAlignment.is (record { stands = λ machine is. tt; synced = tt })
+returns-in-DefineAlignment-clause-saved g c = saved_none g.D.Disk _ _ _ c.args.command _ c.in-DefineAlignment.is (λ P. tt)
 
 pub returns-in-MoveReferent-clause-saved : goal.returns-in-MoveReferent-clause-saved
-returns-in-MoveReferent-clause-saved g c = saved_as g.D.Disk _ _ _ c.args.command _ c.in-MoveReferent.is (record { stands = λ machine is. tt; synced = tt })
+returns-in-MoveReferent-clause-saved g c = saved_none g.D.Disk _ _ _ c.args.command _ c.in-MoveReferent.is (λ P. tt)
 
 pub returns-in-DropRoute-clause-saved : goal.returns-in-DropRoute-clause-saved
-returns-in-DropRoute-clause-saved g c = saved_as g.D.Disk _ _ _ c.args.command _ c.in-DropRoute.is (record { stands = λ machine is. tt; synced = tt })
+returns-in-DropRoute-clause-saved g c = saved_none g.D.Disk _ _ _ c.args.command _ c.in-DropRoute.is (λ P. tt)
 
 pub returns-in-DropTable-clause-saved : goal.returns-in-DropTable-clause-saved
-returns-in-DropTable-clause-saved g c = saved_as g.D.Disk _ _ _ c.args.command _ c.in-DropTable.is (record { stands = λ machine is. tt; synced = tt })
+returns-in-DropTable-clause-saved g c = saved_none g.D.Disk _ _ _ c.args.command _ c.in-DropTable.is (λ P. tt)
 
 pub returns-in-DropIndex-clause-saved : goal.returns-in-DropIndex-clause-saved
-returns-in-DropIndex-clause-saved g c = saved_as g.D.Disk _ _ _ c.args.command _ c.in-DropIndex.is (record { stands = λ machine is. tt; synced = tt })
+returns-in-DropIndex-clause-saved g c = saved_none g.D.Disk _ _ _ c.args.command _ c.in-DropIndex.is (λ P. tt)
 
 pub returns-in-DropView-clause-saved : goal.returns-in-DropView-clause-saved
-returns-in-DropView-clause-saved g c = saved_as g.D.Disk _ _ _ c.args.command _ c.in-DropView.is (record { stands = λ machine is. tt; synced = tt })
+returns-in-DropView-clause-saved g c = saved_none g.D.Disk _ _ _ c.args.command _ c.in-DropView.is (λ P. tt)
 
 pub returns-in-DropAlignment-clause-saved : goal.returns-in-DropAlignment-clause-saved
-returns-in-DropAlignment-clause-saved g c = saved_as g.D.Disk _ _ _ c.args.command _ c.in-DropAlignment.is (record { stands = λ machine is. tt; synced = tt })
+returns-in-DropAlignment-clause-saved g c = saved_none g.D.Disk _ _ _ c.args.command _ c.in-DropAlignment.is (λ P. tt)
 
 pub returns-in-DropReferent-clause-saved : goal.returns-in-DropReferent-clause-saved
-returns-in-DropReferent-clause-saved g c = saved_as g.D.Disk _ _ _ c.args.command _ c.in-DropReferent.is (record { stands = λ machine is. tt; synced = tt })
+returns-in-DropReferent-clause-saved g c = saved_none g.D.Disk _ _ _ c.args.command _ c.in-DropReferent.is (λ P. tt)
 
 pub returns-in-Insert-clause-saved : goal.returns-in-Insert-clause-saved
-returns-in-Insert-clause-saved g c = saved_as g.D.Disk _ _ _ c.args.command _ c.in-Insert.is (record { stands = λ machine is. tt; synced = tt })
+returns-in-Insert-clause-saved g c = saved_none g.D.Disk _ _ _ c.args.command _ c.in-Insert.is (λ P. tt)
 
 pub returns-in-Remove-clause-saved : goal.returns-in-Remove-clause-saved
-returns-in-Remove-clause-saved g c = saved_as g.D.Disk _ _ _ c.args.command _ c.in-Remove.is (record { stands = λ machine is. tt; synced = tt })
+returns-in-Remove-clause-saved g c = saved_none g.D.Disk _ _ _ c.args.command _ c.in-Remove.is (λ P. tt)
 
 pub returns-in-Translate-clause-saved : goal.returns-in-Translate-clause-saved
-returns-in-Translate-clause-saved g c = saved_as g.D.Disk _ _ _ c.args.command _ c.in-Translate.is (record { stands = λ machine is. tt; synced = tt })
+returns-in-Translate-clause-saved g c = saved_none g.D.Disk _ _ _ c.args.command _ c.in-Translate.is (λ P. tt)
 
 pub returns-in-Select-clause-saved : goal.returns-in-Select-clause-saved
-returns-in-Select-clause-saved g c = saved_as g.D.Disk _ _ _ c.args.command _ c.in-Select.is (record { stands = λ machine is. tt; synced = tt })
+returns-in-Select-clause-saved g c = saved_none g.D.Disk _ _ _ c.args.command _ c.in-Select.is (λ P. tt)
 
 pub returns-in-Total-clause-saved : goal.returns-in-Total-clause-saved
-returns-in-Total-clause-saved g c = saved_as g.D.Disk _ _ _ c.args.command _ c.in-Total.is (record { stands = λ machine is. tt; synced = tt })
+returns-in-Total-clause-saved g c = saved_none g.D.Disk _ _ _ c.args.command _ c.in-Total.is (λ P. tt)
 
 pub returns-in-Explain-clause-saved : goal.returns-in-Explain-clause-saved
-returns-in-Explain-clause-saved g c = saved_as g.D.Disk _ _ _ c.args.command _ c.in-Explain.is (record { stands = λ machine is. tt; synced = tt })
+returns-in-Explain-clause-saved g c = saved_none g.D.Disk _ _ _ c.args.command _ c.in-Explain.is (λ P. tt)
 
 pub returns-in-Open-clause-saved : goal.returns-in-Open-clause-saved
-returns-in-Open-clause-saved g c = saved_as g.D.Disk _ _ _ c.args.command _ c.in-Open.is (record { stands = λ machine is. tt; synced = tt })
+returns-in-Open-clause-saved g c = saved_none g.D.Disk _ _ _ c.args.command _ c.in-Open.is (λ P. tt)
 
 pub returns-in-Fetch-clause-saved : goal.returns-in-Fetch-clause-saved
-returns-in-Fetch-clause-saved g c = saved_as g.D.Disk _ _ _ c.args.command _ c.in-Fetch.is (record { stands = λ machine is. tt; synced = tt })
+returns-in-Fetch-clause-saved g c = saved_none g.D.Disk _ _ _ c.args.command _ c.in-Fetch.is (λ P. tt)
 
 pub returns-in-Close-clause-saved : goal.returns-in-Close-clause-saved
-returns-in-Close-clause-saved g c = saved_as g.D.Disk _ _ _ c.args.command _ c.in-Close.is (record { stands = λ machine is. tt; synced = tt })
+returns-in-Close-clause-saved g c = saved_none g.D.Disk _ _ _ c.args.command _ c.in-Close.is (λ P. tt)
 
 pub returns-in-Save-clause-saved : goal.returns-in-Save-clause-saved
 returns-in-Save-clause-saved g c = saved_as g.D.Disk _ _ _ c.args.command _ c.in-Save.is (saved_by g.D.Disk _ _ _ c.save.result c.count_reply-in-Save.ensures.reply c.save.ensures.saves)
@@ -307,4 +307,4 @@ pub returns-in-Save-clause-stays : goal.returns-in-Save-clause-stays
 returns-in-Save-clause-stays g c = stays_counted g.D.Disk c.in-Save.is c.count_reply-in-Save.ensures.reply c.save.ensures.leaves (λ held. held) tt
 
 pub returns-in-Reopen-clause-stays : goal.returns-in-Reopen-clause-stays
-returns-in-Reopen-clause-stays g c = stays_reopened g.D.Disk c.reopen.result c.in-Reopen.is c.nothing_reply.ensures.reply c.reopen.ensures.stays c.reopen.ensures.none
+returns-in-Reopen-clause-stays g c = stays_reopened g.D.Disk c.reopen.result c.in-Reopen.is c.nothing_reply.ensures.reply c.reopen.ensures.stays c.reopen.ensures.none c.reopen.ensures.lasts c.reopen.ensures.saves.limit

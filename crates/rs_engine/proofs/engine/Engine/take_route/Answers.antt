@@ -76,5 +76,5 @@ returns g c =
           (λ is known low high level lawful. c.in_ok-drop_route.ensures.drops
           (level (none_waits_for_route machine.state name (counted 0 (next_of name machine.state)) out)) old.oldest is.state is.stands low high
           (none_on g.D.Disk old machine is name c.args.has_facts tells c.in_ok-check_old_route.ensures.no_facts, lawful));
-      leaves = leaves_made g.D.Disk c.self.view_is refl;
+      leaves = leaves_made g.D.Disk c.self.view_is c.in_ok-drop_route.ensures.leaves refl;
     }

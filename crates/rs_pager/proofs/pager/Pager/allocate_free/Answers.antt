@@ -5,6 +5,7 @@ use Rattle.rs_pager.specs.Paged.{Paged}
 use Rattle.rs_pager.specs.Maps.{pager_store, IsTied}
 use Rattle.rs_pager.specs.Taking.{FindsNoFree}
 use Rattle.rs_pager.proofs.AllocatedFree.{allocates-after, none-refuses}
+use Rattle.rs_pager.specs.Below.{KeepsBelow-trans}
 use Rattle.rs_pager.proofs.pager.Pager.allocate_free.Goals as goal
 
 pub returns-in_err-next-clause-refused : goal.returns-in_err-next-clause-refused
@@ -22,3 +23,6 @@ returns-clause-allocates g c =
     let mid = c.load_free.new.self in
     allocates-after (IsTied d old) (IsTied d mid) c.args.kind c.self.inside.working.first_free (pager_store d old) (pager_store d mid) (pager_store d c.take_free.new.self)
     c.load_free.ensures.rests.below.tied c.load_free.ensures.rests.rests c.in_ok-next.ensures.rests.count c.in_ok-take_free.ensures.allocates
+
+pub returns-clause-keeps : goal.returns-clause-keeps
+returns-clause-keeps g c = KeepsBelow-trans g.D.Disk _ _ _ c.load_free.ensures.rests.below c.take_free.ensures.keeps

@@ -1,22 +1,121 @@
--- A disk that has all that is committed is not found damaged.
-use Rattle.std.proofs.Common.{◌≡◌, ◌∙◌, Err, IfErr, Result, ap, arith, refl, subst, sym}
-use Rattle.std.proofs.lemmas.Result.{IfErr-at_err, err_from_is_err_and}
-use Rattle.rs_pager.specs.Maps.{HoldsNoChange, IsTied}
+-- Page 0 is read.
+use Rattle.std.proofs.Common.{subst}
+use Rattle.rs_pager.specs.Maps.{KeepsBelow, KeepsMaps}
 use Rattle.rs_pager.specs.Paged.{Paged}
-use Rattle.rs_pager.proofs.Stored.{Stores-unchanged}
-use Rattle.rs_refusal.specs.declared.refusal.Refusal.{Refusal}
-use Rattle.rs_refusal.specs.declared.refusal.Refusal.TheVariants.{DamagedFile}
+use Rattle.rs_pager.proofs.Keeping.{with_clean}
+use Rattle.rs_pager.proofs.Reread.{reread-below, reread-maps}
 use Rattle.rs_pager.proofs.pager.Pager.check_first_page.Goals as goal
 
-err_is : {T : Type 0} (r : Result T Refusal) (one other : Refusal) → r ≡ Err one → r ≡ Err other → one ≡ other
-err_is r one other a b = IfErr-at_err (λ why. one ≡ why) b (subst (λ s. IfErr s (λ why. one ≡ why)) (sym a) refl)
-
-pub returns-in_err-fields-clause-sound : goal.returns-in_err-fields-clause-sound
-returns-in_err-fields-clause-sound g c = λ tied unchanged is.
+pub returns-in_err-fields-clause-keeps : goal.returns-in_err-fields-clause-keeps
+returns-in_err-fields-clause-keeps g c =
     let d = g.D.Disk in
-    let p = err_from_is_err_and c.from_residual.result c.from_residual.ensures.1 in
-    let why : c.in_err-fields.field-0.0 ≡ DamagedFile = err_is c.from_residual.result c.in_err-fields.field-0.0 DamagedFile (p.1 ∙ ap Err p.2) is in
-    subst (λ (pager : Paged g.row.D.Denot). IsTied d pager → HoldsNoChange pager → ⊥) c.self.view_is
-    (λ tied_there unchanged_there. (c.in_err-fields.ensures.damaged tied_there.honest (ap Err why)).none _
-    (Stores-unchanged d _ tied_there unchanged_there c.self.invariant.directory) c.self.invariant.directory (omega (arith, c.self.invariant.kept_room, c.self.invariant.within)))
-    tied unchanged
+    let i = c.self.inside in
+    let s : Paged _ = record {
+      disk = i.disk;
+      limit = i.limit;
+      changes = i.changes;
+      clean = i.clean.pages;
+      most_clean = i.clean.most;
+      committed_fields = i.committed_fields;
+      working = i.working;
+      is_header_changed = i.is_header_changed;
+      is_begun = i.is_begun;
+      full_refusals = i.full_refusals;
+      under_way = i.under_way;
+    } in
+    subst (λ (old : Paged _). KeepsMaps d old (with_clean s c.read_second_fields.new.disk s.clean)) c.self.view_is (reread-maps d s c.read_second_fields.new.disk c.read_second_fields.ensures.reaches c.self.invariant)
+
+pub returns-in_err-fields-clause-below : goal.returns-in_err-fields-clause-below
+returns-in_err-fields-clause-below g c =
+    let d = g.D.Disk in
+    let i = c.self.inside in
+    let s : Paged _ = record {
+      disk = i.disk;
+      limit = i.limit;
+      changes = i.changes;
+      clean = i.clean.pages;
+      most_clean = i.clean.most;
+      committed_fields = i.committed_fields;
+      working = i.working;
+      is_header_changed = i.is_header_changed;
+      is_begun = i.is_begun;
+      full_refusals = i.full_refusals;
+      under_way = i.under_way;
+    } in
+    subst (λ (old : Paged _). KeepsBelow d old (with_clean s c.read_second_fields.new.disk s.clean)) c.self.view_is (reread-below d s c.read_second_fields.new.disk c.read_second_fields.ensures.reaches)
+
+pub returns-then-ne-clause-keeps : goal.returns-then-ne-clause-keeps
+returns-then-ne-clause-keeps g c =
+    let d = g.D.Disk in
+    let i = c.self.inside in
+    let s : Paged _ = record {
+      disk = i.disk;
+      limit = i.limit;
+      changes = i.changes;
+      clean = i.clean.pages;
+      most_clean = i.clean.most;
+      committed_fields = i.committed_fields;
+      working = i.working;
+      is_header_changed = i.is_header_changed;
+      is_begun = i.is_begun;
+      full_refusals = i.full_refusals;
+      under_way = i.under_way;
+    } in
+    subst (λ (old : Paged _). KeepsMaps d old (with_clean s c.read_second_fields.new.disk s.clean)) c.self.view_is (reread-maps d s c.read_second_fields.new.disk c.read_second_fields.ensures.reaches c.self.invariant)
+
+pub returns-then-ne-clause-below : goal.returns-then-ne-clause-below
+returns-then-ne-clause-below g c =
+    let d = g.D.Disk in
+    let i = c.self.inside in
+    let s : Paged _ = record {
+      disk = i.disk;
+      limit = i.limit;
+      changes = i.changes;
+      clean = i.clean.pages;
+      most_clean = i.clean.most;
+      committed_fields = i.committed_fields;
+      working = i.working;
+      is_header_changed = i.is_header_changed;
+      is_begun = i.is_begun;
+      full_refusals = i.full_refusals;
+      under_way = i.under_way;
+    } in
+    subst (λ (old : Paged _). KeepsBelow d old (with_clean s c.read_second_fields.new.disk s.clean)) c.self.view_is (reread-below d s c.read_second_fields.new.disk c.read_second_fields.ensures.reaches)
+
+pub returns-clause-keeps : goal.returns-clause-keeps
+returns-clause-keeps g c =
+    let d = g.D.Disk in
+    let i = c.self.inside in
+    let s : Paged _ = record {
+      disk = i.disk;
+      limit = i.limit;
+      changes = i.changes;
+      clean = i.clean.pages;
+      most_clean = i.clean.most;
+      committed_fields = i.committed_fields;
+      working = i.working;
+      is_header_changed = i.is_header_changed;
+      is_begun = i.is_begun;
+      full_refusals = i.full_refusals;
+      under_way = i.under_way;
+    } in
+    subst (λ (old : Paged _). KeepsMaps d old (with_clean s c.read_second_fields.new.disk s.clean)) c.self.view_is (reread-maps d s c.read_second_fields.new.disk c.read_second_fields.ensures.reaches c.self.invariant)
+
+pub returns-clause-below : goal.returns-clause-below
+returns-clause-below g c =
+    let d = g.D.Disk in
+    let i = c.self.inside in
+    let s : Paged _ = record {
+      disk = i.disk;
+      limit = i.limit;
+      changes = i.changes;
+      clean = i.clean.pages;
+      most_clean = i.clean.most;
+      committed_fields = i.committed_fields;
+      working = i.working;
+      is_header_changed = i.is_header_changed;
+      is_begun = i.is_begun;
+      full_refusals = i.full_refusals;
+      under_way = i.under_way;
+    } in
+    subst (λ (old : Paged _). KeepsBelow d old (with_clean s c.read_second_fields.new.disk s.clean)) c.self.view_is (reread-below d s c.read_second_fields.new.disk c.read_second_fields.ensures.reaches)

@@ -25,6 +25,7 @@ returns-in-Some g c =
       is_header_changed = i.is_header_changed;
       is_begun = i.is_begun;
       full_refusals = i.full_refusals;
+      under_way = i.under_way;
     } in
     let there : held_change (held s n) ≡ Some c.in-Some.page.now.bytes = sym c.working.ensures ∙ ap (option_map (λ (page : Bor Page). page.now.bytes)) c.in-Some.is in
     record { fit = subst (FindsFit n c.in-Some.page.now.bytes) c.self.view_is (finds-change s n c.in-Some.page.now.bytes there); none = tt }
@@ -44,6 +45,7 @@ returns-in_default g c =
       is_header_changed = i.is_header_changed;
       is_begun = i.is_begun;
       full_refusals = i.full_refusals;
+      under_way = i.under_way;
     } in
     let bytes = option_map (λ (page : Bor Page). page.now.bytes) in
     let none : held_change (held s n) ≡ None = sym c.working.ensures ∙ ap bytes c.in-None.is in

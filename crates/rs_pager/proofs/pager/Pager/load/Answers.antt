@@ -3,7 +3,8 @@ use Rattle.std.proofs.Common.{◌<◌, ℕ, subst, sym, arith}
 use Rattle.rs_pages.specs.Lending.{RestsAfter}
 use Rattle.rs_pager.specs.Paged.{Paged}
 use Rattle.rs_pager.specs.Maps.{pager_store, KeepsBelow, IsTied}
-use Rattle.rs_pager.proofs.Loaded.{with_clean, clean-rests_after}
+use Rattle.rs_pager.proofs.Keeping.{with_clean}
+use Rattle.rs_pager.proofs.Loaded.{clean-rests_after}
 use Rattle.rs_pager.proofs.pager.Pager.load.Goals as goal
 
 pub returns-clause-rests : goal.returns-clause-rests
@@ -20,6 +21,7 @@ returns-clause-rests g c =
       is_header_changed = c.self.inside.is_header_changed;
       is_begun = c.self.inside.is_begun;
       full_refusals = c.self.inside.full_refusals;
+      under_way = c.self.inside.under_way;
     } in
     let pos : 0 < c.args.number = omega arith in
     subst (λ (old : Paged _). RestsAfter (IsTied d) (pager_store d) (KeepsBelow d) c.load.result old (record (with_clean s c.load.new.disk c.load.new.self.pages) { most_clean = c.load.new.self.most })) c.self.view_is
@@ -27,7 +29,6 @@ returns-clause-rests g c =
     (clean-rests_after d c.args.number s c.load.new.disk c.load.new.self.pages pos (record {
       honesty = c.load.ensures.honesty;
       keeping = c.load.ensures.keeping;
-      synced = c.load.ensures.synced;
       same = c.load.ensures.same;
       crash = c.load.ensures.crash;
       loads = c.load.ensures.loads;

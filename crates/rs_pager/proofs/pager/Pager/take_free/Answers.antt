@@ -6,7 +6,7 @@ use Rattle.rs_pager.specs.Paged.{Paged}
 use Rattle.rs_pager.specs.Maps.{pager_store, IsTied}
 use Rattle.rs_pager.specs.Found.{IsAtHand}
 use Rattle.rs_pager.specs.Taking.{FindsFree}
-use Rattle.rs_pager.proofs.Edited.{with_changes}
+use Rattle.rs_pager.proofs.Keeping.{with_changes}
 use Rattle.rs_pager.proofs.Allocated.{taken, with_free}
 use Rattle.rs_pager.proofs.pager.Pager.take_free.Goals as goal
 
@@ -25,6 +25,7 @@ returns-clause-allocates g c =
       is_header_changed = i.is_header_changed;
       is_begun = i.is_begun;
       full_refusals = i.full_refusals;
+      under_way = i.under_way;
     } in
     let n = c.args.number in
     let counted : 0 < s.working.free_pages = omega arith in

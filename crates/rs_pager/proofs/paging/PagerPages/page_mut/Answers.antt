@@ -8,7 +8,8 @@ use Rattle.rs_page_cache.specs.Lending.{WritesCopy}
 use Rattle.rs_page_cache.specs.Changes.{Changes, held_at, IsUsedCopy}
 use Rattle.rs_pager.specs.Paged.{Paged}
 use Rattle.rs_pager.specs.Copying.{ReadiesCopy}
-use Rattle.rs_pager.proofs.Edited.{PutsCopy, put-sound, with_changes}
+use Rattle.rs_pager.proofs.Edited.{PutsCopy, put-sound}
+use Rattle.rs_pager.proofs.Keeping.{with_changes}
 use Rattle.rs_pager.proofs.Readied.{readied-edits, readied-adds, readied-lends, readied-free, readied-rests}
 use Rattle.rs_pager.proofs.paging.PagerPages.page_mut.Goals as goal
 
@@ -26,13 +27,14 @@ invariant_of-self-lent g c = λ w.
       is_header_changed = s.is_header_changed;
       is_begun = s.is_begun;
       full_refusals = s.full_refusals;
+      under_way = s.under_way;
     } in
     let readies : ReadiesCopy g.D.Disk c.args.number c.args.self.now mid = subst (ReadiesCopy g.D.Disk c.args.number c.args.self.now) (sym c.self.view_is) c.in_default.ensures.readies in
     let begun : s.is_begun ≡ true = readies.edits.counts.begun ∙ c.requires in
     let last = c.used_copy_mut.follows.lender w in
     let writes : WritesCopy c.args.number w s.changes last = rw c.in-Some.is at c.used_copy_mut.follows.holds w in
     let puts : PutsCopy c.args.number w.bytes s.changes last = record { there = writes.there; others = writes.others } in
-    put-sound c.args.number s.limit w.bytes s.changes last s.committed_fields s.working s.working s.is_begun begun puts
+    put-sound c.args.number s.limit w.bytes s.changes last s.committed_fields s.working s.working s.is_begun s.under_way.stage begun puts
     (readied-adds g.D.Disk c.args.number c.args.self.now mid readies s.limit c.self.invariant.within) c.self.invariant
 
 pub returns-in-Some : goal.returns-in-Some
@@ -49,6 +51,7 @@ returns-in-Some g c =
       is_header_changed = s.is_header_changed;
       is_begun = s.is_begun;
       full_refusals = s.full_refusals;
+      under_way = s.under_way;
     } in
     let readies : ReadiesCopy g.D.Disk c.args.number c.args.self.now mid = subst (ReadiesCopy g.D.Disk c.args.number c.args.self.now) (sym c.self.view_is) c.in_default.ensures.readies in
     let used : IsUsedCopy c.in-Some.page.now.bytes (held_at s.changes c.args.number) = c.in-Some.ensures.held in (
@@ -58,7 +61,7 @@ returns-in-Some g c =
             let last = c.used_copy_mut.follows.lender w in
             let writes : WritesCopy c.args.number w s.changes last = rw c.in-Some.is at c.used_copy_mut.follows.holds w in
             let puts : PutsCopy c.args.number w.bytes s.changes last = record { there = writes.there; others = writes.others } in
-            readied-edits g.D.Disk c.args.number c.args.self.now mid readies w.bytes last puts),
+            readied-edits g.D.Disk c.args.number c.args.self.now mid readies w.bytes last (c.self.invariant.begun_fresh (readies.edits.counts.begun ∙ c.requires)) puts),
         tt,
       ),
       record {
@@ -82,6 +85,7 @@ returns-in-None g c =
       is_header_changed = s.is_header_changed;
       is_begun = s.is_begun;
       full_refusals = s.full_refusals;
+      under_way = s.under_way;
     } in
     let readies : ReadiesCopy g.D.Disk c.args.number c.args.self.now mid = subst (ReadiesCopy g.D.Disk c.args.number c.args.self.now) (sym c.self.view_is) c.in_default.ensures.readies in
     let free = readied-free g.D.Disk c.args.number c.args.self.now mid readies c.in-None.ensures.none in

@@ -3,6 +3,7 @@ use Rattle.std.proofs.lemmas.Result.{on_ok_weaker}
 use Rattle.rs_pager.specs.Maps.{pager_store, IsTied}
 use Rattle.rs_pager.proofs.Copied.{Loaded}
 use Rattle.rs_pager.proofs.Released.{releases-after, free-refused}
+use Rattle.rs_pager.specs.Below.{KeepsBelow-trans}
 use Rattle.rs_pager.proofs.paging.PagerPages.release.Goals as goal
 
 pub returns-clause-releases : goal.returns-clause-releases
@@ -21,3 +22,6 @@ returns-clause-refused g c =
       count = c.in_ok-load.ensures.rests.count;
     } in
     free-refused g.D.Disk c.args.number c.args.self.now c.load.new.self loaded c.free.result c.free.new.self c.free.ensures.same c.free.ensures.refused
+
+pub returns-clause-keeps : goal.returns-clause-keeps
+returns-clause-keeps g c = KeepsBelow-trans g.D.Disk _ _ _ c.load.ensures.rests.below c.free.ensures.keeps

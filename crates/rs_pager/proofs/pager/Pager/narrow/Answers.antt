@@ -1,0 +1,27 @@
+-- The clean pages are dropped.
+use Rattle.std.proofs.Common.{subst, sym}
+use Rattle.rs_page_cache.specs.Clean.{HeldClean}
+use Rattle.rs_pager.specs.Paged.{Paged}
+use Rattle.rs_pager.specs.Maps.{IsTied}
+use Rattle.rs_pager.proofs.Keeping.{forgotten-tied}
+use Rattle.rs_pager.proofs.pager.Pager.narrow.Goals as goal
+
+pub returns-clause-tied : goal.returns-clause-tied
+returns-clause-tied g c =
+    let d = g.D.Disk in
+    let i = c.self.inside in
+    let s : Paged _ = record {
+      disk = i.disk;
+      limit = i.limit;
+      changes = i.changes;
+      clean = i.clean.pages;
+      most_clean = i.clean.most;
+      committed_fields = i.committed_fields;
+      working = i.working;
+      is_header_changed = i.is_header_changed;
+      is_begun = i.is_begun;
+      full_refusals = i.full_refusals;
+      under_way = i.under_way;
+    } in
+    subst (λ (old : Paged _). IsTied d old → IsTied d (record s { clean = c.narrow.new.self.pages; most_clean = c.narrow.new.self.most })) c.self.view_is
+    (λ tied. subst (λ (clean : HeldClean). IsTied d (record s { clean = clean.pages; most_clean = clean.most })) (sym c.narrow.ensures) (forgotten-tied d s _ tied))
