@@ -11,6 +11,7 @@ ghost use Rattle.rs_store.specs.Kept.{StandsIn};
 
 use crate::loading::{Loaded, load_whole};
 use crate::store::Store;
+use rs_checkpoint::checkpoint;
 use rs_disk::Disk;
 use rs_file::laws::file_holds_one_thing;
 use rs_file_meaning::changes::meant_contents_stay_meant;
@@ -31,7 +32,7 @@ impl<D: Disk> Store<D> {
         ensures count { MatchResult result (λ _. D.failures self.new.pager.disk ≡ D.failures self.old.pager.disk)
             (λ why. CountsFault why (D.failures self.old.pager.disk) (D.failures self.new.pager.disk)) }
     {
-        self.pager.checkpoint()
+        checkpoint(&mut self.pager)
     }
 
     /// Saves, and reads and checks the whole file anew, page 0 first, beside what is in use, which it then takes the place of. It is refused

@@ -11,6 +11,7 @@ ghost use Rattle.rs_store.specs.Making.{HasFresh, IsFreshFile};
 use crate::loading::{Loaded, load_state};
 use crate::opening::store_of;
 use crate::store::Store;
+use rs_checkpoint::checkpoint;
 use rs_disk::Disk;
 use rs_file::laws::file_holds_one_thing;
 use rs_file_meaning::changes::meant_contents_stay_meant;
@@ -87,5 +88,5 @@ fn write_nothing<D: Disk>(alloc: Global, pager: &mut Pager<D>) -> Result<(), Ref
     }
     pager.commit();
     created_file_stands_for_the_fresh_state();
-    pager.checkpoint()
+    checkpoint(pager)
 }

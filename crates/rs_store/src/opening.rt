@@ -110,7 +110,7 @@ fn migrate<D: Disk>(pager: &mut Pager<D>) -> Result<(), Refusal>
         return Ok(());
     }
     check_closed(pager)?;
-    pager.checkpoint()
+    rs_checkpoint::migrate(pager)
 }
 
 /// Ok exactly where the disk says that the file is closed; 95 where not, and 91. Nothing changes.

@@ -1,4 +1,4 @@
--- The flag is read, and then a checkpoint is made.
+-- The flag is read, and then the file is migrated.
 use Rattle.std.proofs.Common.{subst}
 use Rattle.std.specs.Prelude.{OnOk}
 use Rattle.rs_file.proofs.Loaded.{same_map}
@@ -10,14 +10,14 @@ use Rattle.rs_store.proofs.opening.migrate.Goals as goal
 
 pub returns-clause-keeps : goal.returns-clause-keeps
 returns-clause-keeps g c = λ lacks.
-    maps-trans g.D.Disk c.args.pager.now c.check_closed.new.pager c.checkpoint.new.self c.check_closed.ensures.keeps c.checkpoint.ensures.checkpoints.keeps
+    maps-trans g.D.Disk c.args.pager.now c.check_closed.new.pager c.migrate.new.pager c.check_closed.ensures.keeps c.migrate.ensures.checkpoints.keeps
 
 pub returns-clause-kept : goal.returns-clause-kept
 returns-clause-kept g c = λ lacks tied.
     let d = g.D.Disk in
     let mid = c.check_closed.new.pager in
-    let last = c.checkpoint.new.self in
+    let last = c.migrate.new.pager in
     let still = c.check_closed.ensures.keeps.tied tied in
-    subst (λ (map : PageMap). OnOk c.checkpoint.result (KeepsMap d last map))
+    subst (λ (map : PageMap). OnOk c.migrate.result (KeepsMap d last map))
     (same_map (committed d mid) (committed d c.args.pager.now) (c.check_closed.ensures.keeps.committed tied))
-    (c.checkpoint.ensures.checkpoints.kept still.kept still still.is_kept)
+    (c.migrate.ensures.checkpoints.kept still.kept still still.is_kept)
