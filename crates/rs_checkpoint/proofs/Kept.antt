@@ -1,5 +1,5 @@
 -- What images give of a pager, and what a checkpoint keeps.
-use Rattle.std.proofs.Common.{◌≡◌, ◌∙◌, ◌⊎◌, ◌≤◌, ℕ, IsTrue, inl, inr, refl, subst, sym, Result, Ok, Err}
+use Rattle.std.proofs.Common.{◌≡◌, ◌∙◌, ◌⊎◌, ◌≤◌, ℕ, IsTrue, inl, inr, refl, subst, sym, Result, Ok, Err, arith}
 use Rattle.std.specs.Prelude.{◌<◌, ◌≢◌, OnErr, OnOk, IsSome}
 use Rattle.rs_disk.specs.Content.{Content}
 use Rattle.rs_disk.specs.declared.disk.Disk as disk
@@ -39,7 +39,7 @@ makes_itself journal kept checkpoint makes = record {
   after_kept = makes.after;
   after = makes.after;
   others = λ i lt own apart. (lt, refl);
-  no_copy = λ none. ≤-refl checkpoint.count;
+  no_copy = λ none. omega arith;
 }
 
 -- a stage that is late is not the first
@@ -57,10 +57,10 @@ late_image Home kept checkpoint journal late image is = is
 late_image Closing kept checkpoint journal late image is = is
 
 no_more : (count pages : ℕ) → count ≡ pages → count ≤ pages
-no_more count pages same = subst (λ (n : ℕ). count ≤ n) same (≤-refl count)
+no_more count pages same = omega (arith, same)
 
 none_between : (number count pages : ℕ) → count ≡ pages → count ≤ number → number < pages → ⊥
-none_between number count pages same from below = grind arith
+none_between number count pages same from below = omega (arith, same, from, below)
 
 module _ {D : Type 0} (d : disk.Ghosts D) where
   -- ---- images
@@ -109,10 +109,12 @@ module _ {D : Type 0} (d : disk.Ghosts D) where
 
   -- ---- a call
 
-  pub leaves_kept : (old new : Paged D) → Lasts d old new → LeavesKept d old new
-  leaves_kept old new lasts = record {
+  pub leaves_kept : (old new : Paged D)
+      → (IsTrue (d.keeps_crashes old.disk) → (image : Content) → d.left_since old.disk old.disk image → d.may_leave old.disk image) → Lasts d old new
+      → LeavesKept d old new
+  leaves_kept old new only lasts = record {
     either = λ kept tied is on image left. elim (lasts.meanwhile kept tied is on old.disk image left) [
-      | inl before ↦ image_gives old kept is on image (d.only_now old.disk on image before)
+      | inl before ↦ image_gives old kept is on image (only on image before)
       | inr gives ↦ gives
     ];
   }

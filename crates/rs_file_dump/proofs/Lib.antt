@@ -1,3 +1,4 @@
 pub mod Files
 pub mod Dumps
+pub mod Looks
 pub mod Stopping

@@ -1,9 +1,9 @@
-//! The dump of a file: a disk is opened and checked as a whole, and the lines that rebuild what it holds are written.
+//! The dump of a file: it is looked at, or its disk is opened, and checked as a whole, and the lines that rebuild what it holds are written.
 //!
-//! Opening a disk may recover it. Nothing is written to one that only shows.
+//! Opening a disk may recover it. Nothing is written to one that is looked at.
 #![tactic(auto)]
 
 pub mod dumping;
 pub mod held;
 
-pub use dumping::dump_disk;
+pub use dumping::{dump_disk, dump_file};

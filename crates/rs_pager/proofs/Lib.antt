@@ -11,6 +11,7 @@ pub mod Keeping
 pub mod Lasting
 pub mod Lent
 pub mod Loaded
+pub mod LookedAt
 pub mod Made
 pub mod OneMap
 pub mod Opened

@@ -25,11 +25,11 @@ use Rattle.rs_pager.specs.Versions.{IsNoFile}
 use Rattle.rs_pager.proofs.DiskBytes.{disk_page-at, length-disk_page}
 use Rattle.rs_pager.proofs.Headers.{first_header_is_one, kept-header, said-count}
 
-at_zero : (content : Content) (k : ℕ) → k < 4096 → slice_index (disk_page content 0) k ≡ content.byte k
+pub at_zero : (content : Content) (k : ℕ) → k < 4096 → slice_index (disk_page content 0) k ≡ content.byte k
 at_zero content k lt = let at : 4096 * 0 + k ≡ k = omega arith in subst (λ i. slice_index (disk_page content 0) k ≡ content.byte i) at (disk_page-at content 0 k lt)
 
 -- a word of page 0
-word-first : (content : Content) (k : ℕ) → 4096 ≤ content.size → k + 4 ≤ 4096 → word_at content.byte k ≡ number_at k 4 (disk_page content 0)
+pub word-first : (content : Content) (k : ℕ) → 4096 ≤ content.size → k + 4 ≤ 4096 → word_at content.byte k ≡ number_at k 4 (disk_page content 0)
 word-first content k size lt =
     let long = length-disk_page content 0 in
     let holds : Holds content 0 (disk_page content 0) = record {
@@ -134,21 +134,21 @@ damaged-none content limit is = record { none = λ map gives least within. is.no
 
 -- ---- what a look shows
 
-same-format : (raised : Bool) (pages : FilePages) → raised ≡ false → in_format raised 2 pages ≡ pages
+pub same-format : (raised : Bool) (pages : FilePages) → raised ≡ false → in_format raised 2 pages ≡ pages
 same-format false pages is = refl
 same-format true pages is = cc
 
-kept-format : (raised : Bool) (pages : FilePages) → raised ≡ false → in_format raised 1 pages ≡ pages
+pub kept-format : (raised : Bool) (pages : FilePages) → raised ≡ false → in_format raised 1 pages ≡ pages
 kept-format false pages is = refl
 kept-format true pages is = cc
 
-other-test : (a b : ℕ) → (a ≡ b → ⊥) → (a == b) ≡ false
+pub other-test : (a b : ℕ) → (a ≡ b → ⊥) → (a == b) ≡ false
 other-test a b other = grind (arith, nat_tests)
 
-same-test : (a b : ℕ) → a ≡ b → (a == b) ≡ true
+pub same-test : (a b : ℕ) → a ≡ b → (a == b) ≡ true
 same-test a b same = grind (arith, nat_tests)
 
-open-plain : (content : Content) → content.byte 64 ≡ 1 → is_first_version content ≡ false
+pub open-plain : (content : Content) → content.byte 64 ≡ 1 → is_first_version content ≡ false
 open-plain content is = ap (λ (b : Bool). not b && (word_at content.byte 24 == 1 && content.byte 28 == 0)) (same-test (content.byte 64) 1 is)
 
 other-plain : (opened : Bool) (word flag : ℕ) → (word ≡ 1 → ⊥) → (not opened && (word == 1 && flag == 0)) ≡ false
@@ -156,7 +156,7 @@ other-plain true word flag other = refl
 other-plain false word flag other = ap (λ (b : Bool). b && flag == 0) (other-test word 1 other)
 
 -- a content that gives pages of version 2 is no closed file of version 1
-given-plain : (map : PageMap) (pages : FilePages) (content : Content) → Recovers content pages → ArePages map pages → is_first_version content ≡ false
+pub given-plain : (map : PageMap) (pages : FilePages) (content : Content) → Recovers content pages → ArePages map pages → is_first_version content ≡ false
 given-plain map pages content gives are = elim (cases_eq (content.byte 64) 1) [
   | inl opened ↦ open-plain content opened
   | inr closed ↦

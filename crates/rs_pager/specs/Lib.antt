@@ -3,6 +3,7 @@ pub mod Copying
 pub mod FirstHeader
 pub mod Found
 pub mod Lasts
+pub mod LookedAt
 pub mod Maps
 pub mod Opened
 pub mod Opening

@@ -7,10 +7,12 @@
 mod checkpointing;
 pub mod laws;
 pub mod limits;
+mod looking;
 mod opening;
 pub mod pager;
 mod paging;
 mod reading;
 pub mod second_header;
 
+pub use looking::look_at_file;
 pub use pager::{MOST_CHANGED, Pager};

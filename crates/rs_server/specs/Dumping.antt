@@ -4,11 +4,7 @@ use Rattle.rs_disk.specs.Content.{Content}
 use Rattle.rs_dump.specs.States.{CanBeDumpedWhole}
 use Rattle.rs_dump.specs.declared.stop.Stop.{Stop}
 use Rattle.rs_file_dump.specs.Files.{DumpsDisk, RefusesDisk, StopsDumping}
-use Rattle.rs_journal.specs.Look.{shown}
-use Rattle.rs_journal.specs.Recovery.{IsDamaged}
 use Rattle.rs_machine.specs.State.{State}
-use Rattle.rs_refusal.specs.declared.refusal.Refusal.{Refusal}
-use Rattle.rs_refusal.specs.declared.refusal.Refusal.TheVariants as refusal
 use Rattle.rs_engine.specs.Standing.{Stands}
 
 -- All is wanted, and something of the state was told and left out, which had to be.
@@ -22,19 +18,6 @@ abbrev pub StopsEarly : ℕ → Content → Option (List ℕ) → Bool → Optio
 StopsEarly limit content table omits_rows before after =
     (stop : Stop) × (RefusesDisk limit content stop before after ⊎ StopsDumping limit content table omits_rows stop before after)
 
--- something was left out, or it stopped
-abbrev pub DumpsInPart : ℕ → Content → Option (List ℕ) → Bool → Option (List ℕ) → Option (List ℕ) → Type 0
-DumpsInPart limit content table omits_rows before after =
-    LeavesOut limit content table omits_rows before after ⊎ StopsEarly limit content table omits_rows before after
-
--- The file could not be looked at, and nothing was written: memory or the disk gave out, or its journal is damaged.
-pub record LacksLook (content : Content) (before after : Option (List ℕ)) : Type 0 where
-  pub why : Refusal
-  pub wants : (why ≡ refusal.OutOfMemory) ⊎ (why ≡ refusal.Disk) ⊎ (why ≡ refusal.DamagedFile)
-  pub damaged : why ≡ refusal.DamagedFile → IsDamaged content
-  pub kept : after ≡ before
-
--- What a look shows of the file was dumped in part; or there was no look.
 abbrev pub FailsToDump : ℕ → Content → Option (List ℕ) → Bool → Option (List ℕ) → Option (List ℕ) → Type 0
 FailsToDump limit content table omits_rows before after =
-    DumpsInPart limit (shown content) table omits_rows before after ⊎ LacksLook content before after
+    LeavesOut limit content table omits_rows before after ⊎ StopsEarly limit content table omits_rows before after

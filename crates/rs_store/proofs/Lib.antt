@@ -12,6 +12,7 @@ pub mod Indexed
 pub mod Keeping
 pub mod Listed
 pub mod Loaded
+pub mod LookedAt
 pub mod Marks
 pub mod MayGo
 pub mod NoneDead

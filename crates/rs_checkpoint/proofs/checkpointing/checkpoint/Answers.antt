@@ -3,7 +3,7 @@ use Rattle.rs_checkpoint.proofs.Kept.{keeps_committed, leaves_kept}
 use Rattle.rs_checkpoint.proofs.checkpointing.checkpoint.Goals as goal
 
 pub returns-clause-leaves : goal.returns-clause-leaves
-returns-clause-leaves g c = leaves_kept g.D.Disk c.args.pager.now c.checkpoint.new.self c.checkpoint.ensures.checkpoints.lasts
+returns-clause-leaves g c = leaves_kept g.D.Disk c.args.pager.now c.checkpoint.new.self (g.met.D.Disk.only_now c.args.pager.now.disk) c.checkpoint.ensures.checkpoints.lasts
 
 pub returns-clause-keeps : goal.returns-clause-keeps
 returns-clause-keeps g c =

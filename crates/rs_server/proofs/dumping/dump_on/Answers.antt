@@ -1,20 +1,25 @@
--- What a look shows was dumped; or there was no look.
-use Rattle.std.proofs.Common.{IsTrue, inl, inr, subst, sym}
-use Rattle.rs_server.proofs.Dumps.{lacks_look, shown_dumps, shown_in_part}
+-- Nothing was lacking, so all that was wanted was written; or something was left out that had to be, or it stopped.
+use Rattle.std.proofs.Common.{◌≡◌, Bool, true, false, inl, inr, Result, Ok, subst}
+use Rattle.std.specs.Prelude.{IfOk}
+use Rattle.rs_server.proofs.Dumps.{left_out, stopped}
 use Rattle.rs_server.proofs.dumping.dump_on.Goals as goal
 
-pub returns-in-Ok-clause-dumps : goal.returns-in-Ok-clause-dumps
-returns-in-Ok-clause-dumps g c = λ honest done.
-    let reads = c.in-Ok.ensures.0.reads in
-    let still : IsTrue (g.D.Disk.is_honest c.in-Ok.looked.disk) = subst IsTrue (sym reads.honesty) honest in
-    shown_dumps _ _ _ (reads.reads honest) _ _ _ _ _ (c.dump_and_report.ensures.dumps still done)
+none_lacks : {E : Type 0} (result : Result Bool E) (P : Bool → Type 0) → result ≡ Ok false → IfOk result P → P false
+none_lacks {E} result P is said = subst (λ (one : Result Bool E). IfOk one P) is said
 
-pub returns-in-Ok-clause-fails : goal.returns-in-Ok-clause-fails
-returns-in-Ok-clause-fails g c = λ honest failed.
-    let reads = c.in-Ok.ensures.0.reads in
-    let still : IsTrue (g.D.Disk.is_honest c.in-Ok.looked.disk) = subst IsTrue (sym reads.honesty) honest in
-    inl (shown_in_part _ _ _ (reads.reads honest) _ _ _ _ (c.dump_and_report.ensures.fails still failed))
+pub returns-in-Ok-false-clause-dumps : goal.returns-in-Ok-false-clause-dumps
+returns-in-Ok-false-clause-dumps g c = λ honest done.
+    let is : c.dump_file.result ≡ Ok false = cc (c.in-Ok-false.is, c.in-Ok-false.field-0-test) in
+    none_lacks c.dump_file.result _ is (c.dump_file.ensures.dumps honest)
+
+pub returns-in-Ok-true-clause-fails : goal.returns-in-Ok-true-clause-fails
+returns-in-Ok-true-clause-fails g c = λ honest failed.
+    let ended = c.dump_file.ensures in
+    let is : c.dump_file.result ≡ Ok true = cc (c.in-Ok-true.is, c.in-Ok-true.field-0-test) in
+    inl (left_out _ _ _ _ _ c.args.wanted.table c.dump_file.result is (ended.dumps honest) ended.whole_table (ended.nothing_lacks honest))
+
+pub returns-in-Err-Refused-clause-fails : goal.returns-in-Err-Refused-clause-fails
+returns-in-Err-Refused-clause-fails g c = λ honest failed. inr (stopped c.dump_file.result _ _ c.in-Err-Refused.is (c.dump_file.ensures.stops honest))
 
 pub returns-clause-fails : goal.returns-clause-fails
-returns-clause-fails g c = λ honest failed.
-    inr (lacks_look c.in-Err.refusal _ _ _ _ c.in-Err.ensures.count (c.in-Err.ensures.damaged honest))
+returns-clause-fails g c = λ honest failed. inr (stopped c.dump_file.result _ _ c.in-Err-Stream.is (c.dump_file.ensures.stops honest))
