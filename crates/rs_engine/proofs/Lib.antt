@@ -3,6 +3,7 @@ pub mod Aheads
 pub mod Columns
 pub mod Facts
 pub mod Filing
+pub mod Fronts
 pub mod Machines
 pub mod Nobody
 pub mod SeenLater

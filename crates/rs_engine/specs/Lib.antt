@@ -1,5 +1,6 @@
 pub mod Ahead
 pub mod Clearing
+pub mod Crashes
 pub mod Files
 pub mod Giving
 pub mod Kept

@@ -6,6 +6,7 @@ use Rattle.rs_engine.specs.Calls.{WantsOpening}
 use Rattle.rs_engine.specs.Files.{Opens}
 use Rattle.rs_engine.specs.Kept.{EngineState}
 use Rattle.rs_pager.proofs.Recovered.{recovered-err}
+use Rattle.rs_pager.specs.Opened.{CountsFault}
 use Rattle.rs_refusal.specs.declared.refusal.Refusal.{Refusal}
 use Rattle.rs_server.specs.Disks.{RefusesFile}
 use Rattle.rs_server.specs.declared.report.Failure.{Failure}
@@ -17,12 +18,14 @@ kept None = tt
 kept (Some bytes) = refl
 
 pub refuses_file : {D : Type 0} (d : disk.Ghosts D) (limit : ℕ) (old back : D) (why : Refusal) (unread before : Option (List ℕ)) → Opens d limit old (Err (back, why)) → WantsOpening why
+    → CountsFault why (d.failures old) (d.failures back)
     → RefusesFile d limit old (Err (Some back, Refused why)) unread unread before before
-refuses_file {D} d limit old back why unread before opens wants = record {
+refuses_file {D} d limit old back why unread before opens wants count = record {
   disk = back;
   why = why;
   refused = refl;
   wants = wants;
+  count = count;
   damaged = opens.damaged;
   left_open = opens.left_open;
   recovers = λ map pages are gives.

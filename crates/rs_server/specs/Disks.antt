@@ -10,6 +10,7 @@ use Rattle.rs_machine.specs.Served.{Machine}
 use Rattle.rs_machine.specs.State.{State, fresh}
 use Rattle.rs_machine.specs.Step.{without_cursors}
 use Rattle.rs_pager.specs.Maps.{ArePages}
+use Rattle.rs_pager.specs.Opened.{CountsFault}
 use Rattle.rs_pages.specs.PageMap.{PageMap}
 use Rattle.rs_protocol.specs.Ends.{Ends}
 use Rattle.rs_protocol.specs.declared.stream.End.{End}
@@ -59,10 +60,17 @@ module _ {D : Type 0} (d : disk.Ghosts D) where
     pub stands : Stands limit (d.seen disk) state
     pub durable : IsTrue (d.keeps_crashes disk) → (image : Content) → d.may_leave disk image → Stands limit image state
 
+  -- No call of the disk failed in a close that was accepted, from this count of failures on. Why one was refused is told where nothing
+  -- failed before: it is 91 only where the count rose.
+  abbrev pub CountsClose : ℕ → Option Failure → Option D → Option Failure → Type 0
+  CountsClose count before (Some disk) told = d.failures disk ≡ count
+  CountsClose count before None told = (disk : D) × (why : Refusal) × CountsFault why count (d.failures disk) × (before ≡ None → told ≡ Some (Refused why))
+
   -- a file of a machine was closed, as that machine's state without its cursors; or it was not, and the first failure is told
   pub record Closes (limit : ℕ) (machine : Machine) (before : Option Failure) (result : Result D (Option D × Failure)) : Type 0 where
     pub closed : IfSome (disk_of result) (IsClosedAs limit (without_cursors machine.state))
     pub told : TellsFirst before (disk_of result) (told_of result)
+    pub count : CountsClose machine.failures before (disk_of result) (told_of result)
 
   -- the input was served by this machine, and then the file was closed
   pub record ServesAndCloses (limit : ℕ) (first : Machine) (result : Result D (Option D × Failure)) (unread unread_now before after : Option (List ℕ)) : Type 0 where
@@ -71,19 +79,21 @@ module _ {D : Type 0} (d : disk.Ghosts D) where
     pub served : ServesInput outcome first last unread unread_now before after
     pub closes : Closes limit last (failure_of outcome) result
 
-  -- the disk stood for a state, from which on it was served
-  pub record ServesState (limit : ℕ) (content : Content) (result : Result D (Option D × Failure)) (unread unread_now before after : Option (List ℕ)) : Type 0 where
+  -- the disk stood for a state, from which on it was served, with the disk's count of failures
+  pub record ServesState (limit : ℕ) (old : D) (result : Result D (Option D × Failure)) (unread unread_now before after : Option (List ℕ)) : Type 0 where
     pub first : Machine
-    pub stood : Stands limit content first.state
+    pub stood : Stands limit (d.seen old) first.state
+    pub failures : first.failures ≡ d.failures old
     pub serves : ServesAndCloses limit first result unread unread_now before after
 
   -- The disk was not opened, and is handed back: it is a file of no state, or one of version 1 that was not closed, or memory or the disk
-  -- gave out. One of version 2 was recovered, as far as the disk allowed. Nothing of the streams was read or written.
+  -- gave out: 91 counts one failure. One of version 2 was recovered, as far as the disk allowed. Nothing of the streams was read or written.
   pub record RefusesFile (limit : ℕ) (old : D) (result : Result D (Option D × Failure)) (unread unread_now before after : Option (List ℕ)) : Type 0 where
     pub disk : D
     pub why : Refusal
     pub refused : result ≡ Err (Some disk, Refused why)
     pub wants : WantsOpening why
+    pub count : CountsFault why (d.failures old) (d.failures disk)
     pub damaged : why ≡ refusal.DamagedFile → IsNoFileOfAny limit (d.seen old)
     pub left_open : why ≡ refusal.FileNotClosed → IsLeftOpen limit (d.seen old)
     pub recovers : (map : PageMap) (pages : FilePages) → ArePages map pages → Recovers (d.seen old) pages → Recovered d pages result old disk
@@ -93,18 +103,20 @@ module _ {D : Type 0} (d : disk.Ghosts D) where
   -- what comes of the file that an honest disk holds
   abbrev pub ServesFile : ℕ → D → Result D (Option D × Failure) → Option (List ℕ) → Option (List ℕ) → Option (List ℕ) → Option (List ℕ) → Type 0
   ServesFile limit old result unread unread_now before after =
-      ServesState limit (d.seen old) result unread unread_now before after ⊎ RefusesFile limit old result unread unread_now before after
+      ServesState limit old result unread unread_now before after ⊎ RefusesFile limit old result unread unread_now before after
 
   -- ---- a file that is made
 
-  -- it wasn't made, for this reason
-  pub record RefusesToCreate (result : Result D (Option D × Failure)) : Type 0 where
+  -- it wasn't made, for this reason: 91 counts one failure
+  pub record RefusesToCreate (old : D) (result : Result D (Option D × Failure)) : Type 0 where
     pub disk : D
     pub why : Refusal
     pub refused : result ≡ Err (Some disk, Refused why)
     pub wants : WantsCreating why
+    pub count : CountsFault why (d.failures old) (d.failures disk)
     pub sound : why ≢ refusal.DamagedFile
 
   -- what comes of a file that is made: it was closed with nothing in it, or it was not made or not closed
-  abbrev pub CreatesFile : ℕ → Result D (Option D × Failure) → Type 0
-  CreatesFile limit result = ((machine : Machine) × (machine.state ≡ fresh) × Closes limit machine None result) ⊎ RefusesToCreate result
+  abbrev pub CreatesFile : ℕ → D → Result D (Option D × Failure) → Type 0
+  CreatesFile limit old result =
+      ((machine : Machine) × (machine.state ≡ fresh) × (machine.failures ≡ d.failures old) × Closes limit machine None result) ⊎ RefusesToCreate old result

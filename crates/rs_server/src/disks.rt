@@ -20,7 +20,7 @@ use std::io::{Read, Write};
 
 /// Writes the file in which nothing is defined in place of all that the disk holds, and closes it.
 pub fn create_on<D: Disk + Drop>(alloc: Global, disk: D) -> Result<D, (Option<D>, Failure<'static>)>
-    ensures { IsTrue (D.is_honest disk) → CreatesFile D.Disk GREATEST_LIMIT result }
+    ensures { IsTrue (D.is_honest disk) → CreatesFile D.Disk GREATEST_LIMIT disk result }
 {
     machine_is_the_only_one::<D>();
     match Engine::create(alloc, disk) {

@@ -1,7 +1,6 @@
 //! Laws of services on one disk, one after another: a clean end and a new beginning lose nothing but cursors.
 
 ghost use Rattle.std.specs.Prelude.{◌≡◌, ◌⊎◌, ℕ, List, Ok, Option, Result};
-ghost use Rattle.rs_disk.specs.Content.{Content};
 ghost use Rattle.rs_engine.specs.Kept.{EngineState};
 ghost use Rattle.rs_engine.specs.Single.{IsOneMachine};
 ghost use Rattle.rs_machine.specs.Served.{Machine};
@@ -18,8 +17,8 @@ use rs_refusal::Refusal;
 
 /// What one service left, the next one on its disk begins with: the same state, without cursors.
 pub fn next_service_goes_on<D: Disk>()
-    ensures { (limit : ℕ) (content : Content) (disk : D) (next : Result D (Option D × Failure)) (a b c d e f g h : Option (List ℕ))
-        → (one : ServesState D.Disk limit content (Ok disk) a b c d) → (other : ServesState D.Disk limit (D.seen disk) next e f g h)
+    ensures { (limit : ℕ) (old disk : D) (next : Result D (Option D × Failure)) (a b c d e f g h : Option (List ℕ))
+        → (one : ServesState D.Disk limit old (Ok disk) a b c d) → (other : ServesState D.Disk limit disk next e f g h)
         → other.first.state ≡ without_cursors one.serves.last.state }
 {
     disk_stands_for_one_state();

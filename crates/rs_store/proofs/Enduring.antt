@@ -1,6 +1,7 @@
 -- What lasts over several calls, and which states a crash leaves.
 use Rattle.std.proofs.Common.{◌≡◌, ◌≤◌, ◌⊎◌, ℕ, IsTrue, inl, inr, refl, subst, sym}
 use Rattle.rs_disk.specs.Content.{Content}
+use Rattle.rs_checkpoint.proofs.Kept.{image_gives as image_given}
 use Rattle.rs_disk.specs.declared.disk.Disk as disk
 use Rattle.rs_file.specs.declared.opened.OpenedFile.{OpenedFile}
 use Rattle.rs_journal.specs.declared.stage.Stage.TheVariants.{Fresh}
@@ -105,3 +106,11 @@ module _ {D : Type 0} (d : disk.Ghosts D) where
         stand = subst (λ (limit : ℕ). StandWithin limit (committed d old) state) (sym same) stand;
       })
     ]
+
+  -- what a crash may leave now stands for the state kept last or for the present one
+  pub image_stands : (p : Paged D) (last state : State) → IsLast d p last → StandWithin p.limit (committed d p) state → IsTrue (d.keeps_crashes p.disk) → (image : Content)
+      → d.may_leave p.disk image → Stands p.limit image last ⊎ Stands p.limit image state
+  image_stands p last state was stand on image left = elim (image_given d p was.keeps.pages was.keeps.is_kept on image left) [
+    | inl gives ↦ inl (stands_by p.limit image was.pages last (record { pages = was.keeps.pages; recovers = gives; are = was.keeps.are }) was.stand)
+    | inr gives ↦ inr (stands_by p.limit image (committed d p) state gives stand)
+  ]

@@ -1,12 +1,13 @@
 //! These laws say that an engine is one machine, which lines its cursors have left, which state it stands for as a source, that its
 //! plans are chosen by that state, that a session has a number in its range, what may be cleared where no cursor is open, and which state
-//! a crash leaves.
+//! a crash leaves, in one step and over any list of them.
 
 ghost use Rattle.std.specs.Prelude.{◌≡◌, ◌<◌, ◌≤◌, ◌⊎◌, ℕ, IsTrue, List, Some, false};
 ghost use Rattle.std.specs.FinMap as names;
 ghost use Rattle.rs_answers.specs.Counts.{AreCounted};
 ghost use Rattle.rs_cursor.specs.Held.{held_of};
 ghost use Rattle.rs_cursor.specs.declared.cursor.Cursor.{Cursor};
+ghost use Rattle.rs_engine.specs.Crashes.{AreSteps, Call, LeaveAFront};
 ghost use Rattle.rs_engine.specs.Giving.{HasItsLines};
 ghost use Rattle.rs_engine.specs.Kept.{EngineState, IsMachine, IsOldestIn, seen_at};
 ghost use Rattle.rs_engine.specs.Laws.{StoreLaws};
@@ -100,4 +101,12 @@ pub fn a_crash_leaves_a_state_that_was_kept<D: Disk>()
     ensures keeps { (old new : EngineState D) (machine : Machine) (last : State) → IsMachine D.Disk old machine → IsLast D.Disk old.store.pager last
         → Lasts D.Disk old.store.pager new.store.pager → old.store.pager.committed_fields.pages ≤ old.store.pager.limit → new.store.pager.limit ≡ old.store.pager.limit
         → IsLast D.Disk new.store.pager last ⊎ IsLast D.Disk new.store.pager (without_cursors machine.state) }
+{}
+
+/// Over any list of steps, from a machine on, where a state was kept last: each image that a crash might have left meanwhile was left
+/// before, or stands for the state after a front of them, none skipped and none in part. What is kept after them holds all up to the last
+/// SAVE or REOPEN that was accepted, and so does each image that a crash may leave then.
+pub fn steps_leave_a_front<D: Disk>()
+    ensures { (calls : List Call) (old new : EngineState D) (machine : Machine) (last : State) → AreSteps D.Disk calls old new → IsOneMachine D.Disk old machine
+        → IsLast D.Disk old.store.pager last → IsTrue (D.keeps_crashes old.store.pager.disk) → LeaveAFront D.Disk calls machine last old new }
 {}

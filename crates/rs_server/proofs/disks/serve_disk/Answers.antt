@@ -12,9 +12,11 @@ returns-in-Ok g c = λ honest.
     inl (record {
       first = first;
       stood = opens.stood;
+      failures = c.in-Ok.ensures.hands.count;
       serves = c.serve_and_close.ensures first (c.machine_is_the_only_one.ensures c.in-Ok.engine first opens.is);
     })
 
 pub returns-in-Err : goal.returns-in-Err
 returns-in-Err g c = λ honest.
-    inr (refuses_file g.D.Disk GREATEST_LIMIT c.args.disk c.in-Err.disk c.in-Err.refusal _ _ (c.in-Err.ensures.opens honest) c.in-Err.ensures.refused)
+    inr (refuses_file g.D.Disk GREATEST_LIMIT c.args.disk c.in-Err.disk c.in-Err.refusal _ _ (c.in-Err.ensures.opens honest) c.in-Err.ensures.refused
+    c.in-Err.ensures.hands.count)
