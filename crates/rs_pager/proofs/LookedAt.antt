@@ -22,7 +22,7 @@ use Rattle.rs_journal.proofs.Looking.{shows_pages, shown_recovers, shown-shut}
 use Rattle.rs_journal.proofs.Words.{word-same}
 use Rattle.rs_pager.specs.FirstHeader.{IsFirstHeader}
 use Rattle.rs_pager.specs.Lasts.{GivesMap}
-use Rattle.rs_pager.specs.LookedAt.{GivesFirst, IsFileOfNone, ShowsFile}
+use Rattle.rs_pager.specs.LookedAt.{GivesFirst, IsFileOfNone, ShowsSameFile}
 use Rattle.rs_pager.specs.Opening.{pages_of}
 use Rattle.rs_pager.specs.SecondHeader.{EndsInOwnZeros, IsSecondHeader}
 use Rattle.rs_pager.specs.Stored.{content_of_pages, stored_map}
@@ -397,7 +397,7 @@ module _ (content : Content) (told : content.byte 64 ≡ 1 → IsTold content) (
   flag_was : StoresFirst (shown content) map → (shown content).byte 28 ≡ content.byte 28
   flag_was is = same_byte content (first-shut content map.fields (first_was is).header) (omega (arith, is.size, least)) 28 (omega arith) (λ wrong. omega (arith, wrong))
 
-pub shows_file : (content : Content) → (content.byte 64 ≡ 1 → IsTold content) → (GivesFirst content → ⊥) → ShowsFile content (shown content)
+pub shows_file : (content : Content) → (content.byte 64 ≡ 1 → IsTold content) → (GivesFirst content → ⊥) → ShowsSameFile content (shown content)
 shows_file content told none = record {
   second = second_shown content;
   closed = λ map least is flag. closed_shown content map least is flag;

@@ -15,7 +15,7 @@ pub record GivesFirst (content : Content) : Type 0 where
 
 -- One content shows another as a file: a file of version 2 as one of the same pages, and so a closed one of version 1; one of version 1
 -- that was not closed is shown as it is. Nothing else is shown as a file.
-pub record ShowsFile (content look : Content) : Type 0 where
+pub record ShowsSameFile (content look : Content) : Type 0 where
   pub second : (map : PageMap) → GivesMap map content → GivesMap map look
   pub closed : (map : PageMap) → 2 ≤ map.fields.pages → StoresFirst content map → content.byte FLAG_OFFSET ≡ 0 → GivesMap map look
   pub left_open : (map : PageMap) → 2 ≤ map.fields.pages → StoresFirst content map → content.byte FLAG_OFFSET ≢ 0 → StoresFirst look map

@@ -6,7 +6,7 @@ ghost use Rattle.rs_disk.specs.Crash.{Same};
 ghost use Rattle.rs_disk.specs.Reaches.{Reaches};
 ghost use Rattle.rs_journal.specs.Look.{shown};
 ghost use Rattle.rs_journal.specs.declared.limits.TheConstants.{FIRST_FORMAT, FORMAT_BYTE, GATE, OPEN};
-ghost use Rattle.rs_pager.specs.LookedAt.{IsFileOfNone, ShowsFile};
+ghost use Rattle.rs_pager.specs.LookedAt.{IsFileOfNone, ShowsSameFile};
 ghost use Rattle.rs_pager.specs.Opened.{CountsFault};
 
 use rs_disk::Disk;
@@ -20,7 +20,7 @@ use std::alloc::Global;
 /// It is refused with 94 where an open gate's journal isn't well formed or gives a page 0 in format 1, with 90 and 91. The disk is only
 /// read, and a refusal hands it back.
 pub fn look_at_file<D: Disk>(alloc: Global, disk: D) -> Result<Looked<D>, (D, Refusal)>
-    ensures shows { IsTrue (D.is_honest disk) → IfOk result (λ looked. ShowsFile (D.seen disk) (shown (D.seen looked.disk))) }
+    ensures shows { IsTrue (D.is_honest disk) → IfOk result (λ looked. ShowsSameFile (D.seen disk) (shown (D.seen looked.disk))) }
     ensures damaged { IsTrue (D.is_honest disk) → IfErr result (λ refused. refused.1 ≡ Refusal.DamagedFile → IsFileOfNone (D.seen disk)) }
     ensures refused { IfErr result (λ refused. (refused.1 ≡ Refusal.OutOfMemory) ⊎ (refused.1 ≡ Refusal.Disk) ⊎ (refused.1 ≡ Refusal.DamagedFile)) }
     ensures reads { MatchResult result (λ looked. Reaches D.Disk Same disk looked.disk) (λ refused. Reaches D.Disk Same disk refused.0) }

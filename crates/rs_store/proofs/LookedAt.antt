@@ -4,7 +4,7 @@ use Rattle.std.proofs.lemmas.Bool.{cases_eq}
 use Rattle.rs_disk.specs.Content.{Content}
 use Rattle.rs_machine.specs.State.{State}
 use Rattle.rs_page.specs.declared.file_header.TheConstants.{FLAG_OFFSET}
-use Rattle.rs_pager.specs.LookedAt.{IsFileOfNone, ShowsFile}
+use Rattle.rs_pager.specs.LookedAt.{IsFileOfNone, ShowsSameFile}
 use Rattle.rs_pager.specs.Versions.{IsFileOfPages, StoresFirst}
 use Rattle.rs_pages.specs.PageMap.{PageMap}
 use Rattle.rs_store.specs.Calls.{IsLeftOpen, IsNoFileOfAny}
@@ -14,7 +14,7 @@ use Rattle.rs_store.proofs.NoFile.{two_pages}
 least : (limit : ℕ) (map : PageMap) (state : State) → StandWithin limit map state → 2 ≤ map.fields.pages
 least limit map state stand = two_pages map stand.contents stand.stands.holds
 
-module _ (limit : ℕ) (content look : Content) (shows : ShowsFile content look) where
+module _ (limit : ℕ) (content look : Content) (shows : ShowsSameFile content look) where
   stores_shown : (map : PageMap) → 2 ≤ map.fields.pages → IsFileOfPages content map → IsFileOfPages look map
   stores_shown map two (inl gives) = inl (shows.second map gives)
   stores_shown map two (inr first) = elim (cases_eq (content.byte FLAG_OFFSET) 0) [

@@ -9,7 +9,7 @@ ghost use Rattle.rs_file_parts.specs.Clearing.{clearable};
 ghost use Rattle.rs_machine.specs.Lawful.{IsLawful};
 ghost use Rattle.rs_machine.specs.State.{State, no_cursors};
 ghost use Rattle.rs_file_meaning.specs.Seen.{spans_seen};
-ghost use Rattle.rs_pager.specs.LookedAt.{IsFileOfNone, ShowsFile};
+ghost use Rattle.rs_pager.specs.LookedAt.{IsFileOfNone, ShowsSameFile};
 ghost use Rattle.rs_store.specs.Calls.{IsLeftOpen, IsNoFileOfAny};
 ghost use Rattle.rs_store.specs.Kept.{Keeps, StandsIn, StoreState, garbage_of};
 ghost use Rattle.rs_store.specs.Standing.{IsFileOf, Stands};
@@ -55,10 +55,10 @@ pub fn disk_stands_for_one_state()
 /// A look stands for the state for which the file stands that it shows, and for no other; and so it is of a file that is left open, or is
 /// none.
 pub fn look_stands_for_the_state()
-    ensures stands { (limit : ℕ) (content look : Content) → ShowsFile content look → (state : State) → Stands limit content state → Stands limit look state }
-    ensures stood { (limit : ℕ) (content look : Content) → ShowsFile content look → (state : State) → Stands limit look state → Stands limit content state }
-    ensures left_open { (limit : ℕ) (content look : Content) → ShowsFile content look → IsLeftOpen limit look → IsLeftOpen limit content }
-    ensures none { (limit : ℕ) (content look : Content) → ShowsFile content look → IsNoFileOfAny limit look → IsNoFileOfAny limit content }
+    ensures stands { (limit : ℕ) (content look : Content) → ShowsSameFile content look → (state : State) → Stands limit content state → Stands limit look state }
+    ensures stood { (limit : ℕ) (content look : Content) → ShowsSameFile content look → (state : State) → Stands limit look state → Stands limit content state }
+    ensures left_open { (limit : ℕ) (content look : Content) → ShowsSameFile content look → IsLeftOpen limit look → IsLeftOpen limit content }
+    ensures none { (limit : ℕ) (content look : Content) → ShowsSameFile content look → IsNoFileOfAny limit look → IsNoFileOfAny limit content }
     ensures lacks { (limit : ℕ) (content : Content) → IsFileOfNone content → IsNoFileOfAny limit content }
 {}
 

@@ -9,15 +9,15 @@ use Rattle.rs_refusal.specs.declared.refusal.Refusal.TheVariants.{DamagedFile}
 use Rattle.rs_journal.specs.Journal.{IsTold}
 use Rattle.rs_journal.specs.Look.{LookedAt, shown}
 use Rattle.rs_journal.specs.Recovery.{IsDamaged}
-use Rattle.rs_pager.specs.LookedAt.{GivesFirst, IsFileOfNone, ShowsFile}
+use Rattle.rs_pager.specs.LookedAt.{GivesFirst, IsFileOfNone, ShowsSameFile}
 use Rattle.rs_pager.proofs.LookedAt.{damaged_is_none, first_is_none, shows_file}
 use Rattle.rs_pager.proofs.Recovered.{of-damaged}
 use Rattle.rs_pager.proofs.looking.look_at_file.Goals as goal
 
 -- what a look shows after reads of the disk
-shows_after : (was read now : Content) → read ≡ was → now ≡ read → (read.byte 64 ≡ 1 → IsTold read) → (GivesFirst was → ⊥) → ShowsFile was (shown now)
+shows_after : (was read now : Content) → read ≡ was → now ≡ read → (read.byte 64 ≡ 1 → IsTold read) → (GivesFirst was → ⊥) → ShowsSameFile was (shown now)
 shows_after was read now first second told none =
-    subst (λ (content : Content). ShowsFile was (shown content)) (sym (second ∙ first))
+    subst (λ (content : Content). ShowsSameFile was (shown content)) (sym (second ∙ first))
     (shows_file was (subst (λ (content : Content). content.byte 64 ≡ 1 → IsTold content) first told) none)
 
 pub returns-in_err-looked-clause-damaged : goal.returns-in_err-looked-clause-damaged
