@@ -1,12 +1,14 @@
 -- What is dumped of a look is dumped of the file.
-use Rattle.std.proofs.Common.{◌≡◌, ◌⊎◌, ℕ, Bool, false, inl, inr, List, Result, Ok, Err, Option, None}
+use Rattle.std.proofs.Common.{◌≡◌, ◌∙◌, ◌⊎◌, ℕ, Bool, inl, inr, List, Result, Ok, Err, Option, sym}
 use Rattle.std.specs.Prelude.{IfErr, IfOk}
 use Rattle.rs_disk.specs.Content.{Content}
-use Rattle.rs_dump.specs.States.{CanBeDumpedWhole, IsDumped}
+use Rattle.rs_dump.specs.States.{IsDumped}
 use Rattle.rs_dump.specs.declared.stop.Stop.{Stop}
 use Rattle.rs_file_dump.specs.Files.{DumpsDisk, RefusesDisk, StopsDumping}
 use Rattle.rs_machine.specs.State.{State}
-use Rattle.rs_store_source.specs.Calls.{IsLeftOpen, IsNoFileOfAny}
+use Rattle.rs_refusal.specs.declared.refusal.Refusal.{Refusal}
+use Rattle.rs_refusal.specs.declared.refusal.Refusal.TheVariants as refusal
+use Rattle.rs_store_source.specs.Calls.{IsLeftOpen, IsNoFileOfAny, WantsOpening}
 use Rattle.rs_store_source.specs.Standing.{Stands}
 
 module _ (limit : ℕ) (content look : Content) (was : (state : State) → Stands limit look state → Stands limit content state) where
@@ -66,3 +68,14 @@ module _ (limit : ℕ) (content look : Content) (was : (state : State) → Stand
   stopped_was left none table omits_rows before after (Ok lacks) stops = tt
   stopped_was left none table omits_rows before after (Err stop) (inl refuses) = inl (refuses_was left none stop before after refuses)
   stopped_was left none table omits_rows before after (Err stop) (inr stops) = inr (stops_was table omits_rows stop before after stops)
+
+-- why there is no look is a reason why a file is not opened, and not that it is left open
+pub wants_look : (why : Refusal) → (why ≡ refusal.OutOfMemory) ⊎ (why ≡ refusal.Disk) ⊎ (why ≡ refusal.DamagedFile) → WantsOpening why
+wants_look why (inl memory) = inl memory
+wants_look why (inr (inl failed)) = inr (inl failed)
+wants_look why (inr (inr damaged)) = inr (inr (inl damaged))
+
+pub not_left_open : (why : Refusal) → (why ≡ refusal.OutOfMemory) ⊎ (why ≡ refusal.Disk) ⊎ (why ≡ refusal.DamagedFile) → why ≡ refusal.FileNotClosed → ⊥
+not_left_open why (inl memory) left = let wrong : refusal.OutOfMemory ≡ refusal.FileNotClosed = sym memory ∙ left in cc
+not_left_open why (inr (inl failed)) left = let wrong : refusal.Disk ≡ refusal.FileNotClosed = sym failed ∙ left in cc
+not_left_open why (inr (inr damaged)) left = let wrong : refusal.DamagedFile ≡ refusal.FileNotClosed = sym damaged ∙ left in cc

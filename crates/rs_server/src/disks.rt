@@ -83,7 +83,7 @@ pub(crate) fn close_after<'a, D: Disk + Drop>(
     match (engine.close(), failure) {
         (Ok(disk), None) => Ok(disk),
         (Ok(disk), Some(failure)) => Err((Some(disk), failure)),
-        (Err(_), Some(failure)) => Err((None, failure)),
-        (Err((_, refusal)), None) => Err((None, Failure::Refused(refusal))),
+        (Err((_engine, _refusal)), Some(failure)) => Err((None, failure)),
+        (Err((_engine, refusal)), None) => Err((None, Failure::Refused(refusal))),
     }
 }

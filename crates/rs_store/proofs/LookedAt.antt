@@ -22,10 +22,10 @@ module _ (limit : ℕ) (content look : Content) (shows : ShowsSameFile content l
     | inr not_closed ↦ inr (shows.left_open map two first not_closed)
   ]
 
-  file_shown : (state : State) → IsFileOf limit content state → IsFileOf limit look state
+  abbrev file_shown : (state : State) → IsFileOf limit content state → IsFileOf limit look state
   file_shown state file = record { pages = file.pages; stores = stores_shown file.pages (least limit file.pages state file.stand) file.stores; stand = file.stand }
 
-  file_was : (state : State) → IsFileOf limit look state → IsFileOf limit content state
+  abbrev file_was : (state : State) → IsFileOf limit look state → IsFileOf limit content state
   file_was state file = record { pages = file.pages; stores = shows.others file.pages (least limit file.pages state file.stand) file.stores; stand = file.stand }
 
   pub stands_shown : (state : State) → Stands limit content state → Stands limit look state

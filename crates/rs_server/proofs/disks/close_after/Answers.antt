@@ -1,5 +1,6 @@
 -- The disk that the engine gives back stands for its machine's state; or why there is none is told, where nothing failed before.
-use Rattle.std.proofs.Common.{◌∙◌, rules, sym}
+use Rattle.std.proofs.Common.{◌∙◌, ℕ, refl, rules, subst, sym}
+use Rattle.rs_pager.specs.Opened.{CountsFault}
 use Rattle.rs_server.proofs.Closing.{closed_as, tells_why}
 use Rattle.rs_server.proofs.disks.close_after.Goals as goal
 
@@ -19,5 +20,24 @@ returns-in-Ok-Some g c = λ machine is. record {
   count = c.in-Ok-Some.ensures.count.count ∙ sym is.is.failures;
 }
 
+pub returns-in-Err-Some : goal.returns-in-Err-Some
+returns-in-Err-Some g c = λ machine is.
+    let d = g.D.Disk in
+    let back = c.in-Err-Some._engine.store.pager.disk in
+    let why = c.in-Err-Some._refusal in
+    record {
+      closed = tt;
+      told = search rules;
+      count = (back, why, subst (λ (count : ℕ). CountsFault why count (d.failures back)) (sym is.is.failures) c.in-Err-Some.ensures.count.count, search rules);
+    }
+
 pub returns-in-Err-None : goal.returns-in-Err-None
-returns-in-Err-None g c = λ machine is. record { closed = tt; told = tells_why _ _ c.in-Err-None.refusal c.in-Err-None.is-1 c.in-Err-None.ensures.count.refused }
+returns-in-Err-None g c = λ machine is.
+    let d = g.D.Disk in
+    let back = c.in-Err-None._engine.store.pager.disk in
+    let why = c.in-Err-None.refusal in
+    record {
+      closed = tt;
+      told = tells_why _ _ why c.in-Err-None.is-1 c.in-Err-None.ensures.count.refused;
+      count = (back, why, subst (λ (count : ℕ). CountsFault why count (d.failures back)) (sym is.is.failures) c.in-Err-None.ensures.count.count, λ _. refl);
+    }

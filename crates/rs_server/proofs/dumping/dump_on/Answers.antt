@@ -21,5 +21,5 @@ returns-in-Ok-true-clause-fails g c = λ honest failed.
 pub returns-in-Err-Refused-clause-fails : goal.returns-in-Err-Refused-clause-fails
 returns-in-Err-Refused-clause-fails g c = λ honest failed. inr (stopped c.dump_file.result _ _ c.in-Err-Refused.is (c.dump_file.ensures.stops honest))
 
-pub returns-clause-fails : goal.returns-clause-fails
-returns-clause-fails g c = λ honest failed. inr (stopped c.dump_file.result _ _ c.in-Err-Stream.is (c.dump_file.ensures.stops honest))
+pub returns-in-Err-Stream-clause-fails : goal.returns-in-Err-Stream-clause-fails
+returns-in-Err-Stream-clause-fails g c = λ honest failed. inr (stopped c.dump_file.result _ _ c.in-Err-Stream.is (c.dump_file.ensures.stops honest))
