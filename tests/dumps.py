@@ -31,7 +31,7 @@ from typing import NamedTuple
 import refusing
 from dump_turns import makers_of
 from file_writer import DAMAGED, NOT_CLOSED
-from programs import replies_of
+from programs import ended_as_nobody, replies_of
 from slow_checkpoint import being_written, in_first_version
 from slow_dump import content_of, dumped, dumped_table
 from slow_file import read
@@ -51,7 +51,6 @@ LONGEST = 120  # seconds that a run may take
 MOST_PRINTED = 20  # faults
 MOST_TABLES = 3  # of a file that are dumped one by one
 PIPE = 65_536  # bytes that a pipe takes which nobody reads
-NOBODY = 65_534  # the number of a user and of a group with no rights
 
 # What the example network gets beside its definitions and rows, and the end of its dump.
 KEPT = (
@@ -140,12 +139,6 @@ class Program(NamedTuple):
 
     def run(self, *words, sent=b""):
         done = subprocess.run([self.path, *words], input=sent, capture_output=True, timeout=LONGEST)
-        return Ended(done.returncode, done.stdout, done.stderr)
-
-    def run_as_nobody(self, *words):
-        """A run that may not do what root alone may."""
-        given = {"user": NOBODY, "group": NOBODY, "extra_groups": []} if os.getuid() == 0 else {}
-        done = subprocess.run([self.path, *words], input=b"", capture_output=True, timeout=LONGEST, check=False, **given)
         return Ended(done.returncode, done.stdout, done.stderr)
 
     def dump(self, file, *words):
@@ -389,9 +382,9 @@ def a_file_that_may_only_be_read_is_dumped(program):
     os.chmod(program.folder, 0o555)
     try:
         with unchanged(file):
-            expect("a dump by who may only read", program.run_as_nobody("dump", "--file", file), whole)
+            expect("a dump by who may only read", ended_as_nobody(program.path, ["dump", "--file", file], LONGEST), whole)
             refused = Ended(1, b"", not_opened(file, "no permission"))
-            expect("a run by who may only read", program.run_as_nobody("run", "--file", file), refused)
+            expect("a run by who may only read", ended_as_nobody(program.path, ["run", "--file", file], LONGEST), refused)
     finally:
         os.chmod(program.folder, 0o755)
 

@@ -27,7 +27,7 @@ from typing import NamedTuple
 from conversations import conversations_of, exchanges_of, path_of
 from file_writer import PAGE_BYTES, written
 from harness import bytes_at, expect, run_tests
-from programs import PROGRAM, Ended
+from programs import PROGRAM, Ended, ended_as_nobody
 from slow_checkpoint import being_written, in_first_version
 from slow_file import lines_of, read
 from slow_journal import GATE, NO_PAGES, VERSION
@@ -46,7 +46,6 @@ NEAR = 32  # bytes
 PIECE_PAUSE = 0.001  # seconds between pieces of a line
 COUNT_OF_PAGES = 32  # and of three numbers in page 0: of pages, of the first free one, and of free ones
 FULL = "/dev/full"  # each write to it fails
-NOBODY = 65_534  # the number of a user and of a group with no rights
 OPEN = 5  # files that are open in a server that waits: the streams, the file and the listener
 
 DEFINED = b"0 DEFINE ROUTE A FROM 0 TO 10\n0 DEFINE LINE TABLE pave (surf TEXT(8))\n"
@@ -109,12 +108,6 @@ class Program(NamedTuple):
 
     def run(self, *words, sent=b""):
         done = subprocess.run([self.path, *words], input=sent, capture_output=True, timeout=LONGEST)
-        return Ended(done.returncode, done.stdout, done.stderr)
-
-    def run_as_nobody(self, *words):
-        """A run that may not do what root alone may."""
-        given = {"user": NOBODY, "group": NOBODY, "extra_groups": []} if os.getuid() == 0 else {}
-        done = subprocess.run([self.path, *words], input=b"", capture_output=True, timeout=LONGEST, check=False, **given)
         return Ended(done.returncode, done.stdout, done.stderr)
 
     def expect(self, words, sent, out, said=b""):
@@ -386,7 +379,7 @@ def a_missing_file_is_not_opened(program):
     os.chmod(program.folder, 0o555)
     path = program.file("new")
     for words, path, why in ((["run", "--file", file], file, NO_PERMISSION), (["create", "--file", path], path, REFUSED)):
-        expect(" ".join(words) + " without permission", program.run_as_nobody(*words), Ended(1, b"", not_opened(path, why)))
+        expect(" ".join(words) + " without permission", ended_as_nobody(program.path, words, LONGEST), Ended(1, b"", not_opened(path, why)))
     os.chmod(program.folder, 0o755)
 
 

@@ -4,6 +4,7 @@ import os
 import re
 import select
 import shlex
+import shutil
 import subprocess
 import tempfile
 from contextlib import suppress
@@ -15,6 +16,7 @@ ROOT = os.path.dirname(os.path.dirname(os.path.abspath(__file__)))
 SHARED_MEMORY = "/dev/shm"
 LONGEST_RUN = 300  # seconds
 SENT_AT_ONCE = 16_384  # bytes of lines: a pipe holds more
+NOBODY = 65_534  # the number of a user and of a group with no rights
 
 # The last line of a reply.
 FINISH = re.compile(rb"^[0-9]+ (?:OK|ERR) [^\n]*\n", re.MULTILINE)
@@ -87,6 +89,16 @@ class Ended(NamedTuple):
     status: int
     out: bytes
     errors: bytes
+
+
+def ended_as_nobody(path, words, longest):
+    """How a run of a program ends that may not do what root alone may. A copy is run: who has no rights may not see the program."""
+    given = {"user": NOBODY, "group": NOBODY, "extra_groups": []} if os.getuid() == 0 else {}
+    with tempfile.TemporaryDirectory() as folder:
+        os.chmod(folder, 0o755)
+        copy = shutil.copy(path, folder)
+        done = subprocess.run([copy, *words], input=b"", capture_output=True, timeout=longest, check=False, **given)
+    return Ended(done.returncode, done.stdout, done.stderr)
 
 
 def batches(lines):
