@@ -62,8 +62,9 @@ NOTHING = Asked()
 class Run(Running):
     """A run of the program, with the library loaded before it."""
 
-    def __init__(self, program, words, file, asked=NOTHING):
-        told, self.log = os.memfd_create("told"), os.memfd_create("log")
+    def __init__(self, program, words, file, asked=NOTHING, keeps_log=True):
+        told = os.memfd_create("told")
+        self.log = os.memfd_create("log") if keeps_log else os.open(os.devnull, os.O_WRONLY)
         os.truncate(told, TOLD.size)
         self.told = mmap.mmap(told, TOLD.size)
         self.ask_for(asked)

@@ -4,7 +4,8 @@
     room.py [--program PATH] [--jobs N] [TEST ..]
 
 The program is `rs_room`, which answers lines over a file within a limit of pages, and says after each reply how many changed and
-how many clean pages are held, and how many records are dead. PATH is `crates/rs_room/out/rs_room` by default; a TEST is the name
+how many clean pages are held, and how many records are dead. In one test each call of the file fails once that a checkpoint makes
+(device_log.c). PATH is `crates/rs_room/out/rs_room` by default; a TEST is the name
 of a function of the list TESTS. It prints what is not as wanted, and at last `N passed, M failed`.
 """
 
@@ -14,6 +15,8 @@ import re
 import sys
 from typing import NamedTuple
 
+from device_log import CHANGES as DISK_CHANGES
+from device_log import NOTHING, WRITES, Asked, Run, build
 from harness import Wrong, bytes_at, expect, run_tests
 from programs import Ended, Running, built
 from slow_file import read
@@ -25,6 +28,9 @@ SEED = 0
 
 MOST_PAGES = 1_048_576  # of any file
 MOST_CHANGED, MOST_CLEAN = 1_200, 256  # pages that are held after a step
+MOST_BEFORE = 1_024  # changed pages that are held where a change begins
+MOST_OF_A_ROW = 30  # pages that a row which is inserted changes
+FEWEST_CALLS = 11  # of a checkpoint: of one page
 CLEARED = 64  # dead records that go at a change or a CLOSE, where there are as many
 
 SPANS = 100  # separate ones, all removed beside a cursor
@@ -40,6 +46,7 @@ HELD = re.compile(rb"# held (\d+) (\d+) garbage (\d+)\n")
 ROUTE = b"0 DEFINE ROUTE A FROM 0 TO 100\n"
 TABLE = b"0 DEFINE LINE TABLE t (n INT)\n"
 FULL = b"0 ERR 92 file full\n"
+NO_DISK = b"0 ERR 91 disk\n"
 
 
 class Told(NamedTuple):
@@ -54,11 +61,8 @@ class Told(NamedTuple):
         return self.reply.splitlines()[-1].split(b" ")[1] == b"OK"
 
 
-class Room(Running):
-    """A run of the program, over a file within a limit of pages, or in memory."""
-
-    def __init__(self, program, *words):
-        super().__init__([program, *map(str, words)], LONGEST)
+class Telling(Running):
+    """A run of the program, of whose engine something is told after each reply."""
 
     def replies(self, count):
         """What is told of the next lines, so many."""
@@ -84,6 +88,32 @@ class Room(Running):
         expect("the end", self.end(), Ended(0, b"", b""))
 
 
+class Room(Telling):
+    """Such a run over a file within a limit of pages, or in memory."""
+
+    def __init__(self, program, *words):
+        super().__init__([program, *map(str, words)], LONGEST)
+
+
+class FaultyRoom(Telling, Run):
+    """Such a run over a file whose calls are made to fail (device_log.c)."""
+
+    def __init__(self, program, library):
+        super().__init__(Path(program.path, library), [program.file(), str(MOST_PAGES)], program.file(), keeps_log=False)
+
+    def changes(self):
+        """How many changes of the file were begun, and how many of these are writes."""
+        counts = self.counts()
+        return counts[DISK_CHANGES], counts[WRITES]
+
+
+class Path(NamedTuple):
+    """Where a program is, and the library that is loaded before it."""
+
+    path: str
+    library: str
+
+
 class Program(NamedTuple):
     """The program, and a folder for the files of one test."""
 
@@ -92,6 +122,9 @@ class Program(NamedTuple):
 
     def file(self):
         return os.path.join(self.folder, "file")
+
+    def over_faulty_disk(self):
+        return FaultyRoom(self, build(self.folder))
 
     def over_file(self, limit=MOST_PAGES):
         return Room(self.path, self.file(), limit)
@@ -268,19 +301,98 @@ def a_long_report_beside_a_writer(program):
 # Pages that are held.
 
 
+class Load:
+    """Lines to an engine, which holds few pages after each: no more changed ones than where a change may begin, and those of one row."""
+
+    def __init__(self, room):
+        self.room = room
+        self.told = [Told(b"", 0, 0, 0)]
+
+    def changed(self):
+        """How many changed pages are held."""
+        return self.told[-1].changed
+
+    def look(self, told, own_pages):
+        """Looks at what is told of lines, each of which may change so many pages itself. Where more are held than a change may find, a
+        row that is accepted has had a checkpoint made."""
+        for one in told:
+            before = 0 if own_pages and one.is_ok() and self.changed() > MOST_BEFORE else self.changed()
+            most = min(MOST_CHANGED, before + own_pages)
+            is_few = one.changed <= most and one.clean <= MOST_CLEAN
+            expect("at most (%d, %d) are held, not (%d, %d)" % (most, MOST_CLEAN, one.changed, one.clean), is_few, True)
+            self.told.append(one)
+
+    def insert(self, rows):
+        """Rows that are accepted."""
+        self.look(self.room.accepted(rows), MOST_OF_A_ROW)
+
+    def ask(self, line):
+        """The reply to a line that changes nothing."""
+        told = self.room.ask(line)
+        self.look([told], 0)
+        return told.reply
+
+    def fail_each_call(self, line, own_pages=0):
+        """Has each call of the checkpoint fail once that a line makes, which is refused then; at last it is accepted. Gives how often it
+        was refused. A stage is writes and a sync; it begins anew with the next line."""
+        number, was_last, refused = 1, False, 0
+        while True:
+            told, made, written = self.failing(line, number)
+            self.look([told], own_pages)
+            if told.is_ok():
+                return refused
+            expect("the refusal of %.80r" % line, (told.reply, made), (NO_DISK, number))
+            refused += 1
+            number, was_last = (2, False) if was_last else (number + 1, written < number)
+
+    def failing(self, line, number):
+        """What is told of a line of whose calls this one fails; how many it made, and how many of them are writes."""
+        changes, writes = self.room.changes()
+        self.room.ask_for(Asked(fail_at=changes + number))
+        [told] = self.room.ask_all([line])
+        self.room.ask_for(NOTHING)
+        now = self.room.changes()
+        return told, now[0] - changes, now[1] - writes
+
+
+def wide_rows_reply():
+    return rows_reply([wide_line(number) for number in range(WIDE_ROWS)])
+
+
 def few_pages_are_held(program):
-    """After each of 20,000 lines that insert wide rows, and after REOPEN and a SELECT of all, few pages are held."""
+    """After each of 20,000 lines that insert wide rows, and after REOPEN and a SELECT of all."""
     with program.over_file() as room:
-        told = room.accepted([ROUTE, WIDE_TABLE, *map(wide, range(WIDE_ROWS))])
-        told += room.accepted([b"0 REOPEN\n"])
-        selected = room.ask(b"0 SELECT wide\n")
-        expect("the rows", selected.reply, rows_reply([wide_line(number) for number in range(WIDE_ROWS)]))
-        told += [selected, *room.accepted([wide(WIDE_ROWS), b"0 SAVE\n"])]
-        changed, clean = max(one.changed for one in told), max(one.clean for one in told)
-        expect("at most (%d, %d) are held, not (%d, %d)" % (MOST_CHANGED, MOST_CLEAN, changed, clean),
-               changed <= MOST_CHANGED and clean <= MOST_CLEAN, True)
-        expect("that many pages are held at all", changed > 500, True)
+        load = Load(room)
+        load.insert([ROUTE, WIDE_TABLE, *map(wide, range(WIDE_ROWS))])
+        expect("that many pages are held at all", max(one.changed for one in load.told) > MOST_BEFORE, True)
+        expect("REOPEN", load.ask(b"0 REOPEN\n"), b"0 OK 0\n")
+        expect("the rows", load.ask(b"0 SELECT wide\n"), wide_rows_reply())
+        load.insert([wide(WIDE_ROWS)])
+        expect("SAVE", load.ask(b"0 SAVE\n"), b"0 OK 0\n")
         room.expect_end()
+
+
+def few_pages_are_held_where_calls_fail(program):
+    """So also where each call of each checkpoint fails once: those for which no line asks, and those of REOPEN and SAVE."""
+    with program.over_faulty_disk() as room:
+        load, number, refused = Load(room), 0, []
+        load.insert([ROUTE, WIDE_TABLE])
+        while number < WIDE_ROWS:
+            if load.changed() > MOST_BEFORE:
+                refused.append(load.fail_each_call(wide(number), MOST_OF_A_ROW))
+                number += 1
+            else:  # so many rows as make no checkpoint
+                end = min(WIDE_ROWS, number + 1 + (MOST_BEFORE - load.changed()) // MOST_OF_A_ROW)
+                load.insert(map(wide, range(number, end)))
+                number = end
+        refused.append(load.fail_each_call(b"0 REOPEN\n"))
+        expect("the rows", load.ask(b"0 SELECT wide\n"), wide_rows_reply())
+        load.insert([wide(WIDE_ROWS)])
+        refused.append(load.fail_each_call(b"0 SAVE\n"))
+        room.expect_end()
+    *unasked, reopened, saved = refused
+    few = [count <= 2 * MOST_BEFORE for count in unasked] + [reopened <= MOST_BEFORE, saved < FEWEST_CALLS]
+    expect("how many calls failed, which is few: %s" % refused, (len(unasked) >= 2, any(few)), (True, False))
 
 
 # A file of few pages.
@@ -334,6 +446,7 @@ TESTS = [
     what_another_cursor_sees_stays,
     a_long_report_beside_a_writer,
     few_pages_are_held,
+    few_pages_are_held_where_calls_fail,
     a_full_file_can_be_emptied_and_filled_again,
 ]
 
