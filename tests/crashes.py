@@ -10,6 +10,7 @@ The PARTS, each of which is judged by the slow reader of files, by the order of 
 - `migrations`: a closed file of version 1 gets version 2 by a checkpoint of page 0, whose log is replayed, and which is stopped and
   fails at each of its changes.
 - `journals`: files whose journals are written by hand (written_journals.py) are opened or refused by `run` and `dump`.
+- `rows`: what is answered of rows that were entered with a SAVE between them, by replies that are written by hand.
 - `replays`: a log of the calls of the file in a conversation is replayed: a power cut at each moment, with what was written since
   the last sync kept, lost, torn or filled; each image stands for a state between what was kept last and what was accepted, and
   is opened by `run` and `dump`, and some recoveries are replayed in turn.
@@ -39,6 +40,7 @@ from crash_openings import interrupt_opening, replay_opening
 from crash_plants import PLANTS, expect_found, expect_sound
 from crash_programs import Opening, openers_of
 from crash_replay import GATE, LONG, expect_created, expect_dumped, follow_order, replay, told_of
+from crash_rows import select_after_crashes
 from crash_stops import stop_everywhere
 from device_log import Program, build
 from file_writer import DAMAGED, OK
@@ -46,7 +48,7 @@ from harness import Wrong, bytes_at, expect, parser_of, summary
 from programs import PROGRAM, ROOT, library_of, scratch_folder
 from slow_checkpoint import in_first_version
 from slow_file import read
-from slow_journal import Damaged, has_open_gate
+from slow_journal import Damaged, has_open_gate, journal_of
 from written_journals import changed_bytes, files, pair_of, small
 
 KEPT = os.path.join(ROOT, "tests", "kept")  # files that an earlier build closed
@@ -77,9 +79,12 @@ class Built(NamedTuple):
     program: Program
     forking: str
 
+    def openers(self):
+        return openers_of(self.program.path, self.forking, self.program.folder)
+
     def open(self, openings, what):
         """Opens files with the program: how many."""
-        faults = openers_of(self.program.path, self.forking, self.program.folder).faults(openings)
+        faults = self.openers().faults(openings)
         if faults:
             raise Wrong("; ".join(faults[:MOST_PRINTED]))
         return Counter({what: len(openings)})
@@ -125,8 +130,11 @@ def journals(built, part, words):
 
 
 def openings_of(program, part, words):
-    """The library that is loaded, whose bytes say that a gate is open; the files; and those with a byte changed."""
-    yield Opening("a library", bytes_at(program.library), DAMAGED)
+    """The library that is loaded, whose bytes say that a gate is open and its journal copies none; the files; and those with a byte
+    changed."""
+    library = bytes_at(program.library)
+    expect("whether a library looks so", (has_open_gate(library), journal_of(library).numbers), (True, ()))
+    yield Opening("a library", library, DAMAGED)
     for file in islice(files(), part, None, words.jobs):
         found = read(file.data)
         expect("what the slow reader says of %s (%s)" % (file.name, found.why), found.answer, file.answer)
@@ -142,6 +150,10 @@ def openings_of(program, part, words):
 def batches_of(items):
     while batch := list(islice(items, BATCH)):
         yield batch
+
+
+def rows(built, _what, _words):
+    return Counter({"images asked for rows": select_after_crashes(built.program, built.openers())})
 
 
 def replays(built, talk, words):
@@ -179,7 +191,7 @@ def kills(built, part, words):
     return kill_at_random(built.program, count, words.seed + part)
 
 
-PARTS = {part.__name__: part for part in (planted, created, migrations, journals, replays, stops, faults, kills)}
+PARTS = {part.__name__: part for part in (planted, created, migrations, journals, rows, replays, stops, faults, kills)}
 
 
 # Tasks.
@@ -192,6 +204,7 @@ def tasks_of(words):
         "created": [None],
         "migrations": sorted(name for name in os.listdir(KEPT) if name.endswith(".road")),
         "journals": range(words.jobs),
+        "rows": [None],
         "replays": [talks.pop("many pages"), *talks.values()],
         "stops": [talk for talk in short_talks() if talk.name in STOPPED],
         "faults": [talk for talk in short_talks() if talk.name in FAILED],

@@ -44,6 +44,7 @@ LONGEST = 60  # seconds that anything may take
 STALL = 1  # seconds
 NEAR = 32  # bytes
 PIECE_PAUSE = 0.001  # seconds between pieces of a line
+FIRST_CATALOGUE = 44  # the place of the number of its first page in page 0
 COUNT_OF_PAGES = 32  # and of three numbers in page 0: of pages, of the first free one, and of free ones
 FULL = "/dev/full"  # each write to it fails
 OPEN = 5  # files that are open in a server that waits: the streams, the file and the listener
@@ -446,6 +447,33 @@ def files_of_earlier_builds_are_answered_from(program):
         program.expect(["run", "--file", file], b"0 REOPEN\n", b"0 OK 0\n")
         expect("dead records after that", Pages(bytes_at(file)).directory().dead(), 0)
         expect("the versions before and after that", (kept[name][VERSION], bytes_at(file)[VERSION]), (b"\0\0\0\1", b"\0\0\0\2"))
+
+
+def a_file_of_an_earlier_build_is_refused_where_it_is_damaged(program):
+    """The closed file of a row that was entered four times. What is refused keeps its bytes."""
+    data = bytes_at(os.path.join(KEPT, "one-row.road"))
+    route = b"\1A" + b"".join(number.to_bytes(4, "big") for number in (0, 0, 10_000))  # before its birth
+    birth = data.index(route) + len(route)
+    for name, changes, said in (
+        ("flag 1", {FLAG_PLACE: b"\1"}, NOT_CLOSED),
+        ("flag 2", {FLAG_PLACE: b"\2"}, NOT_CLOSED),
+        ("flag 1 and the first catalogue page 7", {FLAG_PLACE: b"\1", FIRST_CATALOGUE: b"\0\0\0\7"}, DAMAGED),
+        ("format 3", {VERSION.start: b"\0\0\0\3"}, DAMAGED),
+        ("a birth of 99", {birth: (99).to_bytes(8, "big")}, DAMAGED),
+        ("two pages", {2 * PAGE_BYTES: None}, DAMAGED),
+        ("100 bytes", {100: None}, DAMAGED),
+    ):
+        file = program.file(name)
+        put(file, data)
+        for place, new in changes.items():
+            os.truncate(file, place) if new is None else put(file, new, place)
+        left = bytes_at(file)
+        for words in (["run"], ["serve", "--listen", "nowhere"], ["dump"]):
+            expect("%s of a file with %s" % (words[0], name), program.run(*words, "--file", file, sent=SELECTED), Ended(1, b"", said))
+        expect("the file with %s after that" % name, bytes_at(file), left)
+    file = program.file("longer")
+    put(file, data + bytes(PAGE_BYTES))
+    program.expect(["run", "--file", file], SELECTED, b"0 ROW A 0.000 2.500 'AC'\n0 OK 1\n")
 
 
 def a_file_in_use_is_not_opened(program):
@@ -950,6 +978,7 @@ TESTS = [
     a_file_that_was_being_written_is_recovered,
     a_file_of_each_kind_of_definition_is_opened,
     files_of_earlier_builds_are_answered_from,
+    a_file_of_an_earlier_build_is_refused_where_it_is_damaged,
     a_file_in_use_is_not_opened,
     a_fault_of_the_streams_closes_the_file,
     no_file_takes_the_place_of_a_closed_stream,
