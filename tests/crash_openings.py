@@ -38,13 +38,15 @@ def follow(data, entries):
 
 
 def expect_opened(program, data):
-    """Opens a file in a run without lines."""
+    """Opens a file in a run without lines: its log."""
     program.file_of(data)
     with program.run() as run:
         expect("the end of a run over what was left", run.end(), WELL)
+        entries = run.entries()
     left = program.bytes_left()
     if left != after_opening(data, True):
         raise Wrong("an opening leaves other bytes than the slow checkpoint (%s)" % read(left).why)
+    return entries
 
 
 def replay_opening(program, data, state, by, depth):

@@ -1,20 +1,26 @@
 """Stops the program at each of its changes of the file, before it or once a write is half done, and interrupts the recovery that
 follows; then it opens the file by itself, which stands for a state between what was kept last and what was accepted.
 
-Changes are writes, syncs and cuts. A stop before a reading leaves the file that a stop before the next change leaves.
+Changes are writes, syncs and cuts. A stop before a reading leaves the file that a stop before the next change leaves. Where the program
+was stopped, the system still has what it had written: power is cut in the recovery too, where some of that may be lost with it.
 """
 
 import random
+from collections import Counter
 from typing import NamedTuple
 
+from crash_images import Amount, images, moments
 from crash_judge import Bounds, Judge
 from crash_openings import KILLED, expect_opened, interrupt_opening
 from crash_replay import is_kept_by, machine_after
-from device_log import WRITE, Asked
+from device_log import SYNCING, WRITE, Asked
 from harness import Wrong, expect
 from programs import FINISH
 from slow_journal import has_open_gate
 from slow_machine import Machine
+
+AMOUNT = Amount(1, 2)
+MOST_MOMENTS = 6  # of a recovery of a large file
 
 
 class Progress(NamedTuple):
@@ -46,34 +52,69 @@ def stops_of(told):
             yield Asked(stop_at=number, stop_half=True)
 
 
+class Left(NamedTuple):
+    """The bytes that a process left which was stopped, from which to which count of changes they may be, and its log."""
+
+    data: bytes
+    bounds: Bounds
+    entries: list
+
+
 def stopped(program, talk, told, progress, asked):
-    """Has a conversation in a process that is stopped: the bytes that it leaves, and from which to which count they may be."""
+    """Has a conversation in a process that is stopped: what it leaves."""
     program.file_of(told.data)
     with program.run(asked) as run:
         replies = run.ask_all([line + b"\n" for line in talk.lines])
         answered = sum(bool(FINISH.search(reply)) for reply in replies)
         expect("the status of a process that is stopped", run.end().status, KILLED)
-    return program.bytes_left(), progress.bounds(answered)
+        return Left(program.bytes_left(), progress.bounds(answered), run.entries())
 
 
-def judge_stop(program, judge, data, bounds, by, again):
-    """Judges a file that a process left: what it stands for is what the recovery leaves, also where that is interrupted, at each of
-    its changes or at so many."""
-    state = judge.judge(data, bounds)
-    expect_opened(program, data)
-    return 1 + (interrupt_opening(program, judge, data, state, by, again) if has_open_gate(data) else 0)
+class Stops:
+    """Stops of one conversation, and how many stops and images there were."""
+
+    def __init__(self, program, talk, told, seed):
+        self.program, self.talk, self.told = program, talk, told
+        self.by = random.Random("stops %s %d" % (talk.name, seed))
+        self.judge, self.progress = Judge(), progress_of(talk)
+        self.counts = Counter()
+
+    def chosen(self, most):
+        """The stops, or so many of them."""
+        found = list(stops_of(self.told))
+        return found if most is None or most >= len(found) else self.by.sample(found, most)
+
+    def stop(self, asked, again):
+        """Judges the file that is left by one: what it stands for is what the recovery leaves, also where that is interrupted, at each of
+        its changes or at so many."""
+        left = stopped(self.program, self.talk, self.told, self.progress, asked)
+        state = self.judge.judge(left.data, left.bounds)
+        entries = expect_opened(self.program, left.data)
+        self.counts["stops"] += 1
+        if has_open_gate(left.data):
+            self.counts["stops"] += interrupt_opening(self.program, self.judge, left.data, state, self.by, again)
+            if not asked.stop_half:  # of a write that is half done nothing is in the log
+                self.cut_power(left, state, entries)
+
+    def cut_power(self, left, state, entries):
+        """Judges the images of a recovery, at whose start not all was synced. From its first sync on they stand for one state."""
+        start = len(left.entries)
+        synced = start + 1 + next(place for place, entry in enumerate(entries) if entry.kind == SYNCING)
+        found = [one for one in moments(self.told.data, [*left.entries, *entries]) if one.place >= start]
+        for moment in self.by.sample(found, MOST_MOMENTS) if self.talk.is_large else found:
+            bounds = left.bounds if moment.place < synced else Bounds(state.accepted, state.accepted)
+            for data in images(moment, self.by, AMOUNT):
+                self.judge.judge(data, bounds)
+                self.counts["images after stops"] += 1
 
 
 def stop_everywhere(program, talk, told, seed, most=None, again=2):
-    """Stops the process at each change, or at so many: how many stops there were."""
-    by = random.Random("stops %s %d" % (talk.name, seed))
-    judge, progress, stops = Judge(), progress_of(talk), list(stops_of(told))
-    chosen = stops if most is None or most >= len(stops) else by.sample(stops, most)
-    count = 0
-    for asked in chosen:
+    """Stops the process at each change, or at so many: how many stops there were, and images in the recoveries after them."""
+    stops = Stops(program, talk, told, seed)
+    for asked in stops.chosen(most):
         try:
-            count += judge_stop(program, judge, *stopped(program, talk, told, progress, asked), by, again)
+            stops.stop(asked, again)
         except Wrong as wrong:
             raise Wrong("stopped at change %d%s: %s" % (asked.stop_at, ", half done" * asked.stop_half, wrong)) from None
-    judge.compare(Machine(), [*talk.before, *talk.lines])
-    return count
+    stops.judge.compare(Machine(), [*talk.before, *talk.lines])
+    return stops.counts

@@ -14,7 +14,7 @@ The PARTS, each of which is judged by the slow reader of files, by the order of 
 - `replays`: a log of the calls of the file in a conversation is replayed: a power cut at each moment, with what was written since
   the last sync kept, lost, torn or filled; each image stands for a state between what was kept last and what was accepted, and
   is opened by `run` and `dump`, and some recoveries are replayed in turn.
-- `stops`: the process is killed at each change of the file, and the recovery is stopped and fails at its changes.
+- `stops`: the process is killed at each change of the file, and the recovery is stopped and fails at its changes, and power is cut in it.
 - `faults`: each change fails once, and the disk is full from each write on and has room again later.
 - `kills`: a writer is killed at random, 100 times by default.
 
@@ -177,7 +177,7 @@ def replays(built, talk, words):
 def stops(built, talk, words):
     told = told_of(built.program, talk)
     most = None if words.is_long and not talk.is_large else STOPPED[talk.name]
-    return Counter(stops=stop_everywhere(built.program, talk, told, words.seed, most, None if words.is_long else 2))
+    return stop_everywhere(built.program, talk, told, words.seed, most, None if words.is_long else 2)
 
 
 def faults(built, talk, words):
