@@ -1,10 +1,11 @@
 """Openings that change a file: the recovery of one whose gate is open, and the checkpoint by which one of version 1 gets version 2.
 
 The log of one is replayed, the process is stopped at its changes, and its changes fail, which is told by 91. What is left each time
-stands for the state that the opening began with, and a further opening leaves the bytes that the slow checkpoint makes.
+stands for the state that the opening began with, also where power is cut after a fault, and a further opening leaves the bytes that
+the slow checkpoint makes.
 """
 
-from crash_images import images, moments
+from crash_images import Amount, images, moments
 from crash_judge import Bounds, Judge
 from crash_order import Order
 from device_calls import SYNC, Write
@@ -16,6 +17,7 @@ from slow_file import read
 from slow_journal import FIRST_VERSION, places_of
 
 KILLED = -9
+AMOUNT = Amount(1, 2)  # images after a fault
 REFUSED = Ended(1, b"", b"roadseg: ERR 91 disk\n")
 
 
@@ -77,22 +79,26 @@ def interrupt_opening(program, judge, data, state, by, most=None):
     chosen = found if most is None else by.sample(found, min(most, len(found)))
     for asked in chosen:
         try:
-            expect_interrupted(program, judge, data, state, asked)
+            expect_interrupted(program, judge, data, state, by, asked)
         except Wrong as wrong:
             raise Wrong("an opening with %s: %s" % (asked, wrong)) from None
     return len(chosen)
 
 
-def expect_interrupted(program, judge, data, state, asked):
+def expect_interrupted(program, judge, data, state, by, asked):
     """An opening is stopped or fails, or has no such change left; what is left opens to the same state."""
     program.file_of(data)
     with program.run(asked) as run:
-        ended = run.end()
+        ended, entries = run.end(), run.entries()
     if ended != WELL or not is_last_cut(data, asked):
         expect("how it ends", ended, Ended(KILLED, b"", b"") if asked.stop_at else REFUSED)
-    left = program.bytes_left()
-    expect("the state that is left", judge.judge(left, Bounds(state.accepted, state.accepted)), state)
+    left, bounds = program.bytes_left(), Bounds(state.accepted, state.accepted)
+    expect("the state that is left", judge.judge(left, bounds), state)
     expect_opened(program, left)
+    if asked.fail_at:
+        *_, last = moments(data, entries)
+        for image in images(last, by, AMOUNT):
+            expect("the state after a fault and a crash", judge.judge(image, bounds), state)
 
 
 def is_last_cut(data, asked):

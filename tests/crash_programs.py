@@ -16,7 +16,7 @@ from forked import Forked, Job
 from harness import Wrong, expect
 from read_again import Asked, Talk, talk_of
 from slow_checkpoint import after_opening, is_at_rest
-from slow_dump import dumped
+from slow_dump import arranged, dumped
 from slow_file import State, read
 
 LONGEST_RUN = 120  # seconds
@@ -53,9 +53,9 @@ class Opening(NamedTuple):
 
 @lru_cache(maxsize=100)
 def dump_of(asked):
-    """What `dump` prints of a state: its status, what it writes to standard output, and the lines of standard error."""
+    """What `dump` prints of a state: its status, the lines of standard output, and those of standard error."""
     dump = dumped(asked.state)
-    return 1 if dump.told else 0, dump.out(), sorted(line.strip() for line in dump.told)
+    return 1 if dump.told else 0, arranged(dump.lines), sorted(line.strip() for line in dump.told)
 
 
 class Openers:
@@ -116,8 +116,8 @@ def compare_dump(opening, done):
     if opening.state is None:
         expect("the end of dump", (done.status, done.out, done.errors), (1, b"", SAID[opening.answer]))
     else:
-        status, out, told = dump_of(Asked(opening.state))
+        status, lines, told = dump_of(Asked(opening.state))
         expect("the end of dump", (done.status, sorted(done.errors.splitlines())), (status, told))
-        expect("what dump prints", done.out, out)
+        expect("what dump prints", arranged(done.out.splitlines(keepends=True)), lines)
     if done.left != opening.data:
         raise Wrong("dump changes the file")

@@ -54,14 +54,16 @@ from written_journals import changed_bytes, files, pair_of, small
 KEPT = os.path.join(ROOT, "tests", "kept")  # files that an earlier build closed
 KILLS, ALL_KILLS, KILLS_AT_ONCE = 100, 5_000, 25
 IMAGES = 1_000_000
-BYTES, ALL_BYTES = 40, 1  # every so many changed bytes
+BYTES, ALL_BYTES = 10, 1  # every so many changed bytes
 WHOLE, LONG_ROWS = 20, 6_000
 RECOVERIES, ALL_RECOVERIES = 6, 60  # of a conversation that are replayed
 BATCH = 500  # files that are kept at once
 MOST_PRINTED = 5  # faults of a task
 
-# Of the conversations that are stopped, and whose calls fail, how many stops there are at the most, and every how many faults.
-STOPPED = {"rows": None, "definitions": 60, "beside cursors": 60, "rows that go": 40, "many pages": 6}
+# Of the conversations that are stopped how many stops there are at the most, and in how many ways each recovery is interrupted; and of
+# those whose calls fail, every how many faults.
+STOPPED = {"rows": None, "definitions": None, "rows that go": None, "beside cursors": None, "questions": None, "many pages": 6}
+INTERRUPTED, INTERRUPTED_OTHERS = {"rows": None}, 2
 FAILED = {"rows": 1, "definitions": 5, "rows that go": 15, "beside cursors": 5}
 
 
@@ -86,7 +88,7 @@ class Built(NamedTuple):
         """Opens files with the program: how many."""
         faults = self.openers().faults(openings)
         if faults:
-            raise Wrong("; ".join(faults[:MOST_PRINTED]))
+            raise Wrong("%d faults: %s" % (len(faults), "; ".join(faults[:MOST_PRINTED])))
         return Counter({what: len(openings)})
 
 
@@ -177,7 +179,8 @@ def replays(built, talk, words):
 def stops(built, talk, words):
     told = told_of(built.program, talk)
     most = None if words.is_long and not talk.is_large else STOPPED[talk.name]
-    return stop_everywhere(built.program, talk, told, words.seed, most, None if words.is_long else 2)
+    again = None if words.is_long else INTERRUPTED.get(talk.name, INTERRUPTED_OTHERS)
+    return stop_everywhere(built.program, talk, told, words.seed, most, again)
 
 
 def faults(built, talk, words):

@@ -33,7 +33,7 @@ from dump_turns import makers_of
 from file_writer import DAMAGED, NOT_CLOSED
 from programs import ended_as_nobody, replies_of
 from slow_checkpoint import being_written, in_first_version
-from slow_dump import content_of, dumped, dumped_table
+from slow_dump import arranged, content_of, dumped, dumped_table
 from slow_file import read
 from slow_journal import GATE
 from slow_pages import FLAG_PLACE
@@ -188,14 +188,6 @@ def unchanged(file):
 
 
 # Whole states.
-
-
-def arranged(lines):
-    """The lines of a dump, and where its views begin; views stand together, in the order of their names."""
-    views = [place for place, line in enumerate(lines) if line.startswith(b"0 DEFINE VIEW ")]
-    if not views:
-        return lines
-    return lines[: views[0]] + sorted(lines[views[0] : views[0] + len(views)]) + lines[views[0] + len(views) :]
 
 
 def expect_dump(what, ended, dump):

@@ -24,9 +24,6 @@ class Dump(NamedTuple):
     replies: list
     told: list
 
-    def out(self):
-        return b"".join(self.lines)
-
     def without_rows(self):
         kept = [(line, reply) for line, reply in zip(self.lines, self.replies) if not line.startswith(ROW)]
         return self._replace(lines=[line for line, _ in kept], replies=[reply for _, reply in kept])
@@ -166,6 +163,14 @@ def dumped_table(state, table):
     dumping.define(b"table", table.name, table_line(table))
     dumping.put_rows(table)
     return dumping.dump
+
+
+def arranged(lines):
+    """The lines of a dump, whose views may come in any order, with these in the order of their names."""
+    views = [place for place, line in enumerate(lines) if line.startswith(b"0 DEFINE VIEW ")]
+    if not views:
+        return lines
+    return lines[: views[0]] + sorted(lines[views[0] : views[0] + len(views)]) + lines[views[0] + len(views) :]
 
 
 def content_of(state, left_out=()):
