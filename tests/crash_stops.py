@@ -60,16 +60,6 @@ class Left(NamedTuple):
     entries: list
 
 
-def stopped(program, talk, told, progress, asked):
-    """Has a conversation in a process that is stopped: what it leaves."""
-    program.file_of(told.data)
-    with program.run(asked) as run:
-        replies = run.ask_all([line + b"\n" for line in talk.lines])
-        answered = sum(bool(FINISH.search(reply)) for reply in replies)
-        expect("the status of a process that is stopped", run.end().status, KILLED)
-        return Left(program.bytes_left(), progress.bounds(answered), run.entries())
-
-
 class Stops:
     """Stops of one conversation, and how many stops and images there were."""
 
@@ -87,14 +77,26 @@ class Stops:
     def stop(self, asked, again):
         """Judges the file that is left by one: what it stands for is what the recovery leaves, also where that is interrupted, at each of
         its changes or at so many."""
-        left = stopped(self.program, self.talk, self.told, self.progress, asked)
-        state = self.judge.judge(left.data, left.bounds)
-        entries = expect_opened(self.program, left.data)
+        left = self.left_by(asked)
+        state, entries = self.recovered(left)
         self.counts["stops"] += 1
         if has_open_gate(left.data):
             self.counts["stops"] += interrupt_opening(self.program, self.judge, left.data, state, self.by, again)
             if not asked.stop_half:  # of a write that is half done nothing is in the log
                 self.cut_power(left, state, entries)
+
+    def left_by(self, asked):
+        """Has the conversation in a process that is stopped: what it leaves."""
+        self.program.file_of(self.told.data)
+        with self.program.run(asked) as run:
+            replies = run.ask_all([line + b"\n" for line in self.talk.lines])
+            answered = sum(bool(FINISH.search(reply)) for reply in replies)
+            expect("the status of a process that is stopped", run.end().status, KILLED)
+            return Left(self.program.bytes_left(), self.progress.bounds(answered), run.entries())
+
+    def recovered(self, left):
+        """The state that a file stands for which was left, and the log of its opening."""
+        return self.judge.judge(left.data, left.bounds), expect_opened(self.program, left.data)
 
     def cut_power(self, left, state, entries):
         """Judges the images of a recovery, at whose start not all was synced. From its first sync on they stand for one state."""

@@ -15,6 +15,7 @@ The PARTS, each of which is judged by the slow reader of files, by the order of 
   the last sync kept, lost, torn or filled; each image stands for a state between what was kept last and what was accepted, and
   is opened by `run` and `dump`, and some recoveries are replayed in turn.
 - `stops`: the process is killed at each change of the file, and the recovery is stopped and fails at its changes, and power is cut in it.
+- `syncs`: each sync is left out of such a log, and that of a recovery out of its log, which then have to be found at fault.
 - `faults`: each change fails once, and the disk is full from each write on and has room again later.
 - `kills`: a writer is killed at random, 100 times by default.
 
@@ -42,6 +43,7 @@ from crash_programs import Opening, openers_of
 from crash_replay import GATE, LONG, expect_created, expect_dumped, follow_order, replay, told_of
 from crash_rows import select_after_crashes
 from crash_stops import stop_everywhere
+from crash_syncs import expect_syncs_needed
 from device_log import Program, build
 from file_writer import DAMAGED, OK
 from harness import Wrong, bytes_at, expect, parser_of, summary
@@ -64,6 +66,7 @@ MOST_PRINTED = 5  # faults of a task
 # those whose calls fail, every how many faults.
 STOPPED = {"rows": None, "definitions": None, "rows that go": None, "beside cursors": None, "questions": None, "many pages": 6}
 INTERRUPTED, INTERRUPTED_OTHERS = {"rows": None}, 2
+SYNCED = ["rows", "rows that go"]
 FAILED = {"rows": 1, "definitions": 5, "rows that go": 15, "beside cursors": 5}
 
 
@@ -189,12 +192,16 @@ def faults(built, talk, words):
     return Counter({"conversations with faults": count, "images after faults": images, "refused by 91": refused})
 
 
+def syncs(built, talk, words):
+    return Counter({"syncs left out and found": expect_syncs_needed(built.program, talk, words.seed)})
+
+
 def kills(built, part, words):
     count = min(KILLS_AT_ONCE, words.kills - part * KILLS_AT_ONCE)
     return kill_at_random(built.program, count, words.seed + part)
 
 
-PARTS = {part.__name__: part for part in (planted, created, migrations, journals, rows, replays, stops, faults, kills)}
+PARTS = {part.__name__: part for part in (planted, created, migrations, journals, rows, replays, stops, syncs, faults, kills)}
 
 
 # Tasks.
@@ -210,6 +217,7 @@ def tasks_of(words):
         "rows": [None],
         "replays": [talks.pop("many pages"), *talks.values()],
         "stops": [talk for talk in short_talks() if talk.name in STOPPED],
+        "syncs": [talks[name] for name in SYNCED],
         "faults": [talk for talk in short_talks() if talk.name in FAILED],
         "kills": range(-(-words.kills // KILLS_AT_ONCE)),
     }
