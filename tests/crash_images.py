@@ -118,7 +118,7 @@ ANY = (kept, kept, kept, lost, lost, lost, FILLED, ONES, half, last_half, torn, 
 
 
 class Amount(NamedTuple):
-    """How many calls are few, so that each way of each is taken; and how many pseudo-random images there are of a moment."""
+    """How many calls are few, so that each way of each is taken; and half of how many pseudo-random images there are of a moment."""
 
     few: int
     chosen: int
@@ -140,7 +140,6 @@ def ways_at(moment, by, amount):
     yield from ((way,) * count for way in ALIKE)
     if count <= amount.few:
         yield from product(EACH, repeat=count)
-        return
     for _ in range(amount.chosen):
         yield tuple(by.choices(ANY, k=count))
         yield (*by.choices((kept, lost), k=count - 1), by.choice(ANY))

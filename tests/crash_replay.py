@@ -157,12 +157,16 @@ EACH_WAY = Amount(6, 40)
 
 
 class Depth(NamedTuple):
-    """How many images there are of a moment; how many moments are looked at beside those around a sync, all where that is None; and
-    how many images are opened by the program."""
+    """How many images there are of a moment; how many moments are looked at beside those around a sync, all where that is None; how
+    many images are opened by the program; and how many images there are of a moment of a recovery."""
 
     amount: Amount
     moments: int | None
     sample: int
+    again: Amount = Amount(1, 2)
+
+    def of_recovery(self):
+        return self._replace(amount=self.again)
 
     def chosen(self, found, by):
         """The moments of a log that are looked at."""
@@ -174,8 +178,8 @@ class Depth(NamedTuple):
 
 
 # Of the gate and of the long run, each for short conversations and for large ones. Of short ones each image of the gate is opened.
-GATE = Depth(Amount(3, 6), None, sys.maxsize), Depth(Amount(1, 2), 20, 8)
-LONG = Depth(Amount(5, 120), None, 2_000), Depth(Amount(3, 20), 400, 20)
+GATE = Depth(Amount(3, 6), None, sys.maxsize, Amount(3, 6)), Depth(Amount(1, 2), 20, 8)
+LONG = Depth(Amount(5, 600), None, 2_000, Amount(5, 40)), Depth(Amount(3, 5), 60, 20, Amount(3, 5))
 
 
 def replay(talk, told, seed, depth, since=0, forgets=False):

@@ -19,9 +19,9 @@ The PARTS, each of which is judged by the slow reader of files, by the order of 
 - `faults`: each change fails once, and the disk is full from each write on and has room again later.
 - `kills`: a writer is killed at random, 100 times by default.
 
-Six short conversations are had (crash_lines.py). With --long it is done once: whole conversations, and long ones with more than
-1,024 changed pages, until there were 1,000,000 images (--images), all stops and faults of the six, each byte of a journal, and
-5,000 kills. It prints what is not as wanted, what was done in each part, and at last `N passed, M failed`, counted in tasks.
+Six short conversations are had (crash_lines.py). With --long it is done once: twenty whole conversations, four long ones with more
+than 1,024 changed pages, and further whole ones until there were 1,000,000 images (--images), all stops and faults of the short
+ones, each byte of a journal, and 5,000 kills. It prints what is not as wanted, what was done in each part, and at last `N passed, M failed`, counted in tasks.
 """
 
 import os
@@ -57,7 +57,8 @@ KEPT = os.path.join(ROOT, "tests", "kept")  # files that an earlier build closed
 KILLS, ALL_KILLS, KILLS_AT_ONCE = 100, 5_000, 25
 IMAGES = 1_000_000
 BYTES, ALL_BYTES = 10, 1  # every so many changed bytes
-WHOLE, LONG_ROWS = 20, 6_000
+WHOLE = 20  # conversations of the repository
+LONG_TALKS, LONG_ROWS = 4, 6_000  # conversations with more than 1,024 changed pages, and their rows
 RECOVERIES, ALL_RECOVERIES = 6, 60  # of a conversation that are replayed
 BATCH = 500  # files that are kept at once
 MOST_PRINTED = 5  # faults of a task
@@ -122,7 +123,7 @@ def migrations(built, name, words):
     """The first opening of a file that an earlier build has closed."""
     data = bytes_at(os.path.join(KEPT, name))
     state, by, judge = read(data).state, random.Random("migrations %s %d" % (name, words.seed)), Judge()
-    count = replay_opening(built.program, data, state, by, (LONG if words.is_long else GATE)[False])
+    count = replay_opening(built.program, data, state, by, (LONG if words.is_long else GATE)[False].of_recovery())
     return Counter({"images of migrations": count, "migrations stopped": interrupt_opening(built.program, judge, data, state, by)})
 
 
@@ -175,7 +176,7 @@ def replays(built, talk, words):
     with_gate = [one for one in chosen if has_open_gate(one.data)]
     most = 1 if talk.is_large else ALL_RECOVERIES if words.is_long else RECOVERIES
     for one in with_gate[:most]:
-        counts["images of recoveries"] += replay_opening(program, one.data, one.state, by, depth)
+        counts["images of recoveries"] += replay_opening(program, one.data, one.state, by, depth.of_recovery())
     return counts
 
 
@@ -263,16 +264,22 @@ def arguments():
     return words
 
 
+def replay_more(work, words):
+    """Long conversations, and then further whole ones until there were as many images as are asked for."""
+    talks, seed = [long_talk(LONG_ROWS, words.seed + number) for number in range(LONG_TALKS)], words.seed
+    while talks and not work.failed:
+        work.do([Task("replays", talk, words) for talk in talks])
+        seed += 1
+        talks = whole_talks(words.jobs, seed) if work.counts["images"] < words.images else []
+
+
 def main():
     words = arguments()
     with scratch_folder() as folder, Pool(words.jobs) as pool:
         work = Work(pool, Built(Program(words.program, build(folder), folder), library_of("forked", folder)))
         work.do(tasks_of(words))
-        seed = words.seed
-        while words.is_long and 0 < work.counts["images"] < words.images and not work.failed:
-            talks = [long_talk(LONG_ROWS, seed + place) for place in range(words.jobs)]
-            work.do([Task("replays", talk, words) for talk in talks])
-            seed += words.jobs
+        if words.is_long and work.counts["images"]:
+            replay_more(work, words)
         print(", ".join("%d %s" % (count, what) for what, count in work.counts.items()))
     return summary(work.passed, work.failed)
 
