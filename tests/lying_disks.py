@@ -131,6 +131,7 @@ class Trial:
 
     def judge(self, count):
         """Sends so many lines, and then closes the file."""
+        self.ask_honest(b"0 SAVE")  # the file has been opened then
         while self.told["lines"] < count:
             for _ in range(self.by.randrange(HONEST_LINES)):
                 self.ask_honest(self.lines.next())
