@@ -73,7 +73,6 @@ pub fn total_of<E: InMemory>(
 ) -> Result<Vec<String>, Refusal>
     requires formed { is_well_formed asked.now.plan.now ≡ true }
     requires kind { asked.now.kind ≡ kind_in asked.now.plan.now }
-    requires few { length columns.group.items ≤ COLUMNS }
     ensures done { IfOk result (λ rows. (query : Query) → IsPlanFor (E.definitions e.old) query asked.now.plan.now
         → (state : State) → StandsAt E.is E.definitions E.held_referents asked.now.version e.old state
         → (seen : List Column) (by : List Name) (summed : Option Name) → AreTotalColumns seen by summed columns → seen ≡ columns_in state query
@@ -98,7 +97,6 @@ fn totals_of_routes<E: InMemory>(
     column: Option<u8>,
 ) -> Result<Totals, Refusal>
     requires formed { is_well_formed asked.now.plan.now ≡ true }
-    requires few { length group.items ≤ COLUMNS }
     ensures totals { IfOk result (λ totals. (query : Query) → IsPlanFor (E.definitions e.old) query asked.now.plan.now
         → (state : State) → StandsAt E.is E.definitions E.held_referents asked.now.version e.old state → AreTotalsOf group.items column (rows_along state query) totals) }
     ensures ends { EndsWith E.Source e.old e.new result }

@@ -9,7 +9,6 @@ ghost use Rattle.rs_attr.specs.Calls.{Adds, Clears, IsEmpty, KeepsTable, Kills, 
 ghost use Rattle.rs_attr.specs.Inner.{ChangesEach, LeavesEach, changed};
 ghost use Rattle.rs_attr.specs.Tables.{AreOn, kept_parts};
 ghost use Rattle.rs_value.specs.Values.{IsRowOf};
-ghost use Rattle.rs_value.specs.View.{row_of};
 ghost use Rattle.rs_versioned.specs.Calls.{TakesFirst};
 ghost use Rattle.rs_versioned.specs.Events.{event_of, event_width};
 ghost use Rattle.rs_cell_versions.specs.Version.{HaveDiedBy, born_of, ended, is_living};
@@ -39,7 +38,7 @@ pub fn add<P: Pages>(
     span: &Span,
 ) -> Result<bool, Refusal>
     requires begun { (P.store pages.old).is_begun ≡ true }
-    requires row { IsRowOf table.old.types (row_of span.now.tuple.items) }
+    requires row { IsRowOf table.old.types span.now.tuple }
     requires indexes { AreOn table.old.types indexes.old }
     ensures leaves { Leaves P.Pages table.old indexes.old result pages.old pages.new }
     ensures adds { Adds P.Pages table.old indexes.old table.new indexes.new (event_of route span.now version) result pages.old pages.new }

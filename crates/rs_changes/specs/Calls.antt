@@ -17,7 +17,6 @@ use Rattle.rs_machine.specs.declared.limits.TheConstants.{CHANGES}
 use Rattle.rs_pages.specs.declared.pages.Pages.{Ghosts}
 use Rattle.rs_refusal.specs.declared.refusal.Refusal.{Refusal}
 use Rattle.rs_value.specs.Values.{IsRowOf}
-use Rattle.rs_value.specs.View.{row_of}
 use Rattle.rs_value.specs.declared.column.Kind.{Kind}
 
 -- what a change leaves on any disk: 94 comes only where the file holds no contents with what is open
@@ -61,7 +60,7 @@ pub record HasTablesOf (was items : CatalogueItems) : Type 0 where
 -- a table is open at the place, and the row along the span is one of its columns, of this kind
 pub record IsRowAt (file : OpenedFile) (place : ℕ) (kind : Kind) (span : Span) : Type 0 where
   pub there : place < length file.tables.items
-  pub row : (table : OpenedTable) → slice_get file.tables.items place ≡ Some table → IsRowOf table.records.types (row_of span.tuple.items)
+  pub row : (table : OpenedTable) → slice_get file.tables.items place ≡ Some table → IsRowOf table.records.types span.tuple
   pub placed : IsPlaced kind (seen span)
 
 -- ---- what it makes of a file, and what it leaves of what is open

@@ -3,7 +3,6 @@ use Rattle.std.proofs.Common.{◌≡◌, ℕ, ◌+◌, ◌<◌, ◌≤◌, max, 
 use Rattle.std.proofs.lemmas.Bool.{cond-true, cond-false}
 use Rattle.std.proofs.lemmas.List.{take-set, take-set-le, drop_more, take_more, map-append, map_more, drop_all, get_or_default}
 use Rattle.rs_value.specs.declared.column.Kind.{Kind}
-use Rattle.rs_value.specs.View.{row_of}
 use Rattle.rs_facts.specs.declared.fact.Span.{Span}
 use Rattle.rs_facts.specs.Runs.{Stretch, stretch}
 use Rattle.rs_facts.specs.Spans.{seen}
@@ -74,12 +73,12 @@ so_far-apart kind xs ys last next all below within moved is far so_far d =
     ∙ so_far d
 
 -- the last one with the end of the two
-pub grown-is : (xs : List Span) (last next : ℕ) (a b e : Span) (hi : ℕ) → last < length xs → next < length xs → hi ≡ max (get_or xs last a).hi (get_or xs next b).hi → (d : Span) → stretch (get_or xs last e).lo hi (row_of (get_or xs last e).tuple.items) ≡ join (seen (get_or xs last d)) (seen (get_or xs next d))
+pub grown-is : (xs : List Span) (last next : ℕ) (a b e : Span) (hi : ℕ) → last < length xs → next < length xs → hi ≡ max (get_or xs last a).hi (get_or xs next b).hi → (d : Span) → stretch (get_or xs last e).lo hi (get_or xs last e).tuple ≡ join (seen (get_or xs last d)) (seen (get_or xs next d))
 grown-is xs last next a b e hi in_last in_next is d =
     let one = get_or_default xs last e d in_last in
     let high : hi ≡ max (get_or xs last d).hi (get_or xs next d).hi =
     is ∙ ap (λ (z : Span). max z.hi (get_or xs next b).hi) (get_or_default xs last a d in_last) ∙ ap (λ (z : Span). max (get_or xs last d).hi z.hi) (get_or_default xs next b d in_next) in
-    λ i. stretch (one i).lo (high i) (row_of (one i).tuple.items)
+    λ i. stretch (one i).lo (high i) (one i).tuple
 
 -- what two read elements say of the elements at any default
 pub joins-at : (kind : Kind) (xs : List Span) (last next : ℕ) (a b : Span) (t u : Bool) → last < length xs → next < length xs → a ≡ get_or xs last a → b ≡ get_or xs next b → t ≡ joins kind (seen a) (seen b) → t ≡ u → (d : Span) → joins kind (seen (get_or xs last d)) (seen (get_or xs next d)) ≡ u

@@ -25,11 +25,11 @@ ghost use Rattle.rs_command_checks.specs.States.{Unseen, state_by};
 use crate::checks::Checks;
 use rs_catalog::RouteEntry;
 use rs_checker::check_condition;
-use rs_facts::{Condition, Span, kept_row};
+use rs_facts::{Condition, Span};
 use rs_methods::{Name, Position};
 use rs_refusal::Refusal;
 use rs_syntax::{Atom, ColumnDefinition, EventLocation, Window};
-use rs_value::{COLUMNS, Kind, Literal, Schema, Tuple, fits};
+use rs_value::{COLUMNS, KeptRow, Kind, Literal, Schema, Tuple, fits};
 use std::alloc::Global;
 
 /// Rows that a removal takes away of its table.
@@ -54,11 +54,12 @@ impl Checks<'_> {
         place: &EventLocation,
         values: &[Literal],
     ) -> Result<Span, Refusal>
+        requires values { AreValues (literal_row values.now) }
         ensures accepted { (unseen : Unseen) (there : Table) → names.get (state_by self.now unseen).tables name.now.bytes ≡ Some there
             → IfOk result (λ span. row_inserted (state_by self.now unseen) name.now.bytes route.now.bytes (location_tree place.now) (literal_row values.now)
             ≡ Ok (counted (new_facts there.facts route.now.bytes span.lo span.hi (seen span).row) (with_table (state_by self.now unseen) name.now.bytes (with_facts_along there route.now.bytes span.lo span.hi (seen span).row)))) }
         ensures refused { (unseen : Unseen) → IfErr result (λ refusal. (refusal ≡ Refusal.OutOfMemory) ⊎ (row_inserted (state_by self.now unseen) name.now.bytes route.now.bytes (location_tree place.now) (literal_row values.now) ≡ Err refusal)) }
-        ensures event { AreValues (literal_row values.now) → IfOk result (λ span. IsEventOn self.now.catalog.now name.now.bytes route.now.bytes (seen span)) }
+        ensures event { IfOk result (λ span. IsEventOn self.now.catalog.now name.now.bytes route.now.bytes (seen span)) }
         ensures may_change { OnOk result (self.now.changes < CHANGES) }
     {
         let span = self.fitted_span(name, route, place, values)?;
@@ -74,6 +75,7 @@ impl Checks<'_> {
         place: &EventLocation,
         values: &[Literal],
     ) -> Result<Span, Refusal>
+        requires values { AreValues (literal_row values.now) }
         ensures done { IfOk result (λ span. MayBePut self.now name.now.bytes route.now.bytes (location_tree place.now) (literal_row values.now) (seen span)) }
         ensures refused { (unseen : Unseen) → IfErr result (λ refusal. (refusal ≡ Refusal.OutOfMemory) ⊎ (row_inserted (state_by self.now unseen) name.now.bytes route.now.bytes (location_tree place.now) (literal_row values.now) ≡ Err refusal)) }
     {
@@ -85,7 +87,7 @@ impl Checks<'_> {
         }
         self.catalog.stand();
         let row = fitted(table.columns(), values)?;
-        let tuple = kept_row(self.alloc, row.as_slice())?;
+        let tuple = KeptRow::of_values(self.alloc, row.as_slice())?;
         Ok(Span { lo, hi, tuple })
     }
 

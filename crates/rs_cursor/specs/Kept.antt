@@ -1,5 +1,5 @@
--- Lines of a cursor's route that are kept, and lines that are given from one place to another.
-use Rattle.std.specs.Prelude.{◌≡◌, ◌+◌, ◌++◌, ◌<◌, ◌≤◌, ℕ, List, Some, drop, length, take}
+-- What is kept of a cursor, and lines that are given from one place to another.
+use Rattle.std.specs.Prelude.{◌≡◌, ◌+◌, ◌++◌, ◌<◌, ◌≤◌, ℕ, IfSome, List, Option, Some, drop, length, map, take}
 use Rattle.std.specs.FinMap as maps
 use Rattle.std.specs.List.{slice_get}
 use Rattle.rs_answers.specs.Portions.{IsStart}
@@ -9,6 +9,7 @@ use Rattle.rs_answers.specs.declared.routes.NamedRoute.{NamedRoute}
 use Rattle.rs_catalog.specs.Definitions.{RouteItem}
 use Rattle.rs_cursor.specs.Held.{lines_left}
 use Rattle.rs_cursor.specs.declared.cursor.Cursor.{Cursor}
+use Rattle.rs_cursor.specs.declared.kept.KeptAhead.{KeptAhead}
 use Rattle.rs_cursor.specs.declared.kept.KeptLines.{KeptLines}
 use Rattle.rs_cursor.specs.declared.place.Place.{Place}
 use Rattle.rs_facts.specs.Fact.{Name}
@@ -24,9 +25,18 @@ pub record AreLinesAt (seen : SeenVersion) (plan : Plan) (method : Method) (plac
   pub counts : all ≡ length (lines_seen_on seen plan method route)
   pub starts : IsStart lines (drop place.given (lines_seen_on seen plan method route))
 
--- what is kept is so: of a cursor it depends on the plan, the method and the version, and not on the place
-abbrev pub AreKept : SeenVersion → Plan → Method → KeptLines → Type 0
-AreKept seen plan method kept = AreLinesAt seen plan method (record { route = kept.route; given = kept.first }) kept.all (rows_of kept.lines.items)
+-- lines that are kept are so: of a cursor they depend on the plan, the method and the version, and not on the place
+abbrev pub AreFormed : SeenVersion → Plan → Method → KeptLines → Type 0
+AreFormed seen plan method kept = AreLinesAt seen plan method (record { route = kept.route; given = kept.first }) kept.all (rows_of kept.lines.items)
+
+-- these are the routes of the version, and the lines are lines of one of them
+pub record AreListed (seen : SeenVersion) (plan : Plan) (method : Method) (routes : List NamedRoute) (lines : Option KeptLines) : Type 0 where
+  pub listed : map entry_of routes ≡ maps.entries seen.routes
+  pub formed : IfSome lines (AreFormed seen plan method)
+
+-- what is kept is so, wherever the cursor is
+abbrev pub AreKept : SeenVersion → Plan → Method → KeptAhead → Type 0
+AreKept seen plan method kept = AreListed seen plan method kept.routes.items kept.lines
 
 -- the version shows this route, and in the order of names it is the one of this number
 pub record IsRouteAt (seen : SeenVersion) (number : ℕ) (named : NamedRoute) : Type 0 where

@@ -1,10 +1,13 @@
-//! Lines of a cursor's route that were formed ahead.
+//! What is kept of a cursor between one FETCH and the next: the routes that its version sees, and lines of one of them.
 //!
-//! Nothing rests on them: without them they are formed again.
+//! Nothing rests on it: without it the routes are listed and the lines formed again.
 
-ghost use Rattle.std.specs.Prelude.{◌≤◌, ◌+◌, ◌^◌, string_capacity, sum_by};
+ghost use Rattle.std.specs.Prelude.{◌≤◌, ◌+◌, ◌^◌, string_capacity, sum_by, vec_len};
 ghost use Rattle.rs_answers.specs.Portions.{room_of};
 ghost use Rattle.rs_cursor.specs.declared.kept.TheConstants.{KEPT_BYTES};
+ghost use Rattle.rs_machine.specs.declared.limits.TheConstants.{ROUTES};
+
+use rs_answers::NamedRoute;
 
 /// How many bytes the lines that are formed ahead of one cursor may take. An engine keeps those of four cursors.
 pub const KEPT_BYTES: usize = 4_194_304;
@@ -21,6 +24,16 @@ pub struct KeptLines {
     /// The lines.
     pub lines: Vec<String>,
     ghost fits: { room_of lines.items ≤ KEPT_BYTES },
+}
+
+/// What is kept of a cursor: the routes of its version, which stay as long as it is open, and lines of one of them.
+#[derive(Drop)]
+pub struct KeptAhead {
+    /// The routes that the cursor's version sees, in the order of their names.
+    pub routes: Vec<NamedRoute>,
+    /// Lines of one of them that are given next, where some were formed.
+    pub lines: Option<KeptLines>,
+    ghost few: { vec_len routes ≤ ROUTES },
 }
 
 /// Lines that are kept take no more than 4 megabytes: the room of each text, and 48 bytes beside it.

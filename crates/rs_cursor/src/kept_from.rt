@@ -4,7 +4,7 @@
 
 ghost use Rattle.std.specs.Prelude.{◌≡◌, ◌<◌, ◌≤◌, ◌+◌, ◌-◌, ◌++◌, drop, length, IfSome, OnOk, vec_len};
 ghost use Rattle.rs_answers.specs.Versions.{SeenVersion};
-ghost use Rattle.rs_cursor.specs.Kept.{AreKept, AreLinesAt};
+ghost use Rattle.rs_cursor.specs.Kept.{AreFormed, AreLinesAt};
 ghost use Rattle.rs_methods.specs.declared.position.Method.{Method};
 ghost use Rattle.rs_plan.specs.declared.plan.Plan.{Plan};
 ghost use Rattle.rs_serve.specs.ReplyView.{rows_of};
@@ -24,7 +24,7 @@ pub(crate) struct KeptFrom<'a> {
 
 /// The lines that are kept from this place on. There are none where the route has lines after the place and the first of them isn't kept.
 pub(crate) fn kept_at(kept: &Option<KeptLines>, place: Place) -> Option<KeptFrom<'_>>
-    ensures lines { IfSome result (λ from. (shown : SeenVersion) (plan : Plan) (method : Method) → IfSome kept.now (AreKept shown plan method)
+    ensures lines { IfSome result (λ from. (shown : SeenVersion) (plan : Plan) (method : Method) → IfSome kept.now (AreFormed shown plan method)
         → AreLinesAt shown plan method place from.all (rows_of from.lines.now)) }
     ensures some { IfSome result (λ from. place.given < from.all → 0 < length from.lines.now) }
 {

@@ -12,5 +12,5 @@ pub mod place;
 
 pub use cursor::Cursor;
 pub use cursors::Cursors;
-pub use kept::KeptLines;
+pub use kept::{KeptAhead, KeptLines};
 pub use place::Place;

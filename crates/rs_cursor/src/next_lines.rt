@@ -1,21 +1,24 @@
 //! The next lines of a cursor, from a store and the cursor's place.
 //!
-//! The plan is evaluated on one route after another, from the place on, until there are as many lines as are asked for. Lines that
-//! are kept of a route spare its evaluation.
+//! The plan is evaluated on one route after another, from the place on, until there are as many lines as are asked for. Routes that are
+//! kept spare their listing, and lines that are kept of a route its evaluation.
 
 ghost use Rattle.std.specs.Prelude.{◌≡◌, ◌+◌, ◌-◌, ◌<◌, ◌≤◌, ◌^◌, ℕ, drop, length, min, take, IfOk, IfSome, vec_len};
 ghost use Rattle.rs_answers.specs.Versions.{LiesOnRoutes, SeenVersion};
 ghost use Rattle.rs_cursor.specs.Held.{lines_left};
-ghost use Rattle.rs_cursor.specs.Kept.{AreKept, AreLinesAt, GivesFrom, GivesLines, GivesWanted, GoesOn, IsStopOf};
+ghost use Rattle.rs_cursor.specs.Kept.{AreFormed, AreKept, AreLinesAt, AreListed, GivesFrom, GivesLines, GivesWanted, GoesOn, IsStopOf};
 ghost use Rattle.rs_cursor.specs.declared.cursor.Cursor.{Cursor};
 ghost use Rattle.rs_exec.specs.Leaving.{EndsWith};
+ghost use Rattle.rs_methods.specs.declared.position.Method.{Method};
+ghost use Rattle.rs_plan.specs.declared.plan.Plan.{Plan};
 ghost use Rattle.rs_serve.specs.ReplyView.{rows_of};
 
 use crate::cursor::Cursor;
-use crate::kept::{KEPT_BYTES, KeptLines};
+use crate::kept::{KEPT_BYTES, KeptAhead, KeptLines};
 use crate::kept_from::{KeptFrom, kept_at, push_copies};
 use crate::place::Place;
 use rs_answers::{NamedRoute, PlanAt, Portion, Versions, push_route_lines};
+use rs_machine::limits::ROUTES;
 use rs_refusal::Refusal;
 use std::alloc::{AllocError, Global};
 
@@ -29,14 +32,14 @@ pub struct NextLines {
 }
 
 /// The next lines of a cursor, so many or as many as are left, by what the store shows at the cursor's version. Lines that are kept
-/// are given as they are; else a route is evaluated, and lines after those that are given are kept. The store tells why they are
-/// refused.
+/// are given as they are; else a route is evaluated, and lines after those that are given are kept. The routes are kept too, and listed
+/// only where they aren't. The store tells why they are refused.
 pub fn next_lines<V: Versions>(
     alloc: Global,
     store: &mut V,
     cursor: &Cursor,
     rows: u32,
-    kept: &mut Option<KeptLines>,
+    kept: &mut Option<KeptAhead>,
 ) -> Result<NextLines, Refusal>
     ensures given { IfOk result (λ next. (versions : ℕ → SeenVersion) → V.shows store.old cursor.now.version (versions cursor.now.version)
         → LiesOnRoutes (versions cursor.now.version) cursor.now.plan → IfSome kept.old (AreKept (versions cursor.now.version) cursor.now.plan cursor.now.method)
@@ -48,12 +51,71 @@ pub fn next_lines<V: Versions>(
         → IfSome kept.old (AreKept shown cursor.now.plan cursor.now.method) → IfSome kept.new (AreKept shown cursor.now.plan cursor.now.method) }
     ensures ends { EndsWith V.Source store.old store.new result }
 {
-    let wanted = rows as usize;
+    let (routes, mut lines) = listed(alloc, store, cursor.version, kept.take())?;
+    let next = lines_of_routes(
+        alloc,
+        store,
+        cursor,
+        rows as usize,
+        routes.as_slice(),
+        &mut lines,
+    );
+    *kept = kept_ahead(routes, lines);
+    next
+}
+
+/// The routes and the lines that are kept, or the routes that the store lists at the version, of which no lines are kept. The store
+/// tells why they are refused.
+fn listed<V: Versions>(
+    alloc: Global,
+    store: &mut V,
+    version: u64,
+    kept: Option<KeptAhead>,
+) -> Result<(Vec<NamedRoute>, Option<KeptLines>), Refusal>
+    ensures listed { IfOk result (λ both. (shown : SeenVersion) (plan : Plan) (method : Method) → V.shows store.old version shown
+        → IfSome kept (AreKept shown plan method) → AreListed shown plan method both.0.items both.1) }
+    ensures ends { EndsWith V.Source store.old store.new result }
+{
+    match kept {
+        Some(KeptAhead { routes, lines }) => Ok((routes, lines)),
+        None => {
+            let routes = store.routes_at(alloc, version)?;
+            Ok((routes, None))
+        }
+    }
+}
+
+/// These routes and lines, to be kept; none where there are more routes than there may be.
+fn kept_ahead(routes: Vec<NamedRoute>, lines: Option<KeptLines>) -> Option<KeptAhead>
+    ensures routes { IfSome result (λ kept. kept.routes ≡ routes) }
+    ensures lines { IfSome result (λ kept. kept.lines ≡ lines) }
+{
+    if routes.len() > ROUTES {
+        return None;
+    }
+    Some(KeptAhead { routes, lines })
+}
+
+/// The next lines of a cursor, so many or as many as are left, on the routes of its version. The store tells why they are refused.
+fn lines_of_routes<V: Versions>(
+    alloc: Global,
+    store: &mut V,
+    cursor: &Cursor,
+    wanted: usize,
+    routes: &[NamedRoute],
+    kept: &mut Option<KeptLines>,
+) -> Result<NextLines, Refusal>
+    ensures given { IfOk result (λ next. (versions : ℕ → SeenVersion) → V.shows store.old cursor.now.version (versions cursor.now.version)
+        → LiesOnRoutes (versions cursor.now.version) cursor.now.plan → AreListed (versions cursor.now.version) cursor.now.plan cursor.now.method routes.now kept.old
+        → GivesWanted wanted (lines_left versions cursor.now) (rows_of next.lines.items) (lines_left versions (record cursor.now { place = next.place }))) }
+    ensures keeps { (shown : SeenVersion) → V.shows store.old cursor.now.version shown → LiesOnRoutes shown cursor.now.plan
+        → AreListed shown cursor.now.plan cursor.now.method routes.now kept.old → IfSome kept.new (AreFormed shown cursor.now.plan cursor.now.method) }
+    ensures ends { EndsWith V.Source store.old store.new result }
+{
     if let Some(next) = kept_lines(alloc, kept, cursor, wanted)? {
         return Ok(next);
     }
-    let routes = store.routes_at(alloc, cursor.version)?;
-    let count = count_of(&routes);
+    let count = count_of(routes);
     let mut lines = Vec::new(alloc);
     let mut place = cursor.place;
     while place.route < count && lines.len() < wanted {
@@ -74,7 +136,7 @@ fn kept_lines(
     cursor: &Cursor,
     wanted: usize,
 ) -> Result<Option<NextLines>, AllocError>
-    ensures { IfOk result (λ some. IfSome some (λ next. (versions : ℕ → SeenVersion) → IfSome kept.now (AreKept (versions cursor.now.version) cursor.now.plan cursor.now.method)
+    ensures { IfOk result (λ some. IfSome some (λ next. (versions : ℕ → SeenVersion) → IfSome kept.now (AreFormed (versions cursor.now.version) cursor.now.plan cursor.now.method)
         → GivesWanted wanted (lines_left versions cursor.now) (rows_of next.lines.items) (lines_left versions (record cursor.now { place = next.place })))) }
 {
     let place = cursor.place;
@@ -113,9 +175,9 @@ fn push_lines<V: Versions>(
     requires next { stop.now.place.route + 1 < 2 ^ 32 }
     requires some { 0 < stop.now.most }
     ensures gives { IfOk result (λ to. GivesLines (λ shown. IsStopOf (V.shows store.old) cursor.now stop.now.place stop.now.named.now shown
-        × IfSome kept.old (AreKept shown cursor.now.plan cursor.now.method)) cursor.now stop.now.place to (rows_of lines.old.items) (rows_of lines.new.items)) }
+        × IfSome kept.old (AreFormed shown cursor.now.plan cursor.now.method)) cursor.now stop.now.place to (rows_of lines.old.items) (rows_of lines.new.items)) }
     ensures keeps { (shown : SeenVersion) → IsStopOf (V.shows store.old) cursor.now stop.now.place stop.now.named.now shown
-        → IfSome kept.old (AreKept shown cursor.now.plan cursor.now.method) → IfSome kept.new (AreKept shown cursor.now.plan cursor.now.method) }
+        → IfSome kept.old (AreFormed shown cursor.now.plan cursor.now.method) → IfSome kept.new (AreFormed shown cursor.now.plan cursor.now.method) }
     ensures goes_on { IfOk result (λ to. GoesOn stop.now.place to stop.now.most (vec_len lines.old) (vec_len lines.new)) }
     ensures ends { EndsWith V.Source store.old store.new result }
 {
@@ -159,7 +221,7 @@ fn push_formed<V: Versions>(
     ensures gives { IfOk result (λ to. GivesLines (IsStopOf (V.shows store.old) cursor.now stop.now.place stop.now.named.now)
         cursor.now stop.now.place to (rows_of lines.old.items) (rows_of lines.new.items)) }
     ensures keeps { (shown : SeenVersion) → IsStopOf (V.shows store.old) cursor.now stop.now.place stop.now.named.now shown
-        → IfSome kept.new (AreKept shown cursor.now.plan cursor.now.method) }
+        → IfSome kept.new (AreFormed shown cursor.now.plan cursor.now.method) }
     ensures goes_on { IfOk result (λ to. GoesOn stop.now.place to stop.now.most (vec_len lines.old) (vec_len lines.new)) }
     ensures ends { EndsWith V.Source store.old store.new result }
 {

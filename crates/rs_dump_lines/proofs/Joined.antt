@@ -1,5 +1,5 @@
 -- Texts that are appended one after another, and texts with a comma between them.
-use Rattle.std.proofs.Common.{◌≡◌, ◌∙◌, ℕ, List, [], ◌∷◌, ◌++◌, ap, append-nil, append_assoc, cond, is_ok, map, refl, sym, Result, Ok, Err}
+use Rattle.std.proofs.Common.{◌≡◌, ◌≤◌, ◌∙◌, ℕ, List, [], ◌∷◌, ◌++◌, ap, append-nil, append_assoc, arith, cond, drop, get_or, is_ok, length, map, refl, sym, Result, Ok, Err}
 use Rattle.std.specs.Prelude.{OnOk}
 use Rattle.std.specs.List.{join_with_byte}
 use Rattle.rs_dump_laws.specs.Lines.{COMMA, insert_text, dump_line}
@@ -7,7 +7,8 @@ use Rattle.rs_dump_laws.specs.Dump.{location_of}
 use Rattle.rs_dump_lines.specs.Texts.{more_texts, place_text}
 use Rattle.rs_facts.specs.Runs.{Stretch}
 use Rattle.rs_syntax.specs.Tree.{insert}
-use Rattle.rs_value.specs.Row.{Row}
+use Rattle.rs_value.specs.Row.{null, Row}
+use Rattle.rs_value.specs.Text.{datum_text}
 use Rattle.rs_value.specs.declared.column.Kind.{Kind}
 use Rattle.rs_value.specs.declared.column.Kind.TheVariants.{Point, Line}
 
@@ -28,6 +29,14 @@ on_ok_bytes (Err why) new one other same = tt
 pub joined_more : (text : List ℕ) (texts : List (List ℕ)) → join_with_byte COMMA (text ∷ texts) ≡ text ++ more_texts texts
 joined_more text [] = sym (append-nil text)
 joined_more text (other ∷ texts) = ap (λ more. text ++ (COMMA ∷ more)) (joined_more other texts)
+
+-- the first value of a row, and the others with a comma before each
+pub first_joined : (row : Row) (old new : List ℕ) → 1 ≤ length row → new ≡ old ++ datum_text (get_or row 0 null)
+    → new ++ more_texts (map datum_text (drop 1 row)) ≡ old ++ join_with_byte COMMA (map datum_text row)
+first_joined [] old new some put = absurd (omega (arith, some))
+first_joined (datum ∷ row) old new some put =
+    ap (λ t. t ++ more_texts (map datum_text row)) put ∙ append_assoc old (datum_text datum) (more_texts (map datum_text row))
+    ∙ ap (λ t. old ++ t) (sym (joined_more (datum_text datum) (map datum_text row)))
 
 -- texts of what things are seen as
 pub texts_of : {X Y : Type 0} (text : Y → List ℕ) (seen : X → Y) (xs : List X) → map (λ x. text (seen x)) xs ≡ map text (map seen xs)

@@ -5,14 +5,14 @@ ghost use Rattle.std.specs.List.{join_with_byte};
 ghost use Rattle.rs_dump_laws.specs.Lines.{COMMA, bracketed_texts, column_text, piece_text, type_text};
 ghost use Rattle.rs_dump_lines.specs.Texts.{more_texts};
 ghost use Rattle.rs_syntax.specs.View.{column_tree, piece_tree};
+ghost use Rattle.rs_value.specs.Row.{Row};
 ghost use Rattle.rs_value.specs.Text.{datum_text};
-ghost use Rattle.rs_value.specs.View.{datum_of};
 
 use crate::measures::push_measure;
 use crate::writing::push_span;
 use itoa::Buffer;
 use rs_syntax::{ColumnDefinition, Piece};
-use rs_value::{ColumnType, Value, push_value};
+use rs_value::{ColumnType, KeptRow, push_lent};
 use std::alloc::AllocError;
 
 /// What has a text in a line.
@@ -32,14 +32,6 @@ impl Written for ColumnDefinition {
         text.push_str(self.name.as_str())?;
         text.push_str(" ")?;
         push_type(text, self.column_type)
-    }
-}
-
-impl Written for Value {
-    ghost text_of = { λ value. datum_text (datum_of value) };
-
-    fn push(&self, text: &mut String) -> Result<(), AllocError> {
-        push_value(text, self)
     }
 }
 
@@ -63,6 +55,31 @@ pub(crate) fn push_bracketed<T: Written>(text: &mut String, items: &[T]) -> Resu
     text.push_str("(")?;
     push_joined(text, items)?;
     text.push_str(")")
+}
+
+/// Appends the values of a row in brackets, with a comma between them.
+pub(crate) fn push_row(text: &mut String, row: &KeptRow) -> Result<(), AllocError>
+    ensures { OnOk result (string_bytes text.new ≡ string_bytes text.old ++ bracketed_texts (map datum_text row.now)) }
+{
+    text.push_str("(")?;
+    push_values(text, row)?;
+    text.push_str(")")
+}
+
+/// Appends the values of a row with a comma between them.
+fn push_values(text: &mut String, row: &KeptRow) -> Result<(), AllocError>
+    ensures { OnOk result (string_bytes text.new ≡ string_bytes text.old ++ join_with_byte COMMA (map datum_text row.now)) }
+{
+    let width = row.width();
+    if width == 0 {
+        return Ok(());
+    }
+    push_lent(text, row.value_at(0))?;
+    for column in 1..width {
+        text.push_str(",")?;
+        push_lent(text, row.value_at(column))?;
+    }
+    Ok(())
 }
 
 /// Appends the texts with a comma between them.

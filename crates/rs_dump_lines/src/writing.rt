@@ -11,7 +11,7 @@ ghost use Rattle.rs_methods.specs.Position.{absolute};
 ghost use Rattle.rs_syntax.specs.Tree.{QueryTree, define_alignment, define_index, define_referent, define_route, define_table, define_view, insert};
 ghost use Rattle.rs_syntax.specs.View.{column_tree, piece_tree};
 
-use crate::lists::push_bracketed;
+use crate::lists::{push_bracketed, push_row};
 use crate::measures::push_measure;
 use rs_facts::Span;
 use rs_measure::Measure;
@@ -85,7 +85,7 @@ pub fn push_row_line(
     text.push_str(route.as_str())?;
     push_place(text, kind, span)?;
     text.push_str(" VALUES")?;
-    push_bracketed(text, &span.tuple)
+    push_row(text, &span.tuple)
 }
 
 /// Appends the line that defines an alignment of these pieces. Where memory runs out, a part may have been appended.

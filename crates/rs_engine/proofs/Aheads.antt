@@ -1,4 +1,4 @@
--- Lines that were formed ahead of cursors: those that a FETCH takes, and those that it leaves.
+-- What is kept of cursors: what a FETCH takes, and what it leaves.
 use Rattle.std.proofs.Common.{◌≡◌, ◌∙◌, ◌⊎◌, ℕ, List, [], Option, None, Some, ap, arith, inl, inr, length, subst, sym}
 use Rattle.std.proofs.lemmas.Option.{same_Some}
 use Rattle.std.specs.FinMap as names
@@ -7,7 +7,7 @@ use Rattle.rs_answers.specs.Versions.{SeenVersion}
 use Rattle.rs_cursor.specs.Held.{held_of}
 use Rattle.rs_cursor.specs.Kept.{AreKept}
 use Rattle.rs_cursor.specs.declared.cursor.Cursor.{Cursor}
-use Rattle.rs_cursor.specs.declared.kept.KeptLines.{KeptLines}
+use Rattle.rs_cursor.specs.declared.kept.KeptAhead.{KeptAhead}
 use Rattle.rs_engine.specs.Ahead.{AreAhead, IsAheadOf, IsNewest}
 use Rattle.rs_engine.specs.declared.engine.ahead.Ahead.{Ahead}
 use Rattle.rs_engine.specs.declared.engine.ahead.LinesAhead.{LinesAhead}
@@ -20,7 +20,7 @@ none_kept slots empty one there =
     let none : length slots ≡ 0 = ap length empty in
     omega (arith, none, there.1)
 
--- some lines of those that are kept are kept
+-- some of what is kept is kept
 pub some_ahead : (versions : ℕ → SeenVersion) (old new : OpenCursors) → AreAhead versions old → ((one : Ahead) → Contains new.ahead.slots.items one → Contains old.ahead.slots.items one)
     → ((one : Ahead) → Contains new.ahead.slots.items one → (cursor : Cursor) → names.get (held_of new.held one.session) one.name.bytes ≡ Some cursor
     → names.get (held_of old.held one.session) one.name.bytes ≡ Some cursor)
@@ -29,29 +29,29 @@ some_ahead versions old new are others were = record { each = λ ahead there cur
 
 module _ (versions : ℕ → SeenVersion) (session : ℕ) (name : Name) (cursor : Cursor) (cursors : OpenCursors) (there : names.get (held_of cursors.held session) name ≡ Some cursor)
     (are : AreAhead versions cursors) where
-  abbrev AreOfCursor : KeptLines → Type 0
+  abbrev AreOfCursor : KeptAhead → Type 0
   AreOfCursor = AreKept (versions cursor.version) cursor.plan cursor.method
 
-  -- those that are taken are the cursor's
-  pub taken_kept : (taken : Option KeptLines) → IfSome taken (IsAheadOf session name cursors.ahead.slots.items) → IfSome taken AreOfCursor
+  -- what is taken is the cursor's
+  pub taken_kept : (taken : Option KeptAhead) → IfSome taken (IsAheadOf session name cursors.ahead.slots.items) → IfSome taken AreOfCursor
   taken_kept None from = tt
-  taken_kept (Some lines) from =
-      subst AreOfCursor (sym from.lines_are) (are.each from.ahead from.is cursor ((λ i. names.get (held_of cursors.held (from.of.0 i)) (from.of.1 i)) ∙ there))
+  taken_kept (Some kept) from =
+      subst AreOfCursor (sym from.is_kept) (are.each from.ahead from.is cursor ((λ i. names.get (held_of cursors.held (from.of.0 i)) (from.of.1 i)) ∙ there))
 
-  -- and so are those that are put
-  newest_kept : (lines : Option KeptLines) → IfSome lines AreOfCursor → (one : Ahead) → IsNewest session name lines one → (found : Cursor)
-      → names.get (held_of cursors.held one.session) one.name.bytes ≡ Some found → AreKept (versions found.version) found.plan found.method one.lines
-  newest_kept lines kept one is found at =
+  -- and so is what is put
+  newest_kept : (put : Option KeptAhead) → IfSome put AreOfCursor → (one : Ahead) → IsNewest session name put one → (found : Cursor)
+      → names.get (held_of cursors.held one.session) one.name.bytes ≡ Some found → AreKept (versions found.version) found.plan found.method one.kept
+  newest_kept put kept one is found at =
       let here : cursor ≡ found = same_Some cursor found (sym there ∙ sym (λ i. names.get (held_of cursors.held (is.of.0 i)) (is.of.1 i)) ∙ at) in
-      subst (λ (c : Cursor). AreKept (versions c.version) c.plan c.method one.lines) here (subst (λ (k : Option KeptLines). IfSome k AreOfCursor) is.lines_are kept)
+      subst (λ (c : Cursor). AreKept (versions c.version) c.plan c.method one.kept) here (subst (λ (k : Option KeptAhead). IfSome k AreOfCursor) is.is_kept kept)
 
-  pub put_ahead : (lines : Option KeptLines) → IfSome lines AreOfCursor → (left now : LinesAhead) → ((one : Ahead) → Contains left.slots.items one → Contains cursors.ahead.slots.items one)
-      → ((one : Ahead) → Contains now.slots.items one → Contains left.slots.items one ⊎ IsNewest session name lines one)
+  pub put_ahead : (given : Option KeptAhead) → IfSome given AreOfCursor → (left now : LinesAhead) → ((one : Ahead) → Contains left.slots.items one → Contains cursors.ahead.slots.items one)
+      → ((one : Ahead) → Contains now.slots.items one → Contains left.slots.items one ⊎ IsNewest session name given one)
       → AreAhead versions (record { held = cursors.held; ahead = now })
-  put_ahead lines kept left now others put = record {
+  put_ahead given kept left now others put = record {
     each = λ ahead is found at.
         elim (put ahead is) [
           | inl before ↦ are.each ahead (others ahead before) found at
-          | inr newest ↦ newest_kept lines kept ahead newest found at
+          | inr newest ↦ newest_kept given kept ahead newest found at
         ];
   }

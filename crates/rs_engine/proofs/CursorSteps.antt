@@ -225,7 +225,7 @@ module _ {D : Type 0} (d : disk.Ghosts D) where
               ahead = record {
                 each = λ ahead there found at.
                     elim (cases ahead.session ahead.name.bytes found at) [
-                      | inl new_one ↦ subst (λ (c : Cursor). AreKept (versions c.version) c.plan c.method ahead.lines) new_one.2
+                      | inl new_one ↦ subst (λ (c : Cursor). AreKept (versions c.version) c.plan c.method ahead.kept) new_one.2
                           (kept.each ahead (still_kept ahead there) gives.cursor (at_read ahead.session ahead.name.bytes ∙ (λ i. names.get (held_of old.cursors.held (new_one.0 i)) (new_one.1 i)) ∙ gives.there))
                       | inr before ↦ kept.each ahead (still_kept ahead there) found (at_read ahead.session ahead.name.bytes ∙ before)
                     ];

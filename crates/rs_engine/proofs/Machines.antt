@@ -230,7 +230,7 @@ module _ {D : Type 0} (d : disk.Ghosts D) where
           };
       ahead = record {
         each = λ ahead there cursor found.
-            subst (λ (seen : SeenVersion). AreKept seen cursor.plan cursor.method ahead.lines) (sym (shown_on ahead.session ahead.name.bytes cursor found)) (kept.each ahead there cursor found);
+            subst (λ (seen : SeenVersion). AreKept seen cursor.plan cursor.method ahead.kept) (sym (shown_on ahead.session ahead.name.bytes cursor found)) (kept.each ahead there cursor found);
       };
     }
 

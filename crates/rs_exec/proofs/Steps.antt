@@ -14,7 +14,7 @@ use Rattle.rs_facts.specs.declared.fact.Span.{Span}
 use Rattle.rs_facts.specs.Fact.{none}
 use Rattle.rs_facts.specs.Runs.{Stretch}
 use Rattle.rs_facts.specs.Spans.{seen, places_of, IsPlaced, ArePlaced}
-use Rattle.rs_sweep.specs.Lists.{AreSorted, AreWide, Fit}
+use Rattle.rs_sweep.specs.Lists.{AreSorted, AreWide}
 use Rattle.rs_plan.specs.declared.plan.PlannedWindow.{PlannedWindow}
 use Rattle.rs_exec.specs.Snapshot.{Snapshots}
 use Rattle.rs_exec.specs.Meaning.{PlanMeaning, same_kind, window_meaning}
@@ -38,14 +38,6 @@ line_placed kinds.Point span placed = omega (arith, placed)
 pub lines_placed : (kind : Kind) (spans : List Stretch) → ArePlaced kind spans → ArePlaced kinds.Line spans
 lines_placed kind [] placed = tt
 lines_placed kind (span ∷ spans) placed = (line_placed kind span placed.0, lines_placed kind spans placed.1)
-
-wide_fit-one : (m n : ℕ) (a : Stretch) (right : List Stretch) → length a.row ≡ m → AreWide n right → m + n ≤ COLUMNS → AllByRecursion (λ b. length a.row + length b.row ≤ COLUMNS) right
-wide_fit-one m n a [] p wide few = tt
-wide_fit-one m n a (b ∷ right) p wide few = (omega (arith, p, wide.0, few), wide_fit-one m n a right p wide.1 few)
-
-pub wide_fit : (m n : ℕ) (left right : List Stretch) → AreWide m left → AreWide n right → m + n ≤ COLUMNS → Fit left right
-wide_fit m n [] right first second few = tt
-wide_fit m n (a ∷ left) right first second few = (wide_fit-one m n a right first.0 second few, wide_fit m n left right first.1 second few)
 
 every_moved : (P : Stretch → Type 0) (xs ys : List Stretch) → IsPermutation xs ys → AllByRecursion P xs → AllByRecursion P ys
 every_moved P xs ys h all = recursion_from_All P ys (All-permutation P xs ys h (All-from_recursion P xs all))

@@ -4,7 +4,7 @@ ghost use Rattle.std.specs.Prelude.{◌≡◌, filter, map, IfOk};
 ghost use Rattle.rs_facts.specs.Spans.{seen};
 ghost use Rattle.rs_exec.specs.Carried.{meets};
 
-use rs_facts::{Span, kept_row};
+use rs_facts::Span;
 use std::alloc::{AllocError, Global};
 
 /// Copies of the spans that meet the part from thousandth `from` on and below `to`. The only refusal is for want of
@@ -23,7 +23,7 @@ pub(crate) fn copies_meeting(
             copies.push(Span {
                 lo: span.lo,
                 hi: span.hi,
-                tuple: kept_row(alloc, &span.tuple)?,
+                tuple: span.tuple.copied(alloc)?,
             })?;
         }
     }

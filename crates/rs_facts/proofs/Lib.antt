@@ -16,4 +16,4 @@ pub mod RowSets
 mod OperatorRows
 pub mod Carrying
 pub mod Transforming
-mod Choosing
+pub mod KeptColumns

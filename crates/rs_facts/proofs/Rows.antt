@@ -5,7 +5,7 @@ use Rattle.std.specs.Cmp.{IsTotalOrder}
 use Rattle.std.specs.FinMap.{IsAntisymmetric}
 use Rattle.std.specs.Ordering.{eq_by_cmp}
 use Rattle.rs_value.specs.Row.{Row, row_cmp}
-use Rattle.rs_value.proofs.RowOrder.{row_total, row_antisymmetric}
+use Rattle.rs_value.specs.RowOrder.{row_total, row_antisymmetric}
 
 pub row_cmp-total : IsTotalOrder row_cmp
 row_cmp-total = row_total

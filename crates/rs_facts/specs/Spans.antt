@@ -5,7 +5,6 @@ use Rattle.std.specs.declared.cmp.Ordering.TheVariants.{Less}
 use Rattle.rs_value.specs.declared.column.Kind.{Kind}
 use Rattle.rs_value.specs.declared.column.Kind.TheVariants.{Point, Line}
 use Rattle.rs_value.specs.Row.{row_cmp}
-use Rattle.rs_value.specs.View.{row_of}
 use Rattle.rs_facts.specs.declared.fact.Span.{Span}
 use Rattle.rs_facts.specs.Fact.{Places, none}
 use Rattle.rs_facts.specs.Insert.{with_row}
@@ -13,7 +12,7 @@ use Rattle.rs_facts.specs.Runs.{Stretch, stretch, IsMaximalRun}
 
 -- a span of the code as a row along a span
 abbrev pub seen : Span → Stretch
-seen span = stretch span.lo span.hi (row_of span.tuple.items)
+seen span = stretch span.lo span.hi span.tuple
 
 -- The meaning of a list of spans, in any order: each in turn is put into nothing.
 abbrev pub places_of : List Stretch → Places

@@ -3,7 +3,7 @@
 ghost use Rattle.std.specs.Prelude.{◌≡◌, map, IfOk};
 ghost use Rattle.rs_facts.specs.Spans.{seen};
 
-use rs_facts::{Span, kept_row};
+use rs_facts::Span;
 use std::alloc::{AllocError, Global};
 
 /// The same spans in a list of their own. The only refusal is for want of memory.
@@ -15,7 +15,7 @@ pub fn copy_spans(alloc: Global, spans: &[Span]) -> Result<Vec<Span>, AllocError
         copies.push(Span {
             lo: span.lo,
             hi: span.hi,
-            tuple: kept_row(alloc, &span.tuple)?,
+            tuple: span.tuple.copied(alloc)?,
         })?;
     }
     Ok(copies)

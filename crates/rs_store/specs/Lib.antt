@@ -1,6 +1,7 @@
 pub mod Bracket
 pub mod Calls
 pub mod Changing
+pub mod Fitting
 pub mod Indexing
 pub mod Kept
 pub mod Lasting

@@ -7,6 +7,7 @@ pub mod changing;
 mod closing;
 mod creating;
 mod defining;
+mod fitting;
 mod indexing;
 pub mod laws;
 mod listing;

@@ -1,8 +1,8 @@
 //! This module clears records of a store that no live version sees, while nothing else changes.
 
-ghost use Rattle.std.specs.Prelude.{◌≤◌, ℕ, IfOk};
+ghost use Rattle.std.specs.Prelude.{◌≡◌, ◌≤◌, ℕ, IfOk, Ok};
 ghost use Rattle.rs_machine.specs.State.{State};
-ghost use Rattle.rs_store.specs.Kept.{StandsIn};
+ghost use Rattle.rs_store.specs.Kept.{StandsIn, garbage_of};
 ghost use Rattle.rs_store.specs.Releasing.{HasReleased, LeavesReleased};
 
 use crate::bracket::{begin_change, settle};
@@ -27,6 +27,7 @@ impl<D: Disk> Store<D> {
         ensures leaves { LeavesReleased D.Disk result self.old self.new }
         ensures releases { (from : ℕ) (state : State) (stands : StandsIn D.Disk from self.old state) → from ≤ oldest → oldest ≤ self.old.file.accepted
             → IfOk result (λ gone. HasReleased D.Disk oldest gone stands.contents self.new state) }
+        ensures idle { garbage_of self.old.file ≡ 0 → (result ≡ Ok 0) × (self.new ≡ self.old) }
     {
         meant_contents_stay_meant();
         contents_have_one_state();

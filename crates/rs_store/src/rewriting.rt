@@ -1,6 +1,6 @@
 //! This module writes other definitions of the same tables into a file, once it has checked that a file can keep them.
 
-ghost use Rattle.std.specs.Prelude.{◌≡◌, ◌≤◌, ◌<◌, ◌+◌, ◌^◌, ◌↔◌, All, IsOkUnless, IsTrue, OnErr, OnOk, false, true, length, string_bytes};
+ghost use Rattle.std.specs.Prelude.{◌≡◌, ◌≤◌, ◌<◌, ◌+◌, IsOkUnless, OnErr, OnOk, true};
 ghost use Rattle.std.specs.List.{AllByRecursion};
 ghost use Rattle.rs_catalog_pages.specs.Fitting.{FitsCatalogue, IsShort};
 ghost use Rattle.rs_catalog_pages.specs.Said.{said_catalogue};
@@ -11,10 +11,10 @@ ghost use Rattle.rs_machine.specs.declared.limits.TheConstants.{CHANGES};
 ghost use Rattle.rs_store.specs.Rewriting.{AreNumbersSmall, CanBeKept, HasTablesOf, Rewrites};
 ghost use Rattle.rs_stored_catalog.specs.Listing.{listing_of};
 
+use crate::fitting::{are_few, fit_fields};
 use rs_catalog::Catalog;
-use rs_catalog_meaning::check_meaning;
-use rs_catalog_meaning::laws::{meant_definitions_are_short, meant_definitions_fit};
-use rs_catalog_pages::{StoredCatalogue, StoredView};
+use rs_catalog_meaning::laws::meant_definitions_fit;
+use rs_catalog_pages::StoredCatalogue;
 use rs_changes::redefine;
 use rs_file::OpenedFile;
 use rs_methods::Name;
@@ -69,7 +69,8 @@ pub(crate) fn is_name(name: &Name, text: &str) -> bool
     text == name.as_str()
 }
 
-/// Checks that a file can keep these definitions; 94 where not. It takes no memory.
+/// Checks that a file has room for these definitions; 94 where not. Whether each passes the checks of its line isn't asked again. It
+/// takes no memory.
 pub(crate) fn check_definitions(definitions: &StoredCatalogue) -> Result<(), Refusal>
     requires small { AreNumbersSmall (said_catalogue definitions.now) }
     ensures fits { OnOk result (FitsCatalogue (said_catalogue definitions.now)) }
@@ -78,20 +79,11 @@ pub(crate) fn check_definitions(definitions: &StoredCatalogue) -> Result<(), Ref
     ensures refused { IsOkUnless result Refusal.DamagedFile }
 {
     meant_definitions_fit();
-    meant_definitions_are_short();
-    check_meaning(definitions)?;
-    if are_texts_short(definitions.views.as_slice()) {
-        Ok(())
-    } else {
-        Err(Refusal::DamagedFile)
+    if !are_few(definitions) {
+        return Err(Refusal::DamagedFile);
     }
-}
-
-/// Whether the text of each view fits the field that a file has for it.
-fn are_texts_short(views: &[StoredView]) -> bool
-    ensures { IsTrue result ↔ All (λ view. length (string_bytes view.text.text) < 2 ^ 16) views.now }
-{
-    views
-        .iter()
-        .all(|view| view.text.text.len() <= usize::from(u16::MAX))
+    if !fit_fields(definitions) {
+        return Err(Refusal::DamagedFile);
+    }
+    Ok(())
 }

@@ -6,11 +6,9 @@ use Rattle.std.specs.List.{list_any, AllByRecursion}
 use Rattle.rs_value.specs.Row.{Row}
 use Rattle.rs_value.specs.declared.column.Kind.{Kind}
 use Rattle.rs_value.specs.declared.column.Kind.TheVariants.{Point, Line}
-use Rattle.rs_value.specs.declared.column.TheConstants.{COLUMNS}
 use Rattle.rs_facts.specs.Fact.{contains}
 use Rattle.rs_facts.specs.Insert.{within}
 use Rattle.rs_facts.specs.Operators.{mapped, nulls, overlaid, covered, without}
-use Rattle.rs_value.specs.View.{row_of}
 use Rattle.rs_facts.specs.Runs.{Stretch, stretch}
 use Rattle.rs_facts.specs.declared.fact.Span.{Span}
 use Rattle.rs_facts.specs.Spans.{seen, places_of, IsPlaced, ArePlaced}
@@ -22,7 +20,7 @@ use Rattle.rs_facts.proofs.SpanLaws.{holds, contains-places_of, contains-append}
 use Rattle.rs_facts.proofs.Sets.{contains-none, same_rows}
 use Rattle.rs_sweep.specs.Inner.{joined_with, ArePieces}
 use Rattle.rs_facts.specs.Query.{overlaid_kind}
-use Rattle.rs_sweep.specs.Lists.{AreWide, Fit}
+use Rattle.rs_sweep.specs.Lists.{AreWide}
 use Rattle.rs_sweep.specs.Parts.{in_part, LiesIn, unchanged, changed_part, IsCut}
 use Rattle.rs_sweep.specs.Taken.{key, keyed}
 use Rattle.rs_sweep.specs.declared.laying.Side.TheVariants.{Left, Right}
@@ -238,26 +236,6 @@ cover-wide m n before after left right by_left by_right first second all pieces 
     (every-append (λ s. length s.row ≡ m + n) first one.added (pieces.wide m n p q) (one.wide m (m + n) (λ row e. length-append row after ∙ (λ i. e i + is_after i)) p))
     (two.wide n (m + n) (λ row e. length-append before row ∙ (λ i. is_before i + e i)) q))
 
-pub wide-fits : (m n : ℕ) (xs : List Stretch) → m + n ≤ COLUMNS → AreWide m xs → (row : Row) → length row ≡ n → AllByRecursion (λ s. length s.row + length row ≤ COLUMNS) xs
-wide-fits m n [] l h row e = tt
-wide-fits m n (x ∷ xs) l h row e = (omega (arith, l, h.0, e), wide-fits m n xs l h.1 row e)
-
-pub wide-fit : (m n : ℕ) (left right : List Stretch) → m + n ≤ COLUMNS → AreWide m left → AreWide n right → Fit left right
-wide-fit m n [] right l p q = tt
-wide-fit m n (a ∷ left) right l p q = (each right q, wide-fit m n left right l p.1 q)
-  where
-    each : (right : List Stretch) → AreWide n right → AllByRecursion (λ b. length a.row + length b.row ≤ COLUMNS) right
-    each [] q = tt
-    each (b ∷ right) q = (omega (arith, l, p.0, q.0), each right q.1)
-
-pub every-lent : (P : Stretch → Type 0) (spans : List (Bor Span)) (i : ℕ) (span : Bor Span) → i < length spans → span ≡ get_or spans i span → AllByRecursion P (map seen_lent spans) → P (seen_lent span)
-every-lent P spans i span below is all = subst (λ (s : Bor Span). P (seen_lent s)) (sym is) (at spans i span below all)
-  where
-    at : (spans : List (Bor Span)) (i : ℕ) (d : Bor Span) → i < length spans → AllByRecursion P (map seen_lent spans) → P (seen_lent (get_or spans i d))
-    at [] i d below all = absurd (omega arith)
-    at (x ∷ xs) zero d below all = all.0
-    at (x ∷ xs) (suc i) d below all = at xs i d (omega arith) all.1
-
 keyed_each : (xs : List Stretch) → map (keyed Each) xs ≡ xs
 keyed_each [] = refl
 keyed_each (x ∷ xs) = ap (λ zs. x ∷ zs) (keyed_each xs)
@@ -281,7 +259,7 @@ whole-end done (x ∷ rest) all e h = absurd (omega (arith, e))
 
 -- a part that was pushed is one of those that are left
 pub parts-pushed : (change : Row → Row) (span : Stretch) (found now : List Span) (piece : Span) (parts : List Part) (i : ℕ) (d : Part) (all : List Stretch) → now ≡ found ++ piece ∷ [] → i < length parts
-    → piece.lo ≡ (get_or parts i d).lo → piece.hi ≡ (get_or parts i d).hi → row_of piece.tuple.items ≡ change span.row
+    → piece.lo ≡ (get_or parts i d).lo → piece.hi ≡ (get_or parts i d).hi → piece.tuple ≡ change span.row
     → map seen found ++ map (changed_part change span) (drop i parts) ≡ all → map seen now ++ map (changed_part change span) (drop (i + 1) parts) ≡ all
 parts-pushed change span found now piece parts i d all is below lo hi row h =
     ap (λ zs. map seen zs ++ map (changed_part change span) (drop (i + 1) parts)) is

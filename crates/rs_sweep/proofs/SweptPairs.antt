@@ -8,7 +8,6 @@ use Rattle.std.specs.List.{list_any, AllByRecursion}
 use Rattle.rs_value.specs.Row.{Row}
 use Rattle.rs_value.specs.declared.column.Kind.{Kind}
 use Rattle.rs_value.specs.declared.column.Kind.TheVariants.{Point, Line}
-use Rattle.rs_value.specs.declared.column.TheConstants.{COLUMNS}
 use Rattle.rs_facts.specs.Fact.{contains, items}
 use Rattle.rs_facts.specs.Insert.{within}
 use Rattle.rs_facts.specs.Operators.{overlaid}
@@ -21,7 +20,7 @@ use Rattle.rs_facts.proofs.SpanLaws.{holds, contains-places_of}
 use Rattle.rs_facts.proofs.RowSets.{any-same, any-places, contains-overlaid}
 use Rattle.rs_sweep.specs.Inner.{piece_of, laid, ArePieces}
 use Rattle.rs_facts.specs.Query.{overlaid_kind}
-use Rattle.rs_sweep.specs.Lists.{AreSorted, AreWide, Fit, shares, pairs}
+use Rattle.rs_sweep.specs.Lists.{AreSorted, AreWide, shares, pairs}
 use Rattle.rs_sweep.specs.declared.laying.Side.TheVariants.{Left, Right}
 use Rattle.rs_sweep.proofs.LaidSpans.{both, laid-holds, laid-few, laid-all}
 
@@ -127,10 +126,9 @@ pub record Swept (left right l r found : List Stretch) (made bound : ℕ) : Type
   pub sorted_right : AreSorted r
   pub some_left : ArePlaced Line l
   pub some_right : ArePlaced Line r
-  pub fit : Fit l r
 
-pub swept-start : (left right : List Stretch) (made : ℕ) → AreSorted left → AreSorted right → ArePlaced Line left → ArePlaced Line right → Fit left right → Swept left right left right [] made (made + 2 * (length left + length right) + 2 * pairs left right)
-swept-start left right made a b c d e = record {
+pub swept-start : (left right : List Stretch) (made : ℕ) → AreSorted left → AreSorted right → ArePlaced Line left → ArePlaced Line right → Swept left right left right [] made (made + 2 * (length left + length right) + 2 * pairs left right)
+swept-start left right made a b c d = record {
   means = λ row k. refl;
   placed = λ ka kb p q. (tt, p, q);
   wide = λ m n p q. (tt, p, q);
@@ -139,7 +137,6 @@ swept-start left right made a b c d e = record {
   sorted_right = b;
   some_left = c;
   some_right = d;
-  fit = e;
 }
 
 above : (n : ℕ) (x : Stretch) (xs : List Stretch) → n ≤ x.lo → AllByRecursion (λ later. x.lo ≤ later.lo) xs → AllByRecursion (λ other. n ≤ other.lo) (x ∷ xs)
@@ -174,16 +171,7 @@ swept-left left right a b l r found made later bound h first asked =
       sorted_right = h.sorted_right;
       some_left = h.some_left.1;
       some_right = h.some_right;
-      fit = h.fit.1;
     }
-
-fit_rest : (b : Stretch) (l r : List Stretch) → Fit l (b ∷ r) → Fit l r
-fit_rest b [] r h = tt
-fit_rest b (a ∷ l) r h = (h.0.1, fit_rest b l r h.1)
-
-pub fit-first : (b : Stretch) (l r : List Stretch) → Fit l (b ∷ r) → AllByRecursion (λ other. length b.row + length other.row ≤ COLUMNS) l
-fit-first b [] r h = tt
-fit-first b (a ∷ l) r h = (omega (arith, h.0.0), fit-first b l r h.1)
 
 -- the first of the right, which begins no later than any of the left, is laid over them
 pub swept-right : (left right : List Stretch) (a b : Stretch) (l r found : List Stretch) (made later bound : ℕ) → Swept left right (a ∷ l) (b ∷ r) found made bound → b.lo ≤ a.lo
@@ -207,7 +195,6 @@ swept-right left right a b l r found made later bound h first asked =
       sorted_right = h.sorted_right.1;
       some_left = h.some_left;
       some_right = h.some_right.1;
-      fit = fit_rest b (a ∷ l) r h.fit;
     }
 
 nothing_right : (l : List Stretch) (row : Row) (k : ℕ) → meets l [] row k ≡ false
@@ -254,9 +241,3 @@ step-right left right ls rs l r found now a b made later bound e f h first is as
     let few = subst (λ zs. later ≤ made + 2 + 2 * length (laid Right b zs)) e asked in
     let out = swept-right left right a b l r found made later bound two first few in
     subst (λ zs. Swept left right zs r now later bound) (sym e) (subst (λ zs. Swept left right (a ∷ l) r zs later bound) (sym (is ∙ ap (λ zs. found ++ laid Right b zs) e)) out)
-
-pub fits-left : (ls rs l : List Stretch) (a : Stretch) → ls ≡ a ∷ l → Fit ls rs → AllByRecursion (λ other. length a.row + length other.row ≤ COLUMNS) rs
-fits-left ls rs l a e h = (subst (λ zs. Fit zs rs) e h).0
-
-pub fits-right : (ls rs r : List Stretch) (b : Stretch) → rs ≡ b ∷ r → Fit ls rs → AllByRecursion (λ other. length b.row + length other.row ≤ COLUMNS) ls
-fits-right ls rs r b e h = fit-first b ls r (subst (λ zs. Fit ls zs) e h)

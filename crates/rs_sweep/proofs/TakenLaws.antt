@@ -170,5 +170,5 @@ pub keys-none : (rows : Rows) (order : List (Bor Span)) → length order ≡ 0 �
 keys-none rows [] e = refl
 keys-none rows (first ∷ rest) e = absurd (omega (arith, e))
 
-pub compared : (rows : Rows) (a b x y : Row) (o : Ordering) → rows ≡ Each → x ≡ a → y ≡ b → o ≡ row_cmp x y → row_cmp (key rows a) (key rows b) ≡ o
-compared rows a b x y o e p q is = (λ i. row_cmp (key-each rows a e i) (key-each rows b e i)) ∙ sym (λ i. row_cmp (p i) (q i)) ∙ sym is
+pub compared : (rows : Rows) (a b : Row) (o : Ordering) → rows ≡ Each → o ≡ row_cmp a b → row_cmp (key rows a) (key rows b) ≡ o
+compared rows a b o e is = (λ i. row_cmp (key-each rows a e i) (key-each rows b e i)) ∙ sym is

@@ -1,7 +1,6 @@
 -- What is said of lists of spans beside their meaning: order, width, kind, and how many pairs of them share a thousandth.
 use Rattle.std.specs.Prelude.{◌≡◌, ℕ, ◌+◌, ◌≤◌, min, max, Bool, nat_lt, List, [], ◌∷◌, length, sum_by, count_by}
 use Rattle.std.specs.List.{AllByRecursion}
-use Rattle.rs_value.specs.declared.column.TheConstants.{COLUMNS}
 use Rattle.rs_facts.specs.Runs.{Stretch}
 
 -- none begins before an earlier one
@@ -12,10 +11,6 @@ AreSorted (span ∷ spans) = AllByRecursion (λ later. span.lo ≤ later.lo) spa
 -- each row has so many values
 abbrev pub AreWide : ℕ → List Stretch → Type 0
 AreWide width spans = AllByRecursion (λ span. length span.row ≡ width) spans
-
--- a row of the one and a row of the other are together no wider than a row may be
-abbrev pub Fit : List Stretch → List Stretch → Type 0
-Fit left right = AllByRecursion (λ a. AllByRecursion (λ b. length a.row + length b.row ≤ COLUMNS) right) left
 
 -- whether two spans share a thousandth
 abbrev pub shares : Stretch → Stretch → Bool

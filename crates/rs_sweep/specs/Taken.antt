@@ -2,7 +2,6 @@
 use Rattle.std.specs.Prelude.{Bool, true, false, ◌&&◌, nat_le, nat_lt, []}
 use Rattle.std.specs.Ordering.{match_ordering, eq_by_cmp}
 use Rattle.rs_value.specs.Row.{Row, row_cmp}
-use Rattle.rs_value.specs.View.{row_of}
 use Rattle.rs_facts.specs.Runs.{Stretch, stretch}
 use Rattle.rs_sweep.specs.declared.taken.Rows.{Rows}
 use Rattle.rs_sweep.specs.declared.taken.Rows.TheVariants.{All, Each}
@@ -17,7 +16,7 @@ abbrev pub keyed : Rows → Stretch → Stretch
 keyed rows span = stretch span.lo span.hi (key rows span.row)
 
 abbrev pub taken_of : Rows → Taken → Stretch
-taken_of rows taken = stretch taken.first.now.lo taken.hi (key rows (row_of taken.first.now.tuple.items))
+taken_of rows taken = stretch taken.first.now.lo taken.hi (key rows taken.first.now.tuple)
 
 -- whether a stretch is of a lesser row, or lies before a span of its row
 unfoldable pub ends_before : Stretch → Stretch → Bool

@@ -1,22 +1,18 @@
 //! The columns named of each row of a list of spans.
 
-ghost use Rattle.std.specs.Prelude.{◌≡◌, ◌≤◌, ℕ, map, length, IfOk, OnOk};
+ghost use Rattle.std.specs.Prelude.{◌≡◌, ℕ, map, length, OnOk};
 ghost use Rattle.rs_value.specs.declared.column.Kind.{Kind};
-ghost use Rattle.rs_value.specs.declared.column.TheConstants.{COLUMNS};
-ghost use Rattle.rs_value.specs.View.{row_of};
-ghost use Rattle.rs_facts.specs.Operators.{chosen, dissolved};
+ghost use Rattle.rs_facts.specs.Operators.{dissolved};
 ghost use Rattle.rs_facts.specs.Spans.{seen, places_of, ArePlaced};
 ghost use Rattle.rs_sweep.specs.Lists.{AreSorted, AreWide};
 ghost use Rattle.rs_sweep.specs.Inner.{in_columns};
 
-use rs_facts::{Span, chosen, kept_row};
-use rs_value::Value;
+use rs_facts::Span;
 use std::alloc::{AllocError, Global};
 
 /// Keeps of each row the columns named, each by its place, the leftmost 0. The only refusal is for want of memory; then
 /// some rows may be kept whole.
 pub fn dissolve(alloc: Global, spans: &mut Vec<Span>, columns: &[u8]) -> Result<(), AllocError>
-    requires few { length columns.now ≤ COLUMNS }
     requires sorted { AreSorted (map seen spans.old.items) }
     ensures means { OnOk result ((k : ℕ) → places_of (map seen spans.new.items) k
         ≡ dissolved columns.now (places_of (map seen spans.old.items) k)) }
@@ -30,21 +26,11 @@ pub fn dissolve(alloc: Global, spans: &mut Vec<Span>, columns: &[u8]) -> Result<
 
 /// Chooses the columns of each span's row.
 fn choose_each(alloc: Global, spans: &mut Vec<Span>, columns: &[u8]) -> Result<(), AllocError>
-    requires { length columns.now ≤ COLUMNS }
     ensures { OnOk result (map seen spans.new.items
         ≡ map (in_columns columns.now) (map seen spans.old.items)) }
 {
     for span in spans.iter_mut() {
-        span.tuple = columns_of(alloc, &span.tuple, columns)?;
+        span.tuple = span.tuple.chosen(alloc, columns)?;
     }
     Ok(())
-}
-
-/// Makes a row of the columns named.
-fn columns_of(alloc: Global, values: &[Value], columns: &[u8]) -> Result<Vec<Value>, AllocError>
-    requires { length columns.now ≤ COLUMNS }
-    ensures { IfOk result (λ row. row_of row.items ≡ chosen columns.now (row_of values.now)) }
-{
-    let row = chosen(values, columns);
-    kept_row(alloc, row.as_slice())
 }

@@ -1,12 +1,9 @@
 //! The pieces that spans of two lists have in common, and the parts that either list has alone.
 
-ghost use Rattle.std.specs.Prelude.{◌≡◌, ◌≤◌, ◌+◌, ◌++◌, ℕ, map, length, IfOk, OnOk};
-ghost use Rattle.std.specs.List.{AllByRecursion};
+ghost use Rattle.std.specs.Prelude.{◌≡◌, ◌+◌, ◌++◌, ℕ, map, IfOk, OnOk};
 ghost use Rattle.rs_value.specs.declared.column.Kind.{Kind};
 ghost use Rattle.rs_value.specs.declared.column.Kind.TheVariants as kinds;
-ghost use Rattle.rs_value.specs.declared.column.TheConstants.{COLUMNS};
-ghost use Rattle.rs_value.specs.View.{row_of};
-ghost use Rattle.rs_facts.specs.Operators.{covered, nulls};
+ghost use Rattle.rs_facts.specs.Operators.{covered};
 ghost use Rattle.rs_facts.specs.Spans.{seen, places_of, ArePlaced, AreKept};
 ghost use Rattle.rs_coalesce.specs.Lent.{seen_lent};
 ghost use Rattle.rs_sweep.specs.Inner.{joined_row, joined_with};
@@ -20,10 +17,9 @@ use crate::laying::Side;
 use crate::order::sort_by_place;
 use crate::overlaying::pieces;
 use crate::parts::{Part, parts_outside};
-use crate::rows::{joined, nulls};
 use crate::taken::{Rows, Taken, taken_by};
 use rs_facts::Span;
-use rs_value::Value;
+use rs_value::KeptRow;
 use std::alloc::{AllocError, Global};
 
 /// Each row of the left before each row of the right where both have rows; where one alone has, its rows with NULLs for
@@ -41,7 +37,6 @@ pub fn cover(
     requires right_sorted { AreSorted (map seen_lent right.now) }
     requires left_wide { AreWide left_width (map seen_lent left.now) }
     requires right_wide { AreWide right_width (map seen_lent right.now) }
-    requires fits { left_width + right_width ≤ COLUMNS }
     ensures means { IfOk result (λ spans. (k : ℕ) → places_of (map seen spans.items) k
         ≡ covered left_width right_width (places_of (map seen_lent left.now) k) (places_of (map seen_lent right.now) k)) }
     ensures sorted { IfOk result (λ spans. AreSorted (map seen spans.items)) }
@@ -53,8 +48,8 @@ pub fn cover(
     let mut found = pieces(alloc, left, right, &mut comparisons)?;
     let by_left = taken_by(alloc, Rows::All, left)?;
     let by_right = taken_by(alloc, Rows::All, right)?;
-    let before = nulls(alloc, left_width)?;
-    let after = nulls(alloc, right_width)?;
+    let before = KeptRow::nulls(alloc, left_width)?;
+    let after = KeptRow::nulls(alloc, right_width)?;
     pad(
         alloc,
         Side::Left,
@@ -81,13 +76,11 @@ fn pad(
     side: Side,
     spans: &[&Span],
     taken: &[Taken<'_>],
-    nulls: &[Value],
+    nulls: &KeptRow,
     found: &mut Vec<Span>,
 ) -> Result<(), AllocError>
     requires kept { AreKept kinds.Line (map (taken_of rows.All) taken.now) }
-    requires fits { AllByRecursion (λ span. length span.row + length (row_of nulls.now) ≤ COLUMNS)
-        (map seen_lent spans.now) }
-    ensures { OnOk result (IsCut (joined_with side (row_of nulls.now)) rows.All
+    ensures { OnOk result (IsCut (joined_with side nulls.now) rows.All
         (map (taken_of rows.All) taken.now) (map seen_lent spans.now) (map seen found.old.items) (map seen found.new.items)) }
 {
     let mut parts = Vec::new(alloc);
@@ -104,12 +97,11 @@ fn add_padded(
     side: Side,
     span: &Span,
     parts: &[Part],
-    nulls: &[Value],
+    nulls: &KeptRow,
     found: &mut Vec<Span>,
 ) -> Result<(), AllocError>
-    requires { length (seen span.now).row + length (row_of nulls.now) ≤ COLUMNS }
     ensures { OnOk result (map seen found.new.items ≡ map seen found.old.items
-        ++ map (changed_part (joined_with side (row_of nulls.now)) (seen span.now)) parts.now) }
+        ++ map (changed_part (joined_with side nulls.now) (seen span.now)) parts.now) }
 {
     for part in parts {
         found.push(Span {
@@ -122,18 +114,11 @@ fn add_padded(
 }
 
 /// A row of that side beside another.
-fn beside(
-    alloc: Global,
-    side: Side,
-    one: &[Value],
-    other: &[Value],
-) -> Result<Vec<Value>, AllocError>
-    requires { length (row_of one.now) + length (row_of other.now) ≤ COLUMNS }
-    ensures { IfOk result (λ row. row_of row.items
-        ≡ joined_row side (row_of one.now) (row_of other.now)) }
+fn beside(alloc: Global, side: Side, one: &KeptRow, other: &KeptRow) -> Result<KeptRow, AllocError>
+    ensures { IfOk result (λ row. row ≡ joined_row side one.now other.now) }
 {
     match side {
-        Side::Left => joined(alloc, one, other),
-        Side::Right => joined(alloc, other, one),
+        Side::Left => one.beside(alloc, other),
+        Side::Right => other.beside(alloc, one),
     }
 }

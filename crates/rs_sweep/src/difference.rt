@@ -12,7 +12,7 @@ ghost use Rattle.rs_sweep.specs.Parts.{changed_part, unchanged};
 use crate::order::sort_by_place;
 use crate::parts::{Part, parts_outside};
 use crate::taken::{Rows, taken_by};
-use rs_facts::{Span, kept_row};
+use rs_facts::Span;
 use std::alloc::{AllocError, Global};
 
 /// The rows of the left where the right does not have them. Rows that stay are moved; they are copied only where a
@@ -56,7 +56,7 @@ fn cut(
         kept.push(Span {
             lo: part.lo,
             hi: part.hi,
-            tuple: kept_row(alloc, &span.tuple)?,
+            tuple: span.tuple.copied(alloc)?,
         })?;
     }
     span.lo = last.lo;

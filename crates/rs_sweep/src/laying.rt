@@ -1,14 +1,11 @@
 //! One span laid over spans of the other list.
 
 ghost use Rattle.std.specs.Prelude.{◌≡◌, ◌≤◌, ◌+◌, ◌*◌, ◌++◌, min, map, length, IfOk, OnOk};
-ghost use Rattle.std.specs.List.{AllByRecursion};
-ghost use Rattle.rs_value.specs.declared.column.TheConstants.{COLUMNS};
 ghost use Rattle.rs_facts.specs.Spans.{seen};
 ghost use Rattle.rs_coalesce.specs.Lent.{seen_lent};
 ghost use Rattle.rs_sweep.specs.Inner.{piece_of, laid};
 
 use crate::comparisons::Comparisons;
-use crate::rows::joined;
 use rs_facts::Span;
 use std::alloc::{AllocError, Global};
 
@@ -29,8 +26,6 @@ pub(crate) fn lay(
     found: &mut Vec<Span>,
     comparisons: &mut Comparisons,
 ) -> Result<(), AllocError>
-    requires { AllByRecursion (λ other. length (seen one.now).row + length other.row ≤ COLUMNS)
-        (map seen_lent others.now) }
     ensures found { OnOk result (map seen found.new.items
         ≡ map seen found.old.items ++ laid side (seen one.now) (map seen_lent others.now)) }
     ensures counted { OnOk result (comparisons.new.made
@@ -55,14 +50,13 @@ fn piece(
     other: &Span,
     comparisons: &mut Comparisons,
 ) -> Result<Span, AllocError>
-    requires { length (seen one.now).row + length (seen other.now).row ≤ COLUMNS }
     ensures piece { IfOk result (λ span. seen span ≡ piece_of side (seen one.now) (seen other.now)) }
     ensures counted { comparisons.new.made ≡ min (comparisons.old.made + 1) u64.MAX }
 {
     let hi = comparisons.lesser(one.hi, other.hi);
     let tuple = match side {
-        Side::Left => joined(alloc, &one.tuple, &other.tuple)?,
-        Side::Right => joined(alloc, &other.tuple, &one.tuple)?,
+        Side::Left => one.tuple.beside(alloc, &other.tuple)?,
+        Side::Right => other.tuple.beside(alloc, &one.tuple)?,
     };
     Ok(Span {
         lo: other.lo,

@@ -15,7 +15,6 @@ mod laying;
 mod order;
 mod overlaying;
 mod parts;
-mod rows;
 mod shifting;
 mod taken;
 mod union;

@@ -7,7 +7,7 @@ ghost use Rattle.rs_facts.specs.Operators.{overlaid};
 ghost use Rattle.rs_facts.specs.Spans.{seen, places_of, ArePlaced};
 ghost use Rattle.rs_facts.specs.Query.{overlaid_kind};
 ghost use Rattle.rs_coalesce.specs.Lent.{seen_lent};
-ghost use Rattle.rs_sweep.specs.Lists.{AreSorted, AreWide, Fit, pairs};
+ghost use Rattle.rs_sweep.specs.Lists.{AreSorted, AreWide, pairs};
 ghost use Rattle.rs_sweep.specs.Inner.{ArePieces};
 
 use crate::comparisons::Comparisons;
@@ -28,7 +28,6 @@ pub fn overlay(
     requires right_placed { ArePlaced kinds.Line (map seen_lent right.now) }
     requires left_sorted { AreSorted (map seen_lent left.now) }
     requires right_sorted { AreSorted (map seen_lent right.now) }
-    requires fits { Fit (map seen_lent left.now) (map seen_lent right.now) }
     ensures means { IfOk result (λ answer. (k : ℕ) → places_of (map seen answer.0.items) k
         ≡ overlaid (places_of (map seen_lent left.now) k) (places_of (map seen_lent right.now) k)) }
     ensures sorted { IfOk result (λ answer. AreSorted (map seen answer.0.items)) }
@@ -58,7 +57,6 @@ pub(crate) fn pieces(
     requires right_placed { ArePlaced kinds.Line (map seen_lent right.now) }
     requires left_sorted { AreSorted (map seen_lent left.now) }
     requires right_sorted { AreSorted (map seen_lent right.now) }
-    requires fits { Fit (map seen_lent left.now) (map seen_lent right.now) }
     ensures pieces { IfOk result (λ found. ArePieces (map seen_lent left.now) (map seen_lent right.now)
         (map seen found.items)) }
     ensures counted { IfOk result (λ found. comparisons.new.made ≤ comparisons.old.made

@@ -3,7 +3,6 @@
 ghost use Rattle.std.specs.Prelude.{◌≡◌, ◌≤◌, ℕ, not, ◌&&◌, ◌++◌, map, take, drop, length, OnOk, true, false};
 ghost use Rattle.std.specs.List.{AllByRecursion, list_any};
 ghost use Rattle.rs_value.specs.declared.column.Kind.TheVariants as kinds;
-ghost use Rattle.rs_value.specs.View.{row_of};
 ghost use Rattle.rs_facts.specs.Fact.{contains};
 ghost use Rattle.rs_facts.specs.Insert.{within};
 ghost use Rattle.rs_facts.specs.Spans.{seen, places_of, AreKept};

@@ -18,7 +18,6 @@ use Rattle.rs_page_owners.specs.Owners.{Shares}
 use Rattle.rs_page_owners.proofs.Moving.{shares_same}
 use Rattle.rs_pages.specs.PageMap.{PageMap}
 use Rattle.rs_value.specs.Row.{Row}
-use Rattle.rs_value.specs.View.{row_of}
 use Rattle.rs_value.specs.declared.column.ColumnType.{ColumnType}
 use Rattle.rs_versioned.specs.Calls.{TellsOf}
 use Rattle.rs_versioned.specs.Events.{Event, SaysEvent, kept_events}
@@ -61,9 +60,9 @@ module _ (version : ℕ) (cell : List ℕ) (types : List ColumnType) (pages : Pa
 
 -- the row of the span at a place
 pub row_at : (Q : Row → Type 0) (spans : List Span) (i : ℕ) (span : Span) → AllByRecursion (λ (s : Stretch). Q s.row) (map seen spans) → i < length spans
-    → span ≡ get_or spans i span → Q (row_of span.tuple.items)
+    → span ≡ get_or spans i span → Q span.tuple
 row_at Q [] i span all inside is = absurd (omega arith)
-row_at Q (s ∷ spans) zero span all inside is = subst (λ (x : Span). Q (row_of x.tuple.items)) (sym is) all.0
+row_at Q (s ∷ spans) zero span all inside is = subst (λ (x : Span). Q x.tuple) (sym is) all.0
 row_at Q (s ∷ spans) (suc k) span all inside is = row_at Q spans k span all.1 (omega arith) is
 
 -- ---- what is written back to a list of indexes

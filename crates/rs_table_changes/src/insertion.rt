@@ -7,7 +7,6 @@ ghost use Rattle.std.specs.Prelude.{◌≡◌, ◌+◌, ◌-◌, ◌^◌, min};
 ghost use Rattle.rs_table_changes.specs.Calls.{InsertsSpan, KeepsAt, Leaves, MayEdit};
 ghost use Rattle.rs_facts.specs.Spans.{IsPlaced, gap_of, seen};
 ghost use Rattle.rs_value.specs.Values.{IsRowOf};
-ghost use Rattle.rs_value.specs.View.{row_of};
 
 use crate::changing::make;
 use crate::joining::join;
@@ -36,7 +35,7 @@ pub fn insert<P: Pages>(
     span: &Span,
 ) -> Result<u64, Refusal>
     requires may { MayEdit P.Pages table.old moment.version pages.old }
-    requires row { IsRowOf table.old.records.types (row_of span.now.tuple.items) }
+    requires row { IsRowOf table.old.records.types span.now.tuple }
     requires placed { IsPlaced kind (seen span.now) }
     ensures leaves { Leaves P.Pages table.old moment.version result pages.old pages.new }
     ensures inserts { InsertsSpan P.Pages table.old table.new moment kind route (seen span.now) result pages.old pages.new }

@@ -6,7 +6,6 @@ ghost use Rattle.rs_table_changes.specs.Picked.{Joins, SayNone, covers, highest,
 ghost use Rattle.rs_facts.specs.Spans.{seen};
 ghost use Rattle.rs_records.specs.Listed.{listed, record_width};
 ghost use Rattle.rs_value.specs.Values.{IsRowOf};
-ghost use Rattle.rs_value.specs.View.{row_of};
 ghost use Rattle.rs_versioned.specs.Events.{event_width};
 
 use crate::edit::Edit;
@@ -35,7 +34,7 @@ pub(crate) fn join(
     span: &Span,
 ) -> Result<Joined, Refusal>
     requires width { record_width found.now ≡ event_width schema.now.items }
-    requires row { IsRowOf schema.now.items (row_of span.now.tuple.items) }
+    requires row { IsRowOf schema.now.items span.now.tuple }
     ensures joins { IfOk result (λ joined. Joins schema.now.items (seen span.now) (listed found.now) (listed joined.edit.gone)
         (map seen joined.edit.come.items) joined.count) }
     ensures rows { IfOk result (λ joined. AllByRecursion (λ come. IsRowOf schema.now.items come.row) (map seen joined.edit.come.items)) }
@@ -51,7 +50,7 @@ pub(crate) fn join(
         };
         return Ok(Joined { edit, count: 0 });
     }
-    come.push(widened(span, &picked.spans)?)?;
+    come.push(widened(alloc, span, &picked.spans)?)?;
     let edit = Edit {
         gone: picked.cells,
         come,
@@ -70,11 +69,11 @@ fn is_covered(spans: &[Span], span: &Span) -> bool
 }
 
 /// The span, as wide as it and the others together. The only refusal is for want of memory.
-fn widened(span: &Span, others: &[Span]) -> Result<Span, AllocError>
+fn widened(alloc: Global, span: &Span, others: &[Span]) -> Result<Span, AllocError>
     ensures { IfOk result (λ joined. seen joined ≡ wide (seen span.now) (map seen others.now)) }
 {
     let (lo, hi) = ends(span, others);
-    let tuple = span.tuple.clone()?;
+    let tuple = span.tuple.copied(alloc)?;
     Ok(Span { lo, hi, tuple })
 }
 

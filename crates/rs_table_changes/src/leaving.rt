@@ -59,18 +59,18 @@ fn outside(alloc: Global, spans: &[Span], lo: u32, hi: u32) -> Result<Vec<Span>,
 {
     let mut left = Vec::new(alloc);
     for span in spans {
-        push_front(&mut left, span, lo)?;
-        push_back(&mut left, span, hi)?;
+        push_front(alloc, &mut left, span, lo)?;
+        push_back(alloc, &mut left, span, hi)?;
     }
     Ok(left)
 }
 
 /// Pushes what of a span lies before a thousandth, where something does.
-fn push_front(left: &mut Vec<Span>, span: &Span, lo: u32) -> Result<(), AllocError>
+fn push_front(alloc: Global, left: &mut Vec<Span>, span: &Span, lo: u32) -> Result<(), AllocError>
     ensures { OnOk result (map seen left.new.items ≡ map seen left.old.items ++ front_of lo (seen span.now)) }
 {
     if span.lo < lo {
-        let tuple = span.tuple.clone()?;
+        let tuple = span.tuple.copied(alloc)?;
         left.push(Span {
             lo: span.lo,
             hi: span.hi.min(lo),
@@ -81,11 +81,11 @@ fn push_front(left: &mut Vec<Span>, span: &Span, lo: u32) -> Result<(), AllocErr
 }
 
 /// Pushes what of a span lies from a thousandth on, where something does.
-fn push_back(left: &mut Vec<Span>, span: &Span, hi: u32) -> Result<(), AllocError>
+fn push_back(alloc: Global, left: &mut Vec<Span>, span: &Span, hi: u32) -> Result<(), AllocError>
     ensures { OnOk result (map seen left.new.items ≡ map seen left.old.items ++ back_of hi (seen span.now)) }
 {
     if hi < span.hi {
-        let tuple = span.tuple.clone()?;
+        let tuple = span.tuple.copied(alloc)?;
         left.push(Span {
             lo: span.lo.max(hi),
             hi: span.hi,

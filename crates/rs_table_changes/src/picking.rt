@@ -9,14 +9,13 @@ ghost use Rattle.rs_facts.proofs.Rows.{same_row};
 ghost use Rattle.rs_facts.specs.Spans.{seen};
 ghost use Rattle.rs_records.specs.Listed.{listed, record_width};
 ghost use Rattle.rs_value.specs.Values.{IsRowOf};
-ghost use Rattle.rs_value.specs.View.{row_of};
 ghost use Rattle.rs_versioned.specs.Events.{event_width};
 
 use rs_facts::{Condition, Span};
 use rs_records::Cells;
 use rs_refusal::Refusal;
 use rs_sweep::meets;
-use rs_value::{Schema, Value, same_row};
+use rs_value::{KeptRow, Schema, same_row};
 use rs_versioned::event::span_of;
 use std::alloc::Global;
 
@@ -32,10 +31,10 @@ pub(crate) fn of_row(
     alloc: Global,
     schema: &Schema,
     found: &Cells,
-    row: &[Value],
+    row: &KeptRow,
 ) -> Result<Picked, Refusal>
     requires width { record_width found.now ≡ event_width schema.now.items }
-    ensures picks { IfOk result (λ picked. Picks schema.now.items (λ other. same_row other (row_of row.now)) (listed found.now)
+    ensures picks { IfOk result (λ picked. Picks schema.now.items (λ other. same_row other row.now) (listed found.now)
         (listed picked.cells) (map seen picked.spans.items)) }
     ensures rows { IfOk result (λ picked. AllByRecursion (λ span. IsRowOf schema.now.items span.row) (map seen picked.spans.items)) }
     ensures width { IfOk result (λ picked. record_width picked.cells ≡ record_width found.now) }
@@ -82,11 +81,11 @@ pub(crate) fn going(
 }
 
 /// Whether a row goes.
-fn is_going(goes: Option<&Condition>, values: &[Value]) -> bool
-    ensures { result ≡ goes_by (option_copied goes.entry) (row_of values.now) }
+fn is_going(goes: Option<&Condition>, row: &KeptRow) -> bool
+    ensures { result ≡ goes_by (option_copied goes.entry) row.now }
 {
     match goes {
-        Some(condition) => meets(condition, values),
+        Some(condition) => meets(condition, row),
         None => true,
     }
 }

@@ -21,7 +21,7 @@ use Rattle.rs_tree.specs.Calls.{Finds}
 use Rattle.rs_tree.specs.Cells.{is_within}
 use Rattle.rs_tree.specs.Tree.{IsNoTree}
 use Rattle.rs_value.proofs.EncodingOrder.{datum_wide, datums_cmp}
-use Rattle.rs_value.proofs.RowOrder.{datum_antisymmetric, datum_total}
+use Rattle.rs_value.specs.RowOrder.{datum_antisymmetric, datum_total}
 use Rattle.rs_value.specs.Encoding.{SaysDatum, width}
 use Rattle.rs_value.specs.Row.{Datum, datum_cmp}
 use Rattle.rs_value.specs.declared.column.ColumnType.{ColumnType}

@@ -2,7 +2,6 @@
 use Rattle.std.specs.Prelude.{◌≡◌, ℕ, Bool, true, false, Option, Some, None, option_map, List, map}
 use Rattle.std.specs.List.{list_any}
 use Rattle.rs_value.specs.Row.{Row}
-use Rattle.rs_value.specs.View.{row_of}
 use Rattle.rs_facts.specs.Totals as totals
 use Rattle.rs_total.specs.declared.numbers.Numbers.{Numbers}
 use Rattle.rs_total.specs.declared.numbers.Sizes.{Sizes}
@@ -13,7 +12,7 @@ abbrev pub sum_answered : Sum → totals.Sum
 sum_answered sum = record { weight = sum.weight; above_zero = sum.above_zero; below_zero = sum.below_zero }
 
 abbrev pub answered : Total → totals.Total
-answered total = record { group = row_of total.group.items; places = total.places; sum = option_map sum_answered total.sum }
+answered total = record { group = total.group; places = total.places; sum = option_map sum_answered total.sum }
 
 -- ---- what is answered of what is kept
 

@@ -3,13 +3,13 @@
 //! All routes lie on one line, each in 2^32 thousandths of its own, so that a group needs no reset between two routes.
 
 ghost use Rattle.std.specs.Prelude.{◌≡◌};
-ghost use Rattle.rs_value.specs.View.{datum_of};
+ghost use Rattle.rs_value.specs.LentView.{lent_datum};
 ghost use Rattle.rs_facts.specs.Spans.{seen};
 ghost use Rattle.rs_total.specs.Counting.{no_numbers, along_line, with_places, with_value, with_size, with_span};
 
+use rs_facts::Span;
 use rs_facts::totals::GREATEST_TOTAL;
-use rs_facts::{Span, value_at};
-use rs_value::Value;
+use rs_value::LentValue;
 
 /// What values above and below 0 add up to, by their sizes.
 #[derive(Clone, Copy)]
@@ -55,7 +55,7 @@ impl Numbers {
             Some(column) => {
                 numbers.with_value(
                     span.hi.saturating_sub(span.lo),
-                    value_at(&span.tuple, column),
+                    span.tuple.value_at(usize::from(column)),
                 )
             }
         }
@@ -75,16 +75,16 @@ impl Numbers {
     }
 
     /// With a value that so many facts have.
-    fn with_value(self, facts: u32, value: Value) -> Self
-        ensures { result ≡ with_value facts (datum_of value) self }
+    fn with_value(self, facts: u32, value: LentValue<'_>) -> Self
+        ensures { result ≡ with_value facts (lent_datum value.entry) self }
     {
         let sizes = match (self.sizes, value) {
-            (Some(sizes), Value::Int(number)) => sizes.with(facts, number),
+            (Some(sizes), LentValue::Int(number)) => sizes.with(facts, number),
             (sizes, _) => sizes,
         };
         let weight = match value {
-            Value::Null => self.weight,
-            Value::Int(_) | Value::Text(_) => self.weight.saturating_add(u128::from(facts)),
+            LentValue::Null => self.weight,
+            LentValue::Int(_) | LentValue::Text(_) => self.weight.saturating_add(u128::from(facts)),
         };
         Numbers {
             places: self.places,

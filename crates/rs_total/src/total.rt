@@ -1,6 +1,6 @@
 //! A total: what is answered of one group.
 
-use rs_value::Tuple;
+use rs_value::KeptRow;
 
 /// What a column adds up to over the facts of a group.
 #[derive(Clone, Copy, PartialEq, Eq, Debug)]
@@ -17,7 +17,7 @@ pub struct Sum {
 #[derive(Debug, Drop)]
 pub struct Total {
     /// The values that make the group.
-    pub group: Tuple,
+    pub group: KeptRow,
     /// At how many places some row of the group holds.
     pub places: u128,
     /// What the column adds up to; none where no column is summed.

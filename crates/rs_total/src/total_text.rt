@@ -5,13 +5,12 @@
 ghost use Rattle.std.specs.Prelude.{◌≡◌, ◌+◌, ◌<◌, [], ◌∷◌, ◌++◌, pos, ◌-ℤ◌, OnOk, string_bytes};
 ghost use Rattle.std.specs.Option.{option_map};
 ghost use Rattle.rs_measure.specs.Measure.{measure_text};
-ghost use Rattle.rs_value.specs.View.{row_of};
 ghost use Rattle.rs_facts.specs.TotalText.{amount_text, signed_amount_text, group_text, sum_text, total_text};
 ghost use Rattle.rs_total.specs.Answer.{answered, sum_answered};
 
 use crate::total::{Sum, Total};
 use itoa::Buffer;
-use rs_value::{Kind, Tuple, push_value};
+use rs_value::{KeptRow, Kind, push_lent};
 use std::alloc::AllocError;
 
 /// Appends the text of a total: the values of the group, at how many places it holds, and, where a column is summed,
@@ -26,11 +25,11 @@ pub fn push_total(text: &mut String, kind: Kind, total: &Total) -> Result<(), Al
 }
 
 /// Appends each value of a group and a space after it.
-fn push_group(text: &mut String, group: &Tuple) -> Result<(), AllocError>
-    ensures { OnOk result (string_bytes text.new ≡ string_bytes text.old ++ group_text (row_of group.now.items)) }
+fn push_group(text: &mut String, group: &KeptRow) -> Result<(), AllocError>
+    ensures { OnOk result (string_bytes text.new ≡ string_bytes text.old ++ group_text group.now) }
 {
-    for value in group.as_slice() {
-        push_value(text, value)?;
+    for column in 0..group.width() {
+        push_lent(text, group.value_at(column))?;
         text.push(' ')?;
     }
     Ok(())

@@ -2,25 +2,22 @@
 //!
 //! They keep the numbers of each group; the answer is that of the definition for the routes that were added.
 
-ghost use Rattle.std.specs.Prelude.{◌≡◌, ◌<◌, ◌≤◌, ◌^◌, ℕ, ◌⊎◌, Option, List, [], ◌∷◌, ◌++◌, length, map, Ok, Err, IfOk, IfErr, OnOk, IsOk, true, false};
+ghost use Rattle.std.specs.Prelude.{◌≡◌, ◌<◌, ◌^◌, ℕ, ◌⊎◌, Option, List, [], ◌∷◌, ◌++◌, length, map, Ok, Err, IfOk, IfErr, OnOk, IsOk, true, false};
 ghost use Rattle.std.specs.FinMap.Entries.{is_sorted};
 ghost use Rattle.rs_refusal.specs.declared.refusal.Refusal.TheVariants.{OutOfMemory, TotalTooLarge};
 ghost use Rattle.rs_value.specs.declared.column.Kind.{Kind};
-ghost use Rattle.rs_value.specs.declared.column.TheConstants.{COLUMNS};
 ghost use Rattle.rs_value.specs.Row.{row_cmp};
-ghost use Rattle.rs_value.specs.View.{row_of};
 ghost use Rattle.rs_facts.specs.Spans.{seen};
 ghost use Rattle.rs_facts.specs.Totals.{Along, totalled};
 ghost use Rattle.rs_total.specs.Answer.{answered, total_kept, some_passed, AreOfGroups};
 ghost use Rattle.rs_total.specs.Totalling.{AreRunsAlong, AreTotalsOf};
-ghost use Rattle.rs_total.specs.Tally.{by_row};
 
 use crate::groups::add_spans;
 use crate::numbers::Numbers;
 use crate::total::{Sum, Total};
 use rs_facts::Span;
 use rs_refusal::Refusal;
-use rs_value::Tuple;
+use rs_value::KeptRow;
 use std::alloc::{AllocError, Global};
 use std::collections::BTreeMap;
 use std::marker::Model;
@@ -31,32 +28,29 @@ const ROUTE_PLACES: u64 = 4_294_967_296;
 /// The totals of the groups of a query's rows, after some routes.
 #[derive(Drop)]
 pub struct Totals {
+    alloc: Global,
     by: Vec<u8>,
     summed: Option<u8>,
     start: u64,
-    groups: BTreeMap<Tuple, Numbers>,
+    groups: BTreeMap<KeptRow, Numbers>,
 }
 
 impl Model for Totals {
-    ghost use Rattle.std.specs.Prelude.{◌≤◌, length};
-    ghost use Rattle.rs_value.specs.declared.column.TheConstants.{COLUMNS};
-    ghost use Rattle.rs_total.specs.Tally.{Tally, by_row};
+    ghost use Rattle.rs_total.specs.Tally.{Tally};
 
     ghost Value = { Tally };
 
-    ghost view = { λ t. record { by = t.by.items; summed = t.summed; start = t.start; groups = by_row t.groups.entries } };
-
-    ghost invariant = { λ t. length t.by.items ≤ COLUMNS };
+    ghost view = { λ t. record { by = t.by.items; summed = t.summed; start = t.start; groups = t.groups.entries } };
 }
 
 impl Totals {
     /// Of no route yet. The columns of `by`, by their places, make a group; the column of `summed` is summed, if any.
     /// It takes no memory.
     pub fn new(alloc: Global, by: Vec<u8>, summed: Option<u8>) -> Self
-        requires few { length by.items ≤ COLUMNS }
         ensures { AreTotalsOf by.items summed [] result }
     {
         Totals {
+            alloc,
             by,
             summed,
             start: 0,
@@ -72,6 +66,7 @@ impl Totals {
             → AreTotalsOf by column (routes ++ route ∷ []) self.new) }
     {
         add_spans(
+            self.alloc,
             &mut self.groups,
             self.by.as_slice(),
             self.summed,
@@ -102,12 +97,12 @@ impl Totals {
 fn totals_of(
     alloc: Global,
     summed: Option<u8>,
-    groups: BTreeMap<Tuple, Numbers>,
+    groups: BTreeMap<KeptRow, Numbers>,
 ) -> Result<Vec<Total>, Refusal>
-    ensures ok { IfOk result (λ totals. AreOfGroups summed (by_row groups.entries) (map answered totals.items)) }
-    ensures refused { IfErr result (λ refusal. ((refusal ≡ OutOfMemory) × (some_passed summed (by_row groups.entries) ≡ false))
-        ⊎ ((refusal ≡ TotalTooLarge) × (some_passed summed (by_row groups.entries) ≡ true))) }
-    ensures sorted { is_sorted row_cmp (by_row groups.entries) ≡ true }
+    ensures ok { IfOk result (λ totals. AreOfGroups summed groups.entries (map answered totals.items)) }
+    ensures refused { IfErr result (λ refusal. ((refusal ≡ OutOfMemory) × (some_passed summed groups.entries ≡ false))
+        ⊎ ((refusal ≡ TotalTooLarge) × (some_passed summed groups.entries ≡ true))) }
+    ensures sorted { is_sorted row_cmp groups.entries ≡ true }
 {
     if passes_limit(summed, &groups) {
         return Err(Refusal::TotalTooLarge);
@@ -116,9 +111,9 @@ fn totals_of(
 }
 
 /// Whether the sizes of some group's values passed the limit. It takes no memory.
-fn passes_limit(summed: Option<u8>, groups: &BTreeMap<Tuple, Numbers>) -> bool
-    ensures passes { result ≡ some_passed summed (by_row groups.now.entries) }
-    ensures sorted { is_sorted row_cmp (by_row groups.now.entries) ≡ true }
+fn passes_limit(summed: Option<u8>, groups: &BTreeMap<KeptRow, Numbers>) -> bool
+    ensures passes { result ≡ some_passed summed groups.now.entries }
+    ensures sorted { is_sorted row_cmp groups.now.entries ≡ true }
 {
     groups
         .values()
@@ -129,9 +124,9 @@ fn passes_limit(summed: Option<u8>, groups: &BTreeMap<Tuple, Numbers>) -> bool
 fn each_total(
     alloc: Global,
     summed: Option<u8>,
-    groups: BTreeMap<Tuple, Numbers>,
+    groups: BTreeMap<KeptRow, Numbers>,
 ) -> Result<Vec<Total>, AllocError>
-    ensures all { IfOk result (λ totals. map answered totals.items ≡ map (λ e. total_kept summed e.0 e.1) (by_row groups.entries)) }
+    ensures all { IfOk result (λ totals. map answered totals.items ≡ map (λ e. total_kept summed e.0 e.1) groups.entries) }
 {
     let mut totals = Vec::with_capacity(alloc, groups.len())?;
     for (group, numbers) in groups {
@@ -141,8 +136,8 @@ fn each_total(
 }
 
 /// The total of a group, without a sum where the sizes of its values passed the limit.
-fn total_of(summed: Option<u8>, group: Tuple, numbers: Numbers) -> Total
-    ensures { answered result ≡ total_kept summed (row_of group.items) numbers }
+fn total_of(summed: Option<u8>, group: KeptRow, numbers: Numbers) -> Total
+    ensures { answered result ≡ total_kept summed group numbers }
 {
     let sum = match (summed, numbers.sizes) {
         (Some(_), Some(sizes)) => Some(Sum {

@@ -11,7 +11,7 @@ use Rattle.rs_value.specs.Row.{Datum, null, number, text, Row}
 use Rattle.rs_value.specs.Values.{IsOfType, IsRowOf}
 use Rattle.rs_value.specs.Fitting.{has_room, each_passes}
 use Rattle.rs_value.specs.Encoding.{width, SaysNumber, SaysDatum, SaysRow}
-use Rattle.rs_value.proofs.RowOrder.{row_total, row_antisymmetric}
+use Rattle.rs_value.specs.RowOrder.{row_total, row_antisymmetric}
 use Rattle.rs_value.proofs.EncodingOrder.{from_above, rows_cmp}
 
 pub row_said_once : (types : List ColumnType) (bytes : List ℕ) (x y : Row) → SaysRow types bytes x → SaysRow types bytes y → x ≡ y

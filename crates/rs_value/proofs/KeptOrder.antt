@@ -10,7 +10,7 @@ use Rattle.rs_value.specs.Row.{Datum, null, number, text, Row, datum_cmp, row_cm
 use Rattle.rs_value.specs.Values.{IsValue, is_control}
 use Rattle.rs_value.specs.Kept.{above_least, kept_datum, kept_bytes, MayBeKept, Keeps}
 use Rattle.rs_value.proofs.EncodingOrder.{above_zeros, false_parts, not_control, less, greater, above_cmp, is_above, below_all, eight_bytes_cmp, beside_cmp, then_assoc, then_equal}
-use Rattle.rs_value.proofs.RowOrder.{row_antisymmetric}
+use Rattle.rs_value.specs.RowOrder.{row_antisymmetric}
 use Rattle.rs_value.proofs.KeptRows.{above_is, row_is}
 
 numbers_cmp : (n m : ℤ) → nat_abs n ≤ 10 ^ 12 → nat_abs m ≤ 10 ^ 12 → slice_cmp nat_cmp (to_be_bytes w64 (above_least n)) (to_be_bytes w64 (above_least m)) ≡ int_cmp n m

@@ -8,7 +8,7 @@ use Rattle.std.proofs.lemmas.List.{drop-drop}
 use Rattle.std.proofs.lemmas.Nat.{from_be_bytes-to_be_bytes_8}
 use Rattle.rs_value.specs.Row.{Datum, null, number, text, Row}
 use Rattle.rs_value.specs.Kept.{kept_datum, kept_bytes, MayBeKept, Keeps, is_zero, first_width, first_datum}
-use Rattle.rs_value.proofs.KeptRows.{front_keeps, rest_keeps, first_fits, first_is, keeps_is, keeps_none}
+use Rattle.rs_value.proofs.KeptRows.{front_keeps, rest_keeps, first_fits, first_is, keeps_is, keeps_none, datum_some}
 
 pub front_cut : (bytes front : List ℕ) (place : ℕ) (row : Row) → place ≡ min (first_width bytes) (length bytes) → front ≡ take place bytes → Keeps bytes row → Keeps front (take 1 row)
 front_cut bytes front place row at is h =
@@ -70,3 +70,16 @@ eight_said bytes eight above n cut few says at =
 -- one value more is passed
 pub dropped_more : (rest left : List ℕ) (count : ℕ) (row : Row) → ((r : Row) → Keeps rest r → Keeps left (drop 1 r)) → Keeps rest (drop count row) → Keeps left (drop (count + 1) row)
 dropped_more rest left count row one h = subst (λ r. Keeps left r) (drop-drop 1 count row) (one (drop count row) h)
+
+-- each value takes a byte at least
+few_kept : (row : Row) → length row ≤ length (kept_bytes row)
+few_kept [] = omega arith
+few_kept (d ∷ row) =
+    let some = datum_some d in
+    let more = few_kept row in
+    omega (arith, length-append (kept_datum d) (kept_bytes row))
+
+pub few_values : (bytes : List ℕ) (row : Row) → Keeps bytes row → length row ≤ length bytes
+few_values bytes row h =
+    let few = few_kept row in
+    omega (arith, ap length h.bytes_are)

@@ -1,4 +1,3 @@
-pub mod RowOrder
 pub mod EncodingOrder
 pub mod EncodingLaws
 mod EncodingSteps

@@ -1,4 +1,5 @@
 pub mod Row
+pub mod RowOrder
 pub mod Values
 pub mod View
 pub mod Fitting

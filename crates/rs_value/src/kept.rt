@@ -2,7 +2,7 @@
 //!
 //! A contract sees it as the row. Rows compare by their bytes, and no value is read but the one that is asked for.
 
-ghost use Rattle.std.specs.Prelude.{◌≡◌, ◌++◌, ◌↔◌, List, ℕ, map, get_or, replicate, IsTrue, IfOk, OnOk, IfSome, IfNone, string_bytes};
+ghost use Rattle.std.specs.Prelude.{◌≡◌, ◌++◌, ◌↔◌, List, ℕ, length, map, get_or, replicate, IsTrue, IfOk, OnOk, IfSome, IfNone, string_bytes};
 ghost use Rattle.rs_value.specs.Encoding.{SaysRow};
 ghost use Rattle.rs_value.specs.Kept.{MayBeKept};
 ghost use Rattle.rs_value.specs.LentView.{lent_datum};
@@ -12,7 +12,7 @@ ghost use Rattle.rs_value.specs.Values.{AreValues, IsRowOf};
 ghost use Rattle.rs_value.specs.View.{row_of};
 
 use crate::column::Schema;
-use crate::kept_bytes::{after_values, first_value};
+use crate::kept_bytes::{after_values, count_values, first_value};
 use crate::kept_encoding::{kept_of, push_encoded};
 use crate::kept_making::{bytes_of, bytes_of_nulls, columns_of, joined};
 use crate::kept_text::push_each;
@@ -82,12 +82,19 @@ impl KeptRow {
         Ok(KeptRow { bytes })
     }
 
+    /// How many values the row has.
+    pub fn width(&self) -> usize
+        ensures { result ≡ length self.now }
+    {
+        count_values(&self.bytes)
+    }
+
     /// The value in a column, the leftmost 0; NULL past the end.
-    pub fn value_at(&self, column: u8) -> LentValue<'_>
+    pub fn value_at(&self, column: usize) -> LentValue<'_>
         ensures value { lent_datum result ≡ get_or self.now column null }
         ensures kept { MayBeKept (lent_datum result) }
     {
-        first_value(after_values(&self.bytes, usize::from(column)))
+        first_value(after_values(&self.bytes, column))
     }
 
     /// The row that bytes of these columns say, as `encode` writes them; none as `decode`. The only refusal is for want of memory.

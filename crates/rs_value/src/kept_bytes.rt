@@ -104,6 +104,21 @@ pub(crate) fn after_values(bytes: &[u8], count: usize) -> &[u8]
     rest
 }
 
+/// How many values the bytes keep. Each takes a byte at least.
+pub(crate) fn count_values(bytes: &[u8]) -> usize
+    requires { (row : Row) × Keeps bytes.now row }
+    ensures { (row : Row) → Keeps bytes.now row → result ≡ length row }
+{
+    let most = bytes.len();
+    let mut rest = bytes;
+    let mut count = 0;
+    while count < most && !rest.is_empty() {
+        rest = split_first(rest).1;
+        count += 1;
+    }
+    count
+}
+
 /// The first value; NULL where there is none.
 pub(crate) fn first_value(bytes: &[u8]) -> LentValue<'_>
     requires { (row : Row) × Keeps bytes.now row }

@@ -13,6 +13,7 @@ mod kept_bytes;
 pub mod kept_encoding;
 pub mod kept_laws;
 mod kept_making;
+mod kept_order;
 pub mod kept_text;
 pub mod lent;
 pub mod limits;
@@ -29,7 +30,7 @@ pub use encoding_laws::{
     rows_have_one_width, said_row_is_of_its_columns,
 };
 pub use fitting::fits;
-pub use kept::KeptRow;
+pub use kept::{KeptRow, compare_rows, push_values, same_row};
 pub use kept_encoding::says_row;
 pub use kept_laws::{
     each_row_is_kept, kept_bytes_compare_as_rows, kept_bytes_keep_one_row,
@@ -37,7 +38,7 @@ pub use kept_laws::{
 };
 pub use kept_text::push_lent;
 pub use lent::LentValue;
-pub use row_order::{compare_rows, row_order_is_total, same_row, tied_rows_are_equal};
-pub use row_text::{push_doubled, push_value, push_values};
+pub use row_order::{row_order_is_total, tied_rows_are_equal};
+pub use row_text::{push_doubled, push_value};
 pub use text::{as_text, has_control};
 pub use value::{Literal, Tuple, Value};

@@ -3,23 +3,12 @@
 //! It promises that exactly this text is appended, unless memory runs out.
 
 ghost use Rattle.std.specs.Prelude.{◌≡◌, ◌++◌, OnOk, string_bytes};
-ghost use Rattle.rs_value.specs.View.{datum_of, row_of};
-ghost use Rattle.rs_value.specs.Text.{quotes_doubled, datum_text, values_text};
+ghost use Rattle.rs_value.specs.View.{datum_of};
+ghost use Rattle.rs_value.specs.Text.{quotes_doubled, datum_text};
 
 use crate::value::Value;
 use itoa::Buffer;
 use std::alloc::AllocError;
-
-/// Appends a space and the text of each value of a row. Where memory runs out, a part may have been appended.
-pub fn push_values(text: &mut String, values: &[Value]) -> Result<(), AllocError>
-    ensures { OnOk result (string_bytes text.new ≡ string_bytes text.old ++ values_text (row_of values.now)) }
-{
-    for value in values {
-        text.push(' ')?;
-        push_value(text, value)?;
-    }
-    Ok(())
-}
 
 /// Appends the text of a value. Where memory runs out, a part may have been appended.
 pub fn push_value(text: &mut String, value: &Value) -> Result<(), AllocError>

@@ -1,6 +1,5 @@
 -- What the calls that write and read cells do.
-use Rattle.std.proofs.Common.{◌≡◌, ◌≤◌, ◌+◌, ◌-◌, ℕ, Bool, List, ◌++◌, length, take, drop, replicate, Option, Some, None, IfSome, IfNone, IsTrue, is_some, sym, ap, ◌∙◌, subst, arith}
-use Rattle.std.proofs.lemmas.Bool.{false≢true}
+use Rattle.std.proofs.Common.{◌≡◌, ◌≤◌, ◌+◌, ◌-◌, ℕ, Bool, List, ◌++◌, length, take, drop, replicate, IsTrue, ◌↔◌, sym, ap, ◌∙◌, subst, arith}
 use Rattle.std.proofs.lemmas.List.{append_assoc, length-append, take_all}
 use Rattle.byteorder.specs.Endian.{big_from}
 use Rattle.byteorder.specs.Numbers.{big_from-take}
@@ -43,11 +42,8 @@ module _ (types : List ColumnType) (width : ℕ) (cell : List ℕ) (is : width �
   pub row_said_there : (event : Event) → SaysEvent types cell event → SaysRow types (take (8 + width - 8) (drop 8 cell)) event.row
   row_said_there event says = subst (λ b. SaysRow types b event.row) (sym part_is) (event_row_at types cell event says)
 
-  pub says_where_decoded : {T : Type 0} (o : Option T) (row_of : T → Row) (b : Bool) → AreBytes cell → b ≡ is_some o
-      → IfSome o (λ t. SaysRow types (take (8 + width - 8) (drop 8 cell)) (row_of t)) → IfNone o ((row : Row) → SaysRow types (take (8 + width - 8) (drop 8 cell)) row → ⊥)
-      → (IsTrue b → (event : Event) × SaysEvent types cell event) × (((event : Event) × SaysEvent types cell event) → IsTrue b)
-  says_where_decoded (Some t) row_of b small told some none = (λ yes. (event_at width cell (row_of t), event_said (row_of t) small some), λ there. told)
-  says_where_decoded None row_of b small told some none = (
-    λ yes. absurd (false≢true (sym told ∙ yes)),
-    λ there. absurd (none there.0.row (row_said_there there.0 there.1)),
+  pub says_where_row_said : (b : Bool) → AreBytes cell → IsTrue b ↔ ((row : Row) × SaysRow types (take (8 + width - 8) (drop 8 cell)) row) → IsTrue b ↔ ((event : Event) × SaysEvent types cell event)
+  says_where_row_said b small says = (
+    λ yes. (let row = says.0 yes in (event_at width cell row.0, event_said row.0 small row.1)),
+    λ there. says.1 (there.0.row, row_said_there there.0 there.1),
   )

@@ -11,7 +11,6 @@ use Rattle.rs_interval.specs.Finding.{event_form}
 use Rattle.rs_value.specs.declared.column.ColumnType.{ColumnType}
 use Rattle.rs_value.specs.Encoding.{SaysRow, row_width}
 use Rattle.rs_value.specs.Row.{Row}
-use Rattle.rs_value.specs.View.{row_of}
 use Rattle.rs_cell_versions.specs.declared.cell.TheConstants.{LIVING}
 use Rattle.rs_versioned.specs.Records.{Kept}
 
@@ -26,7 +25,7 @@ pub record Event : Type 0 where
 
 -- the span's row on the route, as versions from this one on see it
 abbrev pub event_of : ℕ → Span → ℕ → Event
-event_of route span version = record { route = route; lo = span.lo; hi = span.hi; row = row_of span.tuple.items; born = version; died = LIVING }
+event_of route span version = record { route = route; lo = span.lo; hi = span.hi; row = span.tuple; born = version; died = LIVING }
 
 -- the cell says the event, with a row of these columns
 pub record SaysEvent (types : List ColumnType) (cell : List ℕ) (event : Event) : Type 0 where

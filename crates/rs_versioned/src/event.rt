@@ -9,14 +9,13 @@ ghost use Rattle.rs_refusal.specs.declared.refusal.Refusal.TheVariants as refusa
 ghost use Rattle.rs_value.specs.declared.column.ColumnType.{ColumnType};
 ghost use Rattle.rs_value.specs.Encoding.{SaysRow, row_width};
 ghost use Rattle.rs_value.specs.Values.{IsRowOf};
-ghost use Rattle.rs_value.specs.View.{row_of};
 ghost use Rattle.rs_versioned.specs.Events.{Event, SaysEvent, event_of, event_width, span_of};
 
 use byteorder::{BigEndian, ByteOrder};
 use rs_cell_versions::LIVING;
-use rs_facts::fact::{Span, kept_row};
+use rs_facts::fact::Span;
 use rs_refusal::Refusal;
-use rs_value::{Schema, Value, decode, encode, row_width};
+use rs_value::{KeptRow, Schema, row_width, says_row};
 use std::alloc::{AllocError, Global};
 
 /// The bytes of an event's cell beside those of its row.
@@ -33,28 +32,17 @@ pub fn cell_of(
     span: &Span,
     born: u64,
 ) -> Result<Vec<u8>, AllocError>
-    requires row { IsRowOf schema.now.items (row_of span.now.tuple.items) }
+    requires row { IsRowOf schema.now.items span.now.tuple }
     ensures says { IfOk result (λ cell. SaysEvent schema.now.items cell.items (event_of route span.now born)) }
 {
     let mut cell = Vec::new(alloc);
     cell.extend_from_slice(&route.to_be_bytes())?;
     cell.extend_from_slice(&span.lo.to_be_bytes())?;
-    push_row(&mut cell, schema, &span.tuple)?;
+    span.tuple.push_encoded(schema, &mut cell)?;
     cell.extend_from_slice(&born.to_be_bytes())?;
     cell.extend_from_slice(&span.hi.to_be_bytes())?;
     cell.extend_from_slice(&LIVING.to_be_bytes())?;
     Ok(cell)
-}
-
-/// Puts a row after the bytes, as it is encoded.
-fn push_row(bytes: &mut Vec<u8>, schema: &Schema, values: &[Value]) -> Result<(), AllocError>
-    requires row { IsRowOf schema.now.items (row_of values.now) }
-    ensures { OnOk result ((row : List ℕ) × SaysRow schema.now.items row (row_of values.now) × (bytes.new.items ≡ bytes.old.items ++ row)) }
-{
-    let start = bytes.len();
-    bytes.resize(start.saturating_add(row_width(schema)), 0)?;
-    encode(schema, values, &mut bytes[start..]);
-    Ok(())
 }
 
 /// The number of the route that an event is on.
@@ -71,7 +59,7 @@ pub fn says_event(schema: &Schema, cell: &[u8]) -> bool
     ensures { IsTrue result ↔ ((event : Event) × SaysEvent schema.now.items cell.now event) }
 {
     let end = FRONT_BYTES + row_width(schema);
-    decode(schema, &cell[FRONT_BYTES..end]).is_some()
+    says_row(schema, &cell[FRONT_BYTES..end])
 }
 
 /// The span of an event. It is refused with 90, and with 94 where the cell says no event with a row of these columns.
@@ -83,13 +71,10 @@ pub fn span_of(alloc: Global, schema: &Schema, cell: &[u8]) -> Result<Span, Refu
         ⊎ ((why ≡ refusals.DamagedFile) × ((event : Event) → SaysEvent schema.now.items cell.now event → ⊥))) }
 {
     let end = FRONT_BYTES + row_width(schema);
-    let Some(tuple) = decode(schema, &cell[FRONT_BYTES..end]) else {
+    let Some(tuple) = KeptRow::of_encoded(alloc, schema, &cell[FRONT_BYTES..end])? else {
         return Err(Refusal::DamagedFile);
     };
     let lo = BigEndian::read_u32(&cell[4..]);
     let hi = BigEndian::read_u32(&cell[end + 8..]);
-    match kept_row(alloc, &tuple) {
-        Ok(tuple) => Ok(Span { lo, hi, tuple }),
-        Err(_) => Err(Refusal::OutOfMemory),
-    }
+    Ok(Span { lo, hi, tuple })
 }

@@ -7,7 +7,6 @@ ghost use Rattle.rs_pages.specs.Calls.{OnlyReads};
 ghost use Rattle.rs_pages.specs.PageMap.{PageMap};
 ghost use Rattle.rs_records.specs.Listed.{record_width};
 ghost use Rattle.rs_value.specs.Values.{IsRowOf};
-ghost use Rattle.rs_value.specs.View.{row_of};
 ghost use Rattle.rs_cell_versions.specs.Versioned.{nothing_stands};
 ghost use Rattle.rs_versioned.specs.Calls.{Adds, KeepsTable, Leaves, RefusesReading, Sees};
 ghost use Rattle.rs_versioned.specs.Events.{event_of, event_width, is_visible, kept_events};
@@ -114,7 +113,7 @@ impl RecordTable<Events> {
         span: &Span,
     ) -> Result<bool, Refusal>
         requires begun { (P.store pages.old).is_begun ≡ true }
-        requires row { IsRowOf self.old.types (row_of span.now.tuple.items) }
+        requires row { IsRowOf self.old.types span.now.tuple }
         ensures leaves { Leaves P.Pages kept_events self.old result pages.old pages.new }
         ensures adds { Adds P.Pages kept_events self.old self.new (event_of route span.now version) result pages.old pages.new }
         ensures table { KeepsTable result self.old self.new }

@@ -1,6 +1,6 @@
-//! Of which cursors lines are kept ahead.
+//! Of which cursors routes and lines are kept ahead.
 //!
-//! It promises that lines that are taken are those that were put for the cursor.
+//! It promises that what is taken is what was put for the cursor.
 
 ghost use Rattle.std.specs.Prelude.{◌≡◌, ◌<◌, ◌⊎◌, [], Contains, IfSome, length, slice_index_or};
 ghost use Rattle.std.specs.Bool.{Decides};
@@ -8,13 +8,13 @@ ghost use Rattle.rs_engine.specs.Ahead.{IsAheadOf, IsNewest, IsOf};
 ghost use Rattle.rs_engine.specs.declared.engine.ahead.Ahead.{Ahead};
 
 use crate::engine::ahead::{Ahead, LinesAhead, SLOTS};
-use rs_cursor::kept::KeptLines;
+use rs_cursor::kept::KeptAhead;
 use rs_methods::Name;
 use rs_serve::Session;
 use std::alloc::Global;
 
 impl LinesAhead {
-    /// No lines. It takes no memory.
+    /// Nothing. It takes no memory.
     pub(crate) fn new(alloc: Global) -> LinesAhead
         ensures { result.slots.items ≡ [] }
     {
@@ -23,22 +23,22 @@ impl LinesAhead {
         }
     }
 
-    /// Takes the lines that were formed ahead of this cursor, if any were.
-    pub(crate) fn take(&mut self, session: Session, name: &Name) -> Option<KeptLines>
-        ensures lines { IfSome result (IsAheadOf session name.now.bytes self.old.slots.items) }
+    /// Takes what is kept of this cursor, if anything is.
+    pub(crate) fn take(&mut self, session: Session, name: &Name) -> Option<KeptAhead>
+        ensures kept { IfSome result (IsAheadOf session name.now.bytes self.old.slots.items) }
         ensures others { (one : Ahead) → Contains self.new.slots.items one → Contains self.old.slots.items one }
     {
         let place = place_of(&self.slots, session, name)?;
         let one = self.slots.remove(place);
-        Some(one.lines)
+        Some(one.kept)
     }
 
-    /// Keeps lines of this cursor, if there are any. Where lines of four cursors are kept, those that were put first go. Where memory is
-    /// wanting, none of this cursor are kept.
-    pub(crate) fn put(&mut self, session: Session, name: &Name, lines: Option<KeptLines>)
-        ensures { (one : Ahead) → Contains self.new.slots.items one → Contains self.old.slots.items one ⊎ IsNewest session name.now.bytes lines one }
+    /// Keeps this of the cursor, if there is anything. Where something of four cursors is kept, what was put first goes. Where memory is
+    /// wanting, nothing of this cursor is kept.
+    pub(crate) fn put(&mut self, session: Session, name: &Name, kept: Option<KeptAhead>)
+        ensures { (one : Ahead) → Contains self.new.slots.items one → Contains self.old.slots.items one ⊎ IsNewest session name.now.bytes kept one }
     {
-        let Some(lines) = lines else {
+        let Some(kept) = kept else {
             return;
         };
         if self.slots.len() == SLOTS {
@@ -47,18 +47,18 @@ impl LinesAhead {
         let _is_kept = self.slots.push(Ahead {
             session,
             name: *name,
-            lines,
+            kept,
         });
     }
 
-    /// Drops the lines of this cursor, if any are kept.
+    /// Drops what is kept of this cursor.
     pub(crate) fn forget(&mut self, session: Session, name: &Name)
         ensures { (one : Ahead) → Contains self.new.slots.items one → Contains self.old.slots.items one }
     {
-        let _lines = self.take(session, name);
+        let _kept = self.take(session, name);
     }
 
-    /// Drops all lines.
+    /// Drops all.
     pub(crate) fn clear(&mut self)
         ensures { self.new.slots.items ≡ [] }
     {
@@ -67,7 +67,7 @@ impl LinesAhead {
 }
 
 impl Ahead {
-    /// Whether these are lines of this cursor.
+    /// Whether this is kept of this cursor.
     fn is_of(&self, session: Session, name: &Name) -> bool
         ensures { Decides result (IsOf session name.now.bytes self.now) }
     {
@@ -75,7 +75,7 @@ impl Ahead {
     }
 }
 
-/// Where lines of this cursor are kept, if any are.
+/// Where something of this cursor is kept, if anything is.
 fn place_of(slots: &[Ahead], session: Session, name: &Name) -> Option<usize>
     ensures within { IfSome result (λ place. place < length slots.now) }
     ensures there { IfSome result (λ place. (one : Ahead) → IsOf session name.now.bytes (slice_index_or slots.now place one)) }

@@ -1,10 +1,7 @@
 use Rattle.std.proofs.Common.{sym, subst}
-use Rattle.rs_exec.specs.Changes.{IsNarrow, IsChanged}
+use Rattle.rs_exec.specs.Changes.{IsChanged}
 use Rattle.rs_exec.proofs.changes.changed.Goals as goal
 use Rattle.rs_exec.proofs.changes.changed.Goals.{in-Where, in-Dissolve+in_ok-dissolve-in-Dissolve}
-
-pub dissolve-requires-clause-few : goal.dissolve-requires-clause-few
-dissolve-requires-clause-few c = subst IsNarrow c.in-Dissolve.is c.requires.narrow
 
 pub returns : goal.returns
 returns c = elim c.match-change.branch [

@@ -1,13 +1,12 @@
 -- A span that is met is copied after those before it, and its copy has the same row.
 use Rattle.std.proofs.Common.{◌≡◌, map, filter, take, true, false, cond, Bool, List, [], ◌∷◌, ◌+◌, ◌++◌, refl, ap, sym, ◌∙◌}
 use Rattle.std.proofs.lemmas.List.{map_push, map_more}
-use Rattle.rs_value.specs.View.{row_of}
 use Rattle.rs_facts.specs.Runs.{Stretch, stretch}
 use Rattle.rs_facts.specs.Spans.{seen}
 use Rattle.rs_exec.specs.Carried.{meets}
 use Rattle.rs_exec.proofs.CarriedSpans.{filter-last}
 use Rattle.rs_exec.proofs.copies.copies_meeting.Goals as goal
-use Rattle.rs_exec.proofs.copies.copies_meeting.Goals.{then-is_met+in_ok-kept_row+in_ok-push, else-is_met}
+use Rattle.rs_exec.proofs.copies.copies_meeting.Goals.{then-is_met+in_ok-copied+in_ok-push, else-is_met}
 
 append_nil : (xs : List Stretch) → xs ++ [] ≡ xs
 append_nil [] = refl
@@ -25,13 +24,13 @@ more c test is =
 
 pub loop-span-preserved : goal.loop-span-preserved
 loop-span-preserved c = elim c.if-is_met.branch [
-  | then-is_met+in_ok-kept_row+in_ok-push w ↦
+  | then-is_met+in_ok-copied+in_ok-push w ↦
       let old = c.span-item.result in
-      let tuple = w.in_ok-kept_row.field-0 in
+      let tuple = w.in_ok-copied.field-0 in
       ap (λ v. map seen v.items) w.copies-is
       ∙ ap (map seen) w.in_ok-push.ensures.items
       ∙ map_push seen c.loop-span.copies.items (record { lo = old.lo; hi = old.hi; tuple = tuple })
-      ∙ ap (λ values. map seen c.loop-span.copies.items ++ stretch old.lo old.hi (row_of values) ∷ []) (w.in_ok-kept_row.ensures ∙ w.deref.ensures.value)
+      ∙ ap (λ row. map seen c.loop-span.copies.items ++ stretch old.lo old.hi row ∷ []) w.in_ok-copied.ensures
       ∙ sym (more c true (sym c.is_met.ensures ∙ w.if-is_met.true))
   | else-is_met w ↦
       ap (λ v. map seen v.items) w.copies-is

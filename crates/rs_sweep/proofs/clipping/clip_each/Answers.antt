@@ -1,5 +1,4 @@
 use Rattle.std.proofs.Common.{map, get_or, refl, ap, ◌∙◌, arith}
-use Rattle.rs_value.specs.View.{row_of}
 use Rattle.rs_facts.specs.Runs.{stretch}
 use Rattle.rs_facts.specs.Spans.{seen}
 use Rattle.rs_sweep.specs.Inner.{clipped}
@@ -10,7 +9,7 @@ pub loop-span-init : goal.loop-span-init
 loop-span-init c = refl
 
 pub loop-span-preserved : goal.loop-span-preserved
-loop-span-preserved c = edits-more (clipped c.args.lo c.args.hi) c.loop-span.span-items c.loop-span.span-index _ c.span-item.result _ (omega (arith, c.loop-span-test.true, c.loop-span.auto.span-items)) (λ i. stretch (c.max-span.ensures i) (c.min-span.ensures i) (row_of (get_or c.loop-span.span-items c.loop-span.span-index c.span-item.result).tuple.items)) c.loop-span.invariant
+loop-span-preserved c = edits-more (clipped c.args.lo c.args.hi) c.loop-span.span-items c.loop-span.span-index _ c.span-item.result _ (omega (arith, c.loop-span-test.true, c.loop-span.auto.span-items)) (λ i. stretch (c.max-span.ensures i) (c.min-span.ensures i) (get_or c.loop-span.span-items c.loop-span.span-index c.span-item.result).tuple) c.loop-span.invariant
 
 pub returns : goal.returns
 returns c = edits-end (clipped c.args.lo c.args.hi) c.loop-span.span-items c.loop-span.span-index c.args.spans.now.len c.args.spans.now.items _ (omega (arith, c.loop-span-test.false, c.loop-span.auto.span-items)) (omega (arith, c.loop-span.auto.span-items, c.deref_mut-span-items.ensures.len)) (c.loop-span.invariant ∙ ap (λ zs. map (clipped c.args.lo c.args.hi) (map seen zs)) c.deref_mut-span-items.ensures.value)

@@ -1,5 +1,4 @@
 use Rattle.std.proofs.Common.{map, take}
-use Rattle.rs_value.specs.View.{row_of}
 use Rattle.rs_facts.specs.Spans.{seen}
 use Rattle.rs_coalesce.specs.Lent.{seen_lent}
 use Rattle.rs_sweep.specs.Inner.{joined_with}
@@ -9,4 +8,4 @@ use Rattle.rs_sweep.specs.declared.taken.Rows.TheVariants.{All}
 use Rattle.rs_sweep.proofs.covering.pad.Given as goal
 
 abbrev pub invariant-loop-span : goal.invariant-loop-span
-invariant-loop-span l = IsCut (joined_with l.side (row_of l.nulls)) All (map (taken_of All) l.taken) (map seen_lent (take l.span-index l.spans)) (map seen l.initial.found.items) (map seen l.found.items)
+invariant-loop-span l = IsCut (joined_with l.side l.nulls) All (map (taken_of All) l.taken) (map seen_lent (take l.span-index l.spans)) (map seen l.initial.found.items) (map seen l.found.items)

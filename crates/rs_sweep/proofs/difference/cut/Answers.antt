@@ -1,5 +1,4 @@
 use Rattle.std.proofs.Common.{map, refl, ap, ◌∙◌}
-use Rattle.rs_value.specs.View.{row_of}
 use Rattle.rs_facts.specs.Spans.{seen}
 use Rattle.rs_sweep.specs.Parts.{unchanged}
 use Rattle.rs_sweep.proofs.CutLaws.{parts-pushed, parts-end, parts-none, parts-last}
@@ -10,7 +9,7 @@ returns-in_default c = parts-none unchanged (seen c.args.span) (map seen c.args.
 
 pub loop-part-preserved : goal.loop-part-preserved
 loop-part-preserved c = parts-pushed unchanged (seen c.args.span) c.loop-part.kept.items _ _ c.in-Some.others.now c.loop-part.part-index _ _ c.in_ok-push.ensures.items c.loop-part-test.true refl refl
-    (ap row_of (c.in_ok-kept_row.ensures ∙ c.deref.ensures.value)) c.loop-part.invariant
+    c.in_ok-copied.ensures c.loop-part.invariant
 
 pub returns : goal.returns
 returns c =

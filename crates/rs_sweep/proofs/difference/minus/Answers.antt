@@ -1,6 +1,5 @@
 use Rattle.std.proofs.Common.{◌≡◌, not, ◌&&◌, refl, [], ◌++◌, length, map, sym, ap, ◌∙◌, subst, arith}
 use Rattle.std.proofs.lemmas.List.Sorted.{IsPermutation-map}
-use Rattle.rs_value.specs.View.{row_of}
 use Rattle.rs_value.specs.declared.column.Kind.TheVariants.{Line}
 use Rattle.rs_facts.specs.Fact.{contains}
 use Rattle.rs_facts.specs.Insert.{within}
@@ -30,7 +29,7 @@ loop-span-preserved c = record {
   whole = whole-next c.loop-span.yielded c.loop-span.span-iterator.rest.items c.next.new.self.rest.items c.args.left.items c.in-Some.span c.in-Some.ensures.steps.0 c.loop-span.invariant.whole;
   counted = let e = ap length c.in-Some.ensures.steps.0 in let f = c.in-Some.ensures.steps.1 in omega (arith, e, f, c.loop-span.invariant.counted);
   cut = cut-next seen unchanged Each (map (taken_of Each) c.in_ok-taken.taken.items) c.loop-span.yielded [] _ _ c.in-Some.span _ c.parts_outside.new.parts.items refl c.loop-span.invariant.cut
-      (λ k. c.in_ok-parts_outside.ensures.free k ∙ ap (λ zs. within c.in-Some.span.lo c.in-Some.span.hi k && not (contains (places_of (map (taken_of Each) zs) k) (row_of c.in-Some.span.tuple.items))) c.as_slice.ensures.value)
+      (λ k. c.in_ok-parts_outside.ensures.free k ∙ ap (λ zs. within c.in-Some.span.lo c.in-Some.span.hi k && not (contains (places_of (map (taken_of Each) zs) k) c.in-Some.span.tuple)) c.as_slice.ensures.value)
       c.in_ok-parts_outside.ensures.inside
       (c.in_ok-cut.ensures ∙ ap (λ zs. map seen c.loop-span.kept.items ++ map (changed_part unchanged (seen c.in-Some.span)) zs) c.as_slice-in-loop-span.ensures.value);
 }

@@ -1,6 +1,5 @@
 use Rattle.std.proofs.Common.{◌≡◌, filter, map, sym, ap, ◌∙◌, subst, rules}
 use Rattle.std.proofs.lemmas.Fn.{filter_same}
-use Rattle.rs_value.specs.View.{row_of}
 use Rattle.rs_facts.specs.Condition as said
 use Rattle.rs_facts.specs.ConditionView.{condition_of}
 use Rattle.rs_facts.specs.declared.fact.Span.{Span}
@@ -12,7 +11,7 @@ use Rattle.rs_sweep.proofs.Edits.{selected-means, selected-sorted, selected-plac
 use Rattle.rs_sweep.proofs.filter.select.Goals as goal
 
 is : (c : goal.After-retain) → map seen c.retain.new.self.items ≡ filter (λ (s : Stretch). said.meets (condition_of c.args.condition.now) s.row) (map seen c.args.spans.now.items)
-is c = ap (map seen) (filter_same _ (λ (s : Span). said.meets (condition_of c.args.condition.now) (row_of s.tuple.items)) _ (λ x b f' k. search rules) _ _ c.retain.ensures.filtered) ∙ map-filter (λ (s : Stretch). said.meets (condition_of c.args.condition.now) s.row) c.args.spans.now.items
+is c = ap (map seen) (filter_same _ (λ (s : Span). said.meets (condition_of c.args.condition.now) s.tuple) _ (λ x b f' k. search rules) _ _ c.retain.ensures.filtered) ∙ map-filter (λ (s : Stretch). said.meets (condition_of c.args.condition.now) s.row) c.args.spans.now.items
 
 pub returns-clause-means : goal.returns-clause-means
 returns-clause-means c = λ k. ap (λ zs. places_of zs k) (is c) ∙ selected-means (said.meets (condition_of c.args.condition.now)) (map seen c.args.spans.now.items) k

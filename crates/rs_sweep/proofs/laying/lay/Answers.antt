@@ -1,8 +1,6 @@
-use Rattle.std.proofs.Common.{◌≡◌, ◌≤◌, ◌+◌, true, false, [], ◌++◌, length, map, drop, refl, sym, ap, ◌∙◌, subst, arith}
+use Rattle.std.proofs.Common.{◌≡◌, ◌+◌, true, false, [], ◌++◌, length, map, drop, refl, sym, ap, ◌∙◌, arith}
 use Rattle.std.proofs.lemmas.List.{drop_all}
-use Rattle.std.specs.List.{AllByRecursion}
 use Rattle.std.specs.Prelude.{nat_lt}
-use Rattle.rs_value.specs.declared.column.TheConstants.{COLUMNS}
 use Rattle.rs_facts.specs.Spans.{seen}
 use Rattle.rs_coalesce.specs.Lent.{seen_lent}
 use Rattle.rs_sweep.specs.Inner.{laid}
@@ -14,11 +12,7 @@ loop-other-init c = record {
   so_far = refl;
   counted = omega arith;
   least = omega arith;
-  fit = c.requires;
 }
-
-pub piece-requires : goal.piece-requires
-piece-requires c = (subst (AllByRecursion (λ other. length (seen c.args.one.now).row + length other.row ≤ COLUMNS)) (rest-at c.args.others.now c.loop-other.other-index c.other-item.result c.loop-other-test.true c.other-item.is) c.loop-other.invariant.fit).0
 
 pub loop-other-preserved : goal.loop-other-preserved
 loop-other-preserved c =
@@ -30,7 +24,6 @@ loop-other-preserved c =
           ∙ found-more c.args.side (seen c.args.one.now) c.loop-other.found.items c.in_ok-piece.field-0 (seen_lent c.other-item.result) _ _ _ rest met c.in_ok-piece.ensures.piece c.loop-other.invariant.so_far;
       counted = omega (arith, long, c.is_below.ensures.counted, c.in_ok-piece.ensures.counted, c.loop-other.invariant.counted);
       least = omega (arith, long, c.is_below.ensures.counted, c.in_ok-piece.ensures.counted, c.loop-other.invariant.least);
-      fit = (subst (AllByRecursion (λ other. length (seen c.args.one.now).row + length other.row ≤ COLUMNS)) rest c.loop-other.invariant.fit).1;
     }
 
 pub returns-after-loop-other : goal.returns-after-loop-other

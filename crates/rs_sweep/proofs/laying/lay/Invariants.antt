@@ -1,6 +1,4 @@
 use Rattle.std.proofs.Common.{◌≡◌, ◌≤◌, ◌+◌, ◌-◌, ◌*◌, ◌^◌, min, ◌++◌, length, map, drop}
-use Rattle.std.specs.List.{AllByRecursion}
-use Rattle.rs_value.specs.declared.column.TheConstants.{COLUMNS}
 use Rattle.rs_facts.specs.Spans.{seen}
 use Rattle.rs_coalesce.specs.Lent.{seen_lent}
 use Rattle.rs_sweep.specs.Inner.{laid}
@@ -12,5 +10,4 @@ invariant-loop-other l = record {
   so_far : map seen l.found.items ++ laid l.side (seen l.one) (map seen_lent (drop l.other-index l.others)) ≡ map seen l.initial.found.items ++ laid l.side (seen l.one) (map seen_lent l.others);
   counted : l.comparisons.made + 2 * length (laid l.side (seen l.one) (map seen_lent (drop l.other-index l.others))) ≤ l.initial.comparisons.made + 2 * length (laid l.side (seen l.one) (map seen_lent l.others));
   least : min (l.initial.comparisons.made + 2 * length (laid l.side (seen l.one) (map seen_lent l.others))) (2 ^ 64 - 1) ≤ l.comparisons.made + 2 * length (laid l.side (seen l.one) (map seen_lent (drop l.other-index l.others)));
-  fit : AllByRecursion (λ other. length (seen l.one).row + length other.row ≤ COLUMNS) (map seen_lent (drop l.other-index l.others));
 }

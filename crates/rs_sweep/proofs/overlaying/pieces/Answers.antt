@@ -1,40 +1,34 @@
 use Rattle.std.proofs.Common.{ℕ, Bor, ◌≤◌, ◌+◌, ◌-◌, ◌*◌, ◌^◌, min, inl, inr, List, [], ◌++◌, length, map, sym, ap, ◌∙◌, subst, arith}
 use Rattle.std.proofs.lemmas.Bool.{ltb-true, ltb-false}
 use Rattle.std.proofs.lemmas.List.{drop_all, take_rest, length-map}
-use Rattle.std.specs.List.{AllByRecursion}
-use Rattle.rs_value.specs.declared.column.TheConstants.{COLUMNS}
 use Rattle.rs_value.specs.declared.column.Kind.TheVariants.{Line}
 use Rattle.rs_facts.specs.declared.fact.Span.{Span}
 use Rattle.rs_facts.specs.Spans.{seen, ArePlaced}
 use Rattle.rs_coalesce.specs.Lent.{seen_lent}
 use Rattle.rs_sweep.specs.Inner.{laid}
-use Rattle.rs_sweep.specs.Lists.{AreSorted, Fit, pairs}
+use Rattle.rs_sweep.specs.Lists.{AreSorted, pairs}
 use Rattle.rs_sweep.specs.declared.laying.Side.TheVariants.{Left, Right}
 use Rattle.rs_sweep.proofs.LaidSpans.{rest-at}
-use Rattle.rs_sweep.proofs.SweptPairs.{Swept, swept-start, swept-end, step-left, step-right, fits-left, fits-right}
+use Rattle.rs_sweep.proofs.SweptPairs.{Swept, swept-start, swept-end, step-left, step-right}
 use Rattle.rs_sweep.proofs.LeastCount.{counts-start, counts-left, counts-right, counts-end}
 use Rattle.rs_sweep.proofs.overlaying.pieces.Goals as goal
 use Rattle.rs_sweep.proofs.overlaying.pieces.Goals.{then-loop-i-test+else-j-right, else-loop-i-test}
 
 -- at the start nothing is found; the lists are as long as what they mean
-start : (left right : List (Bor Span)) (made : ℕ) → AreSorted (map seen_lent left) → AreSorted (map seen_lent right) → ArePlaced Line (map seen_lent left) → ArePlaced Line (map seen_lent right) → Fit (map seen_lent left) (map seen_lent right)
+start : (left right : List (Bor Span)) (made : ℕ) → AreSorted (map seen_lent left) → AreSorted (map seen_lent right) → ArePlaced Line (map seen_lent left) → ArePlaced Line (map seen_lent right)
     → Swept (map seen_lent left) (map seen_lent right) (map seen_lent left) (map seen_lent right) [] made (made + 2 * (length left + length right) + 2 * pairs (map seen_lent left) (map seen_lent right))
-start left right made a b d e f =
+start left right made a b d e =
     subst (λ n. Swept (map seen_lent left) (map seen_lent right) (map seen_lent left) (map seen_lent right) [] made (made + 2 * n + 2 * pairs (map seen_lent left) (map seen_lent right))) (λ i. length-map left seen_lent i + length-map right seen_lent i)
-    (swept-start (map seen_lent left) (map seen_lent right) made a b d e f)
+    (swept-start (map seen_lent left) (map seen_lent right) made a b d e)
 
 pub loop-i-init : goal.loop-i-init
 loop-i-init c = record {
   left_end = omega arith;
   right_end = omega arith;
   swept = subst (λ zs. Swept (map seen_lent c.args.left.now) (map seen_lent c.args.right.now) (map seen_lent c.args.left.now) (map seen_lent c.args.right.now) (map seen zs) c.args.comparisons.now.made (c.args.comparisons.now.made + 2 * (length c.args.left.now + length c.args.right.now) + 2 * pairs (map seen_lent c.args.left.now) (map seen_lent c.args.right.now))) (sym c.new-found.ensures.items)
-      (start c.args.left.now c.args.right.now c.args.comparisons.now.made c.requires.left_sorted c.requires.right_sorted c.requires.left_placed c.requires.right_placed c.requires.fits);
+      (start c.args.left.now c.args.right.now c.args.comparisons.now.made c.requires.left_sorted c.requires.right_sorted c.requires.left_placed c.requires.right_placed);
   least = counts-start (map seen_lent c.args.left.now) (map seen_lent c.args.right.now) c.args.comparisons.now.made _ _ (length-map c.args.left.now seen_lent) (length-map c.args.right.now seen_lent);
 }
-
-pub lay-requires : goal.lay-requires
-lay-requires c = subst (λ zs. AllByRecursion (λ other. length (seen_lent c.index-left-i.result).row + length other.row ≤ COLUMNS) (map seen_lent zs)) (sym (take_rest c.args.right.now c.loop-i.j))
-    (fits-left _ _ _ (seen_lent c.index-left-i.result) (rest-at c.args.left.now c.loop-i.i c.index-left-i.result c.loop-i-test.true c.index-left-i.is) c.loop-i.invariant.swept.fit)
 
 pub loop-i-preserved-then-is_below : goal.loop-i-preserved-then-is_below
 loop-i-preserved-then-is_below c =
@@ -55,10 +49,6 @@ loop-i-preserved-then-is_below c =
           (rest-at c.args.left.now c.loop-i.i c.index-left-i.result c.loop-i-test.true c.index-left-i.is)
           c.loop-i.invariant.swept.sorted_right c.loop-i.invariant.least (omega (arith, least, c.is_below.ensures.counted));
     }
-
-pub lay-requires-else-is_below : goal.lay-requires-else-is_below
-lay-requires-else-is_below c = subst (λ zs. AllByRecursion (λ other. length (seen_lent c.index-right-j.result).row + length other.row ≤ COLUMNS) (map seen_lent zs)) (sym (take_rest c.args.left.now c.loop-i.i))
-    (fits-right _ _ _ (seen_lent c.index-right-j.result) (rest-at c.args.right.now c.loop-i.j c.index-right-j.result c.if-j-right.true c.index-right-j.is) c.loop-i.invariant.swept.fit)
 
 pub loop-i-preserved : goal.loop-i-preserved
 loop-i-preserved c =

@@ -1,5 +1,4 @@
 use Rattle.std.proofs.Common.{◌≡◌, ◌↔◌, IsTrue, ◌∙◌, sym, refl}
-use Rattle.rs_value.specs.View.{row_of}
 use Rattle.rs_facts.specs.Spans.{seen}
 use Rattle.rs_sweep.specs.Taken.{keyed, taken_of}
 use Rattle.rs_sweep.proofs.PartLaws.{met-same, met-far}
@@ -8,13 +7,13 @@ use Rattle.rs_sweep.proofs.parts.is_met.Goals as goal
 
 pub returns-in-All : goal.returns-in-All
 returns-in-All c = met-same (taken_of c.args.rows c.args.stretch.now) (keyed c.args.rows (seen c.args.span.now)) _ c.if-stretch-span.true
-    ((λ x. key-all c.args.rows (row_of c.args.stretch.now.first.now.tuple.items) (row_of c.args.span.now.tuple.items) c.in-All.is), (λ x. refl))
+    ((λ x. key-all c.args.rows c.args.stretch.now.first.now.tuple c.args.span.now.tuple c.in-All.is), (λ x. refl))
 
 pub returns-in-Each : goal.returns-in-Each
 returns-in-Each c =
-    let one = key-each c.args.rows (row_of c.args.stretch.now.first.now.tuple.items) c.in-Each.is in
-    let two = key-each c.args.rows (row_of c.args.span.now.tuple.items) c.in-Each.is in
-    let says : IsTrue c.same_row.result ↔ (row_of c.args.stretch.now.first.now.tuple.items ≡ row_of c.args.span.now.tuple.items) = rw (sym c.deref.ensures.value, sym c.deref-in-Each.ensures.value) c.same_row.ensures in
+    let one = key-each c.args.rows c.args.stretch.now.first.now.tuple c.in-Each.is in
+    let two = key-each c.args.rows c.args.span.now.tuple c.in-Each.is in
+    let says : IsTrue c.same_row.result ↔ (c.args.stretch.now.first.now.tuple ≡ c.args.span.now.tuple) = c.same_row.ensures in
     met-same (taken_of c.args.rows c.args.stretch.now) (keyed c.args.rows (seen c.args.span.now)) c.same_row.result c.if-stretch-span.true
     ((λ x. one ∙ says.0 x ∙ sym two), (λ x. says.1 (sym one ∙ x ∙ two)))
 

@@ -11,7 +11,6 @@ use Rattle.rs_page_owners.proofs.Following.{works_err}
 use Rattle.rs_page_owners.proofs.Working.{CountsNothing-refl, CountsNothing-trans, Works-refl, Works-trans}
 use Rattle.rs_pages.proofs.Stores.{SamePages-refl}
 use Rattle.rs_value.specs.Values.{IsRowOf}
-use Rattle.rs_value.specs.View.{row_of}
 use Rattle.rs_versioned.specs.Records.{HasOneMore}
 use Rattle.rs_table_changes.specs.Calls.{HoldsNoTableBy}
 use Rattle.rs_table_changes.specs.Chains.{ComeAll, living_event}
@@ -39,7 +38,7 @@ add-requires-clause-begun g c = c.loop-span.invariant.works.counts.begun ∙ c.r
 
 pub add-requires-clause-row : goal.add-requires-clause-row
 add-requires-clause-row g c =
-    subst (λ types. IsRowOf types (row_of c.span-item.result.tuple.items)) (sym c.loop-span.invariant.table.types)
+    subst (λ types. IsRowOf types c.span-item.result.tuple) (sym c.loop-span.invariant.table.types)
     (row_at (IsRowOf c.args.table.now.records.types) c.args.spans.now c.loop-span.span-index c.span-item.result c.requires.rows c.loop-span-test.true c.span-item.is)
 
 pub add-requires-clause-indexes : goal.add-requires-clause-indexes

@@ -8,7 +8,6 @@ use Rattle.rs_facts.specs.Spans.{seen}
 use Rattle.rs_records.specs.Listed.{listed}
 use Rattle.rs_versioned.proofs.CellsWide.{cell_wide}
 use Rattle.rs_value.specs.Values.{IsRowOf}
-use Rattle.rs_value.specs.View.{row_of}
 use Rattle.rs_table_changes.specs.Picked.{Picks}
 use Rattle.rs_spans.specs.Removal.{goes_by}
 use Rattle.rs_table_changes.proofs.PickLaws.{all_more, none_at, picks_more, picks_same, row_said}
@@ -42,7 +41,7 @@ loop-place-preserved c =
       | then-is_going+in_ok-push+in_ok-push-2 w ↦
           let are : map seen w.push-then-is_going.new.self.items ≡ map seen c.loop-place.spans.items ++ seen span ∷ [] =
           ap (map seen) w.in_ok-push-2.ensures.items ∙ map-append seen c.loop-place.spans.items (span ∷ []) in
-          let picks = picks_more types (goes_by (option_copied c.args.goes)) found place cell (listed c.loop-place.cells) (map seen c.loop-place.spans.items) c.get-cell.ensures (seen span) c.in_ok-span.ensures.span so.picks (ap (λ t. goes_by (option_copied c.args.goes) (row_of t)) (sym c.deref.ensures.value) ∙ sym c.is_going.ensures ∙ w.if-is_going.true) in
+          let picks = picks_more types (goes_by (option_copied c.args.goes)) found place cell (listed c.loop-place.cells) (map seen c.loop-place.spans.items) c.get-cell.ensures (seen span) c.in_ok-span.ensures.span so.picks (sym c.is_going.ensures ∙ w.if-is_going.true) in
           rw (w.cells-is, w.spans-is) (record {
             picks = subst (λ l. Picks types (goes_by (option_copied c.args.goes)) (take (place + 1) found) l (map seen w.push-then-is_going.new.self.items)) (sym w.in_ok-push.ensures.pushed)
                 (subst (Picks types (goes_by (option_copied c.args.goes)) (take (place + 1) found) (listed c.loop-place.cells ++ cell ∷ [])) (sym are) picks);
@@ -51,7 +50,7 @@ loop-place-preserved c =
             width = w.in_ok-push.ensures.width ∙ so.width;
           })
       | else-is_going w ↦ rw (w.cells-is, w.spans-is) (record {
-        picks = picks_same types (goes_by (option_copied c.args.goes)) found place cell (listed c.loop-place.cells) (map seen c.loop-place.spans.items) c.get-cell.ensures (seen span) c.in_ok-span.ensures.span so.picks (ap (λ t. goes_by (option_copied c.args.goes) (row_of t)) (sym c.deref.ensures.value) ∙ sym c.is_going.ensures ∙ w.if-is_going.false);
+        picks = picks_same types (goes_by (option_copied c.args.goes)) found place cell (listed c.loop-place.cells) (map seen c.loop-place.spans.items) c.get-cell.ensures (seen span) c.in_ok-span.ensures.span so.picks (sym c.is_going.ensures ∙ w.if-is_going.false);
         rows = so.rows;
         width = so.width;
       })

@@ -8,7 +8,6 @@ use Rattle.rs_facts.specs.Spans.{seen}
 use Rattle.rs_records.specs.Listed.{listed}
 use Rattle.rs_versioned.proofs.CellsWide.{cell_wide}
 use Rattle.rs_value.specs.Values.{IsRowOf}
-use Rattle.rs_value.specs.View.{row_of}
 use Rattle.rs_table_changes.specs.Picked.{Picks}
 use Rattle.rs_facts.proofs.Rows.{same_row, same_row-apart, same_row-equal}
 use Rattle.rs_table_changes.proofs.PickLaws.{all_more, none_at, picks_more, picks_same, row_said}
@@ -42,16 +41,16 @@ loop-place-preserved c =
       | then-same_row+in_ok-push+in_ok-push-2 w ↦
           let are : map seen w.push-then-same_row.new.self.items ≡ map seen c.loop-place.spans.items ++ seen span ∷ [] =
           ap (map seen) w.in_ok-push-2.ensures.items ∙ map-append seen c.loop-place.spans.items (span ∷ []) in
-          let picks = picks_more types (λ other. same_row other (row_of c.args.row.now)) found place cell (listed c.loop-place.cells) (map seen c.loop-place.spans.items) c.get-cell.ensures (seen span) c.in_ok-span.ensures.span so.picks (same_row-equal (seen span).row (row_of c.args.row.now) (ap row_of (sym c.deref.ensures.value) ∙ c.same_row.ensures.0 w.if-same_row.true)) in
+          let picks = picks_more types (λ other. same_row other c.args.row.now) found place cell (listed c.loop-place.cells) (map seen c.loop-place.spans.items) c.get-cell.ensures (seen span) c.in_ok-span.ensures.span so.picks (same_row-equal (seen span).row c.args.row.now (c.same_row.ensures.0 w.if-same_row.true)) in
           rw (w.cells-is, w.spans-is) (record {
-            picks = subst (λ l. Picks types (λ other. same_row other (row_of c.args.row.now)) (take (place + 1) found) l (map seen w.push-then-same_row.new.self.items)) (sym w.in_ok-push.ensures.pushed)
-                (subst (Picks types (λ other. same_row other (row_of c.args.row.now)) (take (place + 1) found) (listed c.loop-place.cells ++ cell ∷ [])) (sym are) picks);
+            picks = subst (λ l. Picks types (λ other. same_row other c.args.row.now) (take (place + 1) found) l (map seen w.push-then-same_row.new.self.items)) (sym w.in_ok-push.ensures.pushed)
+                (subst (Picks types (λ other. same_row other c.args.row.now) (take (place + 1) found) (listed c.loop-place.cells ++ cell ∷ [])) (sym are) picks);
             rows = subst (AllByRecursion (λ (s : Stretch). IsRowOf types s.row)) (sym are)
                 (all_more (λ (s : Stretch). IsRowOf types s.row) (map seen c.loop-place.spans.items) (seen span) so.rows (row_said types cell (seen span) c.in_ok-span.ensures.said c.in_ok-span.ensures.span));
             width = w.in_ok-push.ensures.width ∙ so.width;
           })
       | else-same_row w ↦ rw (w.cells-is, w.spans-is) (record {
-        picks = picks_same types (λ other. same_row other (row_of c.args.row.now)) found place cell (listed c.loop-place.cells) (map seen c.loop-place.spans.items) c.get-cell.ensures (seen span) c.in_ok-span.ensures.span so.picks (same_row-apart (seen span).row (row_of c.args.row.now) (λ e. false≢true (sym w.if-same_row.false ∙ c.same_row.ensures.1 (ap row_of c.deref.ensures.value ∙ e))));
+        picks = picks_same types (λ other. same_row other c.args.row.now) found place cell (listed c.loop-place.cells) (map seen c.loop-place.spans.items) c.get-cell.ensures (seen span) c.in_ok-span.ensures.span so.picks (same_row-apart (seen span).row c.args.row.now (λ e. false≢true (sym w.if-same_row.false ∙ c.same_row.ensures.1 e)));
         rows = so.rows;
         width = so.width;
       })

@@ -1,12 +1,11 @@
 use Rattle.std.proofs.Common.{cond, Some, is_some, unwrap_or, sym, ap, ◌∙◌}
 use Rattle.std.specs.BTreeMap.{BTreeMap, is_at}
 use Rattle.std.specs.Map.{lookup}
-use Rattle.arrayvec.specs.ArrayVec.{ArrayVec}
-use Rattle.rs_value.specs.declared.value.Value.{Value}
+use Rattle.rs_value.specs.Row.{Row, row_cmp}
 use Rattle.rs_facts.specs.Spans.{seen}
 use Rattle.rs_total.specs.declared.numbers.Numbers.{Numbers}
 use Rattle.rs_total.specs.Counting.{no_numbers}
-use Rattle.rs_total.proofs.GroupMaps.{by_values, kept-changed}
+use Rattle.rs_total.proofs.GroupMaps.{kept-changed}
 use Rattle.rs_total.proofs.groups.add_to.Goals as goal
 
 pub returns-in-Some : goal.returns-in-Some
@@ -17,4 +16,4 @@ pub returns-in_ok-insert-in-None : goal.returns-in_ok-insert-in-None
 returns-in_ok-insert-in-None c = kept-changed c.args.summed c.args.start (seen c.args.span.now) c.args.groups.now.entries c.insert.new.self.entries c.args.group c.none.result c.with_span-in-None.result
     (sym (ap (λ o. unwrap_or o no_numbers) c.in-None.ensures.value) ∙ sym c.none.ensures) c.with_span-in-None.ensures
     (λ q. c.in_ok-insert-in-None.ensures.updates.0 q
-    ∙ ap (λ (m : BTreeMap (ArrayVec Value) Numbers). cond (is_at (by_values c.args.group) q) (Some c.with_span-in-None.result) (lookup (is_at (by_values q)) m.entries)) c.get_mut.follows.holds-at-none)
+    ∙ ap (λ (m : BTreeMap Row Numbers). cond (is_at (row_cmp c.args.group) q) (Some c.with_span-in-None.result) (lookup (is_at (row_cmp q)) m.entries)) c.get_mut.follows.holds-at-none)

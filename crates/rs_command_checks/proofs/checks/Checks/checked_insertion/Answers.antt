@@ -23,5 +23,5 @@ returns-clause-accepted c = λ unseen there is.
     ∙ may_ok c.args.self.now unseen _ (c.in_ok-may_change.ensures.answer unseen)
 
 pub returns-clause-event : goal.returns-clause-event
-returns-clause-event c = λ values.
-    event_on c.args.self.now c.args.name.now.bytes c.args.route.now.bytes (location_tree c.args.place.now) (literal_row c.args.values.now) (seen c.in_ok-span.span) c.in_ok-span.ensures.done values
+returns-clause-event c =
+    event_on c.args.self.now c.args.name.now.bytes c.args.route.now.bytes (location_tree c.args.place.now) (literal_row c.args.values.now) (seen c.in_ok-span.span) c.in_ok-span.ensures.done c.requires.values

@@ -3,7 +3,8 @@ use Rattle.std.proofs.lemmas.List.{length-map}
 use Rattle.std.proofs.lemmas.Result.{err_from_is_err_and}
 use Rattle.std.specs.FinMap as names
 use Rattle.rs_refusal.specs.declared.refusal.Refusal.TheVariants.{NoSuchRoute, NoSuchName}
-use Rattle.rs_value.specs.View.{literal_row}
+use Rattle.rs_value.specs.Values.{AreValues}
+use Rattle.rs_value.specs.View.{literal_row, row_of}
 use Rattle.rs_value.specs.declared.column.TheConstants.{COLUMNS}
 use Rattle.rs_syntax.specs.View.{column_tree, location_tree}
 use Rattle.rs_machine.specs.Checks.{same_kind, location_kind, row_fits}
@@ -43,6 +44,9 @@ fitted-requires c =
     let table_there = found_some (names.get c.args.self.now.catalog.now.tables c.args.name.now.bytes) NoSuchName c.in_ok-table.table.now c.in_ok-table.ensures in
     let few = (c.stand.ensures.tables c.args.name.now.bytes c.in_ok-table.table.now table_there).1 in
     subst (λ n. n ≤ COLUMNS) (sym (ap length c.columns.ensures) ∙ length-map c.columns.result.now column_tree) few
+
+pub of_values-requires : goal.of_values-requires
+of_values-requires c = subst AreValues (sym (ap row_of c.as_slice.ensures.value ∙ c.in_ok-row.ensures.row)) c.requires.values
 
 pub returns-in_err-row-clause-refused : goal.returns-in_err-row-clause-refused
 returns-in_err-row-clause-refused c = λ unseen.

@@ -39,7 +39,7 @@ returns-in_err-new_facts g c =
     let route = c.args.route.now.bytes in
     let span = seen c.in_ok-span.span in
     let said = tree.insert name route (location_tree c.args.place.now) (literal_row c.args.values.now) in
-    let event = c.in_ok-span.ensures.event c.requires.sound.4 in
+    let event = c.in_ok-span.ensures.event in
     let p = err_from_is_err_and c.from_residual-in_err-new_facts.result c.from_residual-in_err-new_facts.ensures.1 in
     record {
       serves = λ machine here.
@@ -66,7 +66,7 @@ returns g c =
     let route = c.args.route.now.bytes in
     let span = seen c.in_ok-span.span in
     let said = tree.insert name route (location_tree c.args.place.now) (literal_row c.args.values.now) in
-    let event = c.in_ok-span.ensures.event c.requires.sound.4 in
+    let event = c.in_ok-span.ensures.event in
     record {
       serves = λ machine here.
           let so : State → Table → Type 0 = λ state table. outcome state 0 said

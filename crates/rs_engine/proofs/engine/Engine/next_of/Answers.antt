@@ -26,7 +26,7 @@ returns-clause-given g c = λ machine is.
     let shows = subst (λ (e : EngineState g.row.D.Denot). ShowsVersion g.D.Disk e.oldest e.store cursor.version (versions cursor.version)) (sym c.self.view_is)
     (record { state = is.state; stands = is.stands; from = live.from; upto = live.upto; is = refl }) in
     let taken = taken_kept versions c.args.session name cursor engine.cursors there is.live.ahead c.take-kept.result
-    (subst (λ (e : EngineState g.row.D.Denot). IfSome c.take-kept.result (IsAheadOf c.args.session name e.cursors.ahead.slots.items)) c.self.view_is c.take-kept.ensures.lines) in
+    (subst (λ (e : EngineState g.row.D.Denot). IfSome c.take-kept.result (IsAheadOf c.args.session name e.cursors.ahead.slots.items)) c.self.view_is c.take-kept.ensures.kept) in
     gives_next versions engine.cursors.held c.args.session name c.args.rows cursor there c.next_lines-next.result
     (IfOk-weaker c.next_lines-next.result _ _ (λ next given. given versions shows live.lies taken) c.next_lines-next.ensures.given)
     (IfOk-weaker c.next_lines-next.result _ _ (λ next left. left versions shows live.lies taken) c.next_lines-next.ensures.left)
@@ -43,7 +43,7 @@ returns-clause-ahead g c = λ machine is.
     let shows = subst (λ (e : EngineState g.row.D.Denot). ShowsVersion g.D.Disk e.oldest e.store cursor.version (versions cursor.version)) (sym c.self.view_is)
     (record { state = is.state; stands = is.stands; from = live.from; upto = live.upto; is = refl }) in
     let taken = taken_kept versions c.args.session name cursor engine.cursors there is.live.ahead c.take-kept.result
-    (subst (λ (e : EngineState g.row.D.Denot). IfSome c.take-kept.result (IsAheadOf c.args.session name e.cursors.ahead.slots.items)) c.self.view_is c.take-kept.ensures.lines) in
+    (subst (λ (e : EngineState g.row.D.Denot). IfSome c.take-kept.result (IsAheadOf c.args.session name e.cursors.ahead.slots.items)) c.self.view_is c.take-kept.ensures.kept) in
     let left = c.next_lines-next.ensures.keeps (versions cursor.version) shows live.lies taken in
     subst (λ (e : EngineState g.row.D.Denot). AreAhead versions (record { held = e.cursors.held; ahead = c.put.new.self })) (sym c.self.view_is)
     (put_ahead versions c.args.session name cursor engine.cursors there is.live.ahead c.next_lines-next.new.kept left c.take-kept.new.self c.put.new.self

@@ -4,7 +4,7 @@ use Rattle.std.specs.Borrow.{Bor}
 use Rattle.rs_facts.specs.declared.fact.Span.{Span}
 use Rattle.rs_facts.specs.Spans.{seen}
 use Rattle.rs_total.specs.Counting.{kept_along}
-use Rattle.rs_total.specs.Tally.{by_row, kept_of}
+use Rattle.rs_total.specs.Tally.{kept_of}
 use Rattle.rs_total.specs.Totalling.{AreTotalsOf}
 use Rattle.rs_total.proofs.Adding.{tally-more}
 use Rattle.rs_total.proofs.totals.Totals.add_route.Goals as goal
@@ -13,6 +13,6 @@ pub returns : goal.returns
 returns c = λ kind by column routes route few was runs.
     let count : length (map (λ (run : Bor Span). seen run.now) c.args.runs.now) < 2 ^ 64 = omega (arith, length-map c.args.runs.now (λ (run : Bor Span). seen run.now), c.in_ok-add_spans.ensures.few) in
     tally-more kind by column routes route (map (λ (run : Bor Span). seen run.now) c.args.runs.now)
-    (record { by = c.self.inside.by.items; summed = c.self.inside.summed; start = c.self.inside.start; groups = by_row c.self.inside.groups.entries }) _ count refl refl c.saturating_add-self-inside.ensures
-    (λ group. c.in_ok-add_spans.ensures.added group ∙ ap (λ columns. kept_along columns c.self.inside.summed c.self.inside.start group (kept_of (by_row c.self.inside.groups.entries) group) (map (λ (run : Bor Span). seen run.now) c.args.runs.now)) c.as_slice.ensures.value)
+    (record { by = c.self.inside.by.items; summed = c.self.inside.summed; start = c.self.inside.start; groups = c.self.inside.groups.entries }) _ count refl refl c.saturating_add-self-inside.ensures
+    (λ group. c.in_ok-add_spans.ensures.added group ∙ ap (λ columns. kept_along columns c.self.inside.summed c.self.inside.start group (kept_of c.self.inside.groups.entries group) (map (λ (run : Bor Span). seen run.now) c.args.runs.now)) c.as_slice.ensures.value)
     few (subst (AreTotalsOf by column routes) (sym c.self.view_is) was) runs

@@ -1,7 +1,6 @@
 use Rattle.std.proofs.Common.{refl, ap}
-use Rattle.rs_total.specs.Tally.{by_row}
 use Rattle.rs_total.proofs.Adding.{tally-none}
 use Rattle.rs_total.proofs.totals.Totals.new.Goals as goal
 
 pub returns : goal.returns
-returns c = tally-none c.args.by.items c.args.summed _ refl refl refl (ap by_row c.new.ensures.empty)
+returns c = tally-none c.args.by.items c.args.summed _ refl refl refl c.new.ensures.empty

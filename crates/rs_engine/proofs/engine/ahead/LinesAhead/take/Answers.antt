@@ -1,11 +1,11 @@
--- They are at the place that was found.
+-- It is at the place that was found.
 use Rattle.std.proofs.Common.{◌<◌, List, length, refl, slice_index_or, subst, sym}
 use Rattle.rs_engine.specs.Ahead.{IsOf}
 use Rattle.rs_engine.specs.declared.engine.ahead.Ahead.{Ahead}
 use Rattle.rs_engine.proofs.engine.ahead.LinesAhead.take.Goals as goal
 
-pub returns-clause-lines : goal.returns-clause-lines
-returns-clause-lines c =
+pub returns-clause-kept : goal.returns-clause-kept
+returns-clause-kept c =
     let one = c.remove-one.result in
     let place = c.in_ok-place.place in
     let name = c.args.name.now.bytes in
@@ -14,5 +14,5 @@ returns-clause-lines c =
       is = (place, subst (λ (slots : List Ahead). place < length slots) c.deref.ensures.value c.in_ok-place.ensures.within, sym c.remove-one.ensures.value);
       of = subst (λ (a : Ahead). IsOf c.args.session name a) (sym c.remove-one.ensures.value)
           (subst (λ (slots : List Ahead). IsOf c.args.session name (slice_index_or slots place one)) c.deref.ensures.value (c.in_ok-place.ensures.there one));
-      lines_are = refl;
+      is_kept = refl;
     }
