@@ -7,7 +7,7 @@ use Rattle.rs_journal.proofs.Advancing.{every-less}
 use Rattle.rs_journal.proofs.Staging.{quiet-gives, stage-gives}
 use Rattle.rs_journal.specs.FilePages.{FilePages}
 use Rattle.rs_journal.specs.Journal.{Journal, MakesPages, Recovers}
-use Rattle.rs_journal.specs.Stages.{EveryImage, GivesFrom, StageImage}
+use Rattle.rs_journal.specs.Stages.{EveryImage, GivesFrom, IsQuiet, StageImage}
 use Rattle.rs_journal.specs.declared.stage.Stage.{Stage}
 use Rattle.rs_journal.specs.declared.stage.Stage.TheVariants.{Fresh, Gate, Home, Closing}
 use Rattle.rs_pager.specs.Lasts.{Checkpoints, GivesMap, KeepsMap, Lasts}
@@ -25,7 +25,7 @@ stage_cases Home = inr (λ is. let wrong : Home ≡ Fresh = is in cc)
 stage_cases Closing = inr (λ is. let wrong : Closing ≡ Fresh = is in cc)
 
 -- what a stage gives is one of the two
-either : (stage : Stage) (kept checkpoint : FilePages) (image : Content) → GivesFrom stage kept checkpoint image → Recovers image kept ⊎ Recovers image checkpoint
+either : (stage : Stage) (kept checkpoint : FilePages) (image : Content) → GivesFrom stage kept checkpoint image → IsQuiet kept image ⊎ Recovers image checkpoint
 either Fresh kept checkpoint image gives = gives
 either Gate kept checkpoint image gives = gives
 either Home kept checkpoint image gives = inr gives
@@ -66,21 +66,30 @@ module _ {D : Type 0} (d : disk.Ghosts D) where
   -- ---- images
 
   pub quiet_image : (p : Paged D) (kept : FilePages) → IsKept d p kept → p.under_way.stage ≡ Fresh → IsTrue (d.keeps_crashes p.disk) → (image : Content)
-      → d.may_leave p.disk image → Recovers image kept
-  quiet_image p kept is fresh on image left = quiet-gives kept image ((is.quiet fresh).images on image left)
+      → d.may_leave p.disk image → IsQuiet kept image
+  quiet_image p kept is fresh on image left = (is.quiet fresh).images on image left
 
-  pub image_gives : (p : Paged D) (kept : FilePages) → IsKept d p kept → IsTrue (d.keeps_crashes p.disk) → (image : Content) → d.may_leave p.disk image
-      → Recovers image kept ⊎ GivesMap (committed d p) image
-  image_gives p kept is on image left = elim (stage_cases p.under_way.stage) [
-    | inl fresh ↦ inl (quiet_image p kept is fresh on image left)
+  -- what holds of all that a disk is left as holds of one of the two
+  pub kept_gives : (p : Paged D) (kept : FilePages) → IsKept d p kept → (content : Content) → ((P : Content → Type 0) → EveryImage d P p.disk → P content)
+      → IsQuiet kept content ⊎ GivesMap (committed d p) content
+  kept_gives p kept is content each = elim (stage_cases p.under_way.stage) [
+    | inl fresh ↦ inl (each (IsQuiet kept) (is.quiet fresh))
     | inr going ↦
         let on_way = is.under_way going in
-        elim (either p.under_way.stage kept on_way.checkpoint image
-        (stage-gives p.under_way.stage kept (pager_journal d p) on_way.checkpoint image on_way.makes (on_way.every.images on image left))) [
+        elim (either p.under_way.stage kept on_way.checkpoint content
+        (stage-gives p.under_way.stage kept (pager_journal d p) on_way.checkpoint content on_way.makes (each _ on_way.every))) [
           | inl gives ↦ inl gives
           | inr gives ↦ inr (record { pages = on_way.checkpoint; recovers = gives; are = on_way.are })
         ]
   ]
+
+  pub image_gives : (p : Paged D) (kept : FilePages) → IsKept d p kept → IsTrue (d.keeps_crashes p.disk) → (image : Content) → d.may_leave p.disk image
+      → IsQuiet kept image ⊎ GivesMap (committed d p) image
+  image_gives p kept is on image left = kept_gives p kept is image (λ P every. every.images on image left)
+
+  -- and so does a read
+  pub read_gives : (p : Paged D) (kept : FilePages) → IsKept d p kept → IsQuiet kept (d.seen p.disk) ⊎ GivesMap (committed d p) (d.seen p.disk)
+  read_gives p kept is = kept_gives p kept is (d.seen p.disk) (λ P every. every.reads)
 
   -- ---- from `Home` on
 
@@ -122,7 +131,7 @@ module _ {D : Type 0} (d : disk.Ghosts D) where
   -- where no checkpoint is under way, each image gives the map that is kept
   kept_images : (p : Paged D) (map : PageMap) → KeepsMap d p map → p.under_way.stage ≡ Fresh → IsTrue (d.keeps_crashes p.disk) → (image : Content)
       → d.may_leave p.disk image → GivesMap map image
-  kept_images p map keeps fresh on image left = record { pages = keeps.pages; recovers = quiet_image p keeps.pages keeps.is_kept fresh on image left; are = keeps.are }
+  kept_images p map keeps fresh on image left = record { pages = keeps.pages; recovers = quiet-gives keeps.pages image (quiet_image p keeps.pages keeps.is_kept fresh on image left); are = keeps.are }
 
   kept_read : (p : Paged D) (map : PageMap) → KeepsMap d p map → p.under_way.stage ≡ Fresh → GivesMap map (d.seen p.disk)
   kept_read p map keeps fresh = record { pages = keeps.pages; recovers = quiet-gives keeps.pages (d.seen p.disk) (keeps.is_kept.quiet fresh).reads; are = keeps.are }

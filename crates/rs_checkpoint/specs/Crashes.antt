@@ -3,16 +3,16 @@ use Rattle.std.specs.Prelude.{◌≡◌, ◌⊎◌, IsTrue, false, Result, OnErr
 use Rattle.rs_disk.specs.Content.{Content}
 use Rattle.rs_disk.specs.declared.disk.Disk as disk
 use Rattle.rs_journal.specs.FilePages.{FilePages}
-use Rattle.rs_journal.specs.Journal.{Recovers}
+use Rattle.rs_journal.specs.Stages.{IsQuiet}
 use Rattle.rs_pager.specs.Lasts.{GivesMap, KeepsMap}
 use Rattle.rs_pager.specs.Maps.{IsKept, IsTied, committed}
 use Rattle.rs_pager.specs.Paged.{Paged}
 
 module _ {D : Type 0} (d : disk.Ghosts D) where
-  -- each image that a crash might have left since the start of the call gives the pages kept last at the start, or the committed ones
+  -- each image that a crash might have left since the start of the call has the pages kept last at the start, with a closed gate, or gives the committed ones
   pub record LeavesKept (old new : Paged D) : Type 0 where
     pub either : (kept : FilePages) → IsTied d old → IsKept d old kept → IsTrue (d.keeps_crashes old.disk) → (image : Content)
-        → d.left_since old.disk new.disk image → Recovers image kept ⊎ GivesMap (committed d old) image
+        → d.left_since old.disk new.disk image → IsQuiet kept image ⊎ GivesMap (committed d old) image
 
   -- After Ok the committed pages are kept, and each image that a crash may leave gives them. After a refusal the pages that were kept
   -- are kept still, or the committed ones are.

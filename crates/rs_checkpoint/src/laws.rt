@@ -3,7 +3,7 @@
 ghost use Rattle.std.specs.Prelude.{◌≡◌, ◌≢◌, ◌⊎◌, IsTrue};
 ghost use Rattle.rs_disk.specs.Content.{Content};
 ghost use Rattle.rs_journal.specs.FilePages.{FilePages};
-ghost use Rattle.rs_journal.specs.Journal.{Recovers};
+ghost use Rattle.rs_journal.specs.Stages.{IsQuiet};
 ghost use Rattle.rs_journal.specs.declared.stage.Stage.TheVariants.{Fresh, Home, Closing};
 ghost use Rattle.rs_pager.specs.Lasts.{GivesMap, KeepsMap};
 ghost use Rattle.rs_pager.specs.Maps.{committed, IsKept, IsTied};
@@ -14,10 +14,10 @@ use rs_disk::Disk;
 /// Each image that a crash may leave gives the pages kept last, or, where a checkpoint is under way, the committed ones.
 pub fn image_gives_what_is_kept<D: Disk>()
     ensures fresh { (pager : Paged D) (kept : FilePages) → IsKept D.Disk pager kept → pager.under_way.stage ≡ Fresh
-        → IsTrue (D.keeps_crashes pager.disk) → (image : Content) → D.may_leave pager.disk image → Recovers image kept }
+        → IsTrue (D.keeps_crashes pager.disk) → (image : Content) → D.may_leave pager.disk image → IsQuiet kept image }
     ensures under_way { (pager : Paged D) (kept : FilePages) → IsKept D.Disk pager kept
         → IsTrue (D.keeps_crashes pager.disk) → (image : Content) → D.may_leave pager.disk image
-        → Recovers image kept ⊎ GivesMap (committed D.Disk pager) image }
+        → IsQuiet kept image ⊎ GivesMap (committed D.Disk pager) image }
 {}
 
 /// From the stage `Home` on the committed pages are the ones kept last.

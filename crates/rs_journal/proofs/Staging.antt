@@ -228,13 +228,13 @@ pub gate-gives : (journal : Journal) (kept checkpoint : FilePages) (a : Content)
     → IsGate kept journal a → IsEither kept checkpoint a
 gate-gives journal kept checkpoint a makes gate = elim (cases_eq (a.byte 64) 1) [
   | inl is ↦ inr (home-gives journal checkpoint a makes.carries (is-opened journal kept checkpoint a makes gate is))
-  | inr closed ↦ inl (record { opened = λ is. absurd (closed is); shut = λ _. gate.pages_there })
+  | inr closed ↦ inl (record { closed = closed; pages_there = gate.pages_there })
 ]
 
 -- the same of each stage
 pub stage-gives : (stage : Stage) (kept : FilePages) (journal : Journal) (checkpoint : FilePages) (a : Content) → MakesPages journal kept checkpoint
     → StageImage stage kept journal checkpoint a → GivesFrom stage kept checkpoint a
-stage-gives Fresh kept journal checkpoint a makes is = inl (quiet-gives kept a is)
+stage-gives Fresh kept journal checkpoint a makes is = inl is
 stage-gives Gate kept journal checkpoint a makes is = gate-gives journal kept checkpoint a makes is
 stage-gives Home kept journal checkpoint a makes is = home-gives journal checkpoint a makes.carries is
 stage-gives Closing kept journal checkpoint a makes is = closing-gives journal checkpoint a makes.carries is

@@ -78,9 +78,9 @@ StageImage Gate kept journal checkpoint = IsGate kept journal
 StageImage Home kept journal checkpoint = IsHome journal checkpoint
 StageImage Closing kept journal checkpoint = IsClosing journal checkpoint
 
--- the image gives the pages kept last or the checkpoint's
+-- the image has the pages kept last, with a closed gate, or gives the checkpoint's
 abbrev pub IsEither : FilePages → FilePages → Content → Type 0
-IsEither kept checkpoint image = Recovers image kept ⊎ Recovers image checkpoint
+IsEither kept checkpoint image = IsQuiet kept image ⊎ Recovers image checkpoint
 
 -- what a crash leaves from a stage on gives these pages: once the gate is known to be open the checkpoint's
 abbrev pub GivesFrom : Stage → FilePages → FilePages → Content → Type 0

@@ -43,7 +43,7 @@ pub fn complete<D: Disk, C: Copies>(
         → GivesFrom stage.old kept checkpoint image }
     ensures untouched { (kept checkpoint : FilePages) → MakesPages (journal_of C.Copies first copies.now) kept checkpoint
         → EveryImage D.Disk (StageImage stage.old kept (journal_of C.Copies first copies.now) checkpoint) disk.old
-        → OnErr result (stage.new ≡ Fresh → Meanwhile D.Disk (λ image. Recovers image kept) disk.old disk.new) }
+        → OnErr result (stage.new ≡ Fresh → Meanwhile D.Disk (IsQuiet kept) disk.old disk.new) }
     ensures goes_on { stage.old ≢ Fresh → OnErr result (stage.new ≢ Fresh) }
     ensures fresh { OnOk result (stage.new ≡ Fresh) }
     ensures calls { SyncsDisk D.Disk result disk.old disk.new }
@@ -72,7 +72,7 @@ fn from_fresh<D: Disk, C: Copies>(
         (IsEither kept checkpoint) result stage.new disk.old disk.new }
     ensures untouched { (kept checkpoint : FilePages) → MakesPages (journal_of C.Copies first copies.now) kept checkpoint
         → EveryImage D.Disk (IsQuiet kept) disk.old
-        → OnErr result (stage.new ≡ Fresh → Meanwhile D.Disk (λ image. Recovers image kept) disk.old disk.new) }
+        → OnErr result (stage.new ≡ Fresh → Meanwhile D.Disk (IsQuiet kept) disk.old disk.new) }
     ensures fresh { OnOk result (stage.new ≡ Fresh) }
     ensures calls { SyncsDisk D.Disk result disk.old disk.new }
 {

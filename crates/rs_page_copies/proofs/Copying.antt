@@ -8,7 +8,7 @@ use Rattle.rs_disk.specs.declared.disk.Disk as disk
 use Rattle.rs_journal.specs.FilePages.{FilePages}
 use Rattle.rs_journal.specs.Journal.{Journal, Ascends, MadePages, MakesPages, Recovers}
 use Rattle.rs_journal.proofs.Making.{makes_pages}
-use Rattle.rs_journal.specs.Stages.{GivesFrom, StageImage, EveryImage, Meanwhile, EndsOrStops}
+use Rattle.rs_journal.specs.Stages.{GivesFrom, IsQuiet, StageImage, EveryImage, Meanwhile, EndsOrStops}
 use Rattle.rs_journal.specs.declared.stage.Stage.{Stage}
 use Rattle.rs_journal.specs.declared.stage.Stage.TheVariants.{Fresh}
 use Rattle.rs_page_copies.specs.Listed.{AreFilled, AreInside, AreOrdered, Checkpoint, CopiedPages, IsChanged, ListsCommitted, copy_in, journal_from}
@@ -51,7 +51,7 @@ module _ {D : Type 0} (d : disk.Ghosts D) (first : ℕ) (old new : D) where
     abbrev pub LeavesKept : Stage → CopiedPages → Type 0
     LeavesKept stage copied = (kept checkpoint : FilePages) → MakesPages (journal_by first copied) kept checkpoint
         → EveryImage d (StageImage stage kept (journal_by first copied) checkpoint) old
-        → OnErr result (now ≡ Fresh → Meanwhile d (λ image. Recovers image kept) old new)
+        → OnErr result (now ≡ Fresh → Meanwhile d (IsQuiet kept) old new)
 
 -- numbers in order are no less than their places, so there are no more than the greatest
 no_less : (count : ℕ) (number : ℕ → ℕ) → Ascends count number → (k : ℕ) → k < count → k ≤ number k

@@ -7,7 +7,7 @@ ghost use Rattle.rs_disk.specs.Content.{Content};
 ghost use Rattle.rs_journal.specs.Calls.{SyncsDisk};
 ghost use Rattle.rs_journal.specs.FilePages.{FilePages};
 ghost use Rattle.rs_journal.specs.Journal.{MakesPages, Recovers};
-ghost use Rattle.rs_journal.specs.Stages.{GivesFrom, StageImage, EveryImage, Meanwhile, EndsOrStops};
+ghost use Rattle.rs_journal.specs.Stages.{GivesFrom, IsQuiet, StageImage, EveryImage, Meanwhile, EndsOrStops};
 ghost use Rattle.rs_journal.specs.declared.stage.Stage.TheVariants.{Fresh};
 ghost use Rattle.rs_page_cache.specs.Changes.{held_at};
 ghost use Rattle.rs_pages.specs.declared.pages.TheConstants.{GREATEST_LIMIT};
@@ -114,7 +114,7 @@ impl UnderWay {
             → GivesFrom self.old.stage kept checkpoint image }
         ensures untouched { (kept checkpoint : FilePages) → MakesPages (journal_from first changes.now self.old) kept checkpoint
             → EveryImage D.Disk (StageImage self.old.stage kept (journal_from first changes.now self.old) checkpoint) disk.old
-            → OnErr result (self.new.stage ≡ Fresh → Meanwhile D.Disk (λ image. Recovers image kept) disk.old disk.new) }
+            → OnErr result (self.new.stage ≡ Fresh → Meanwhile D.Disk (IsQuiet kept) disk.old disk.new) }
         ensures goes_on { self.old.stage ≢ Fresh → OnErr result (self.new.stage ≢ Fresh) }
         ensures fresh { OnOk result (self.new.stage ≡ Fresh) }
         ensures calls { SyncsDisk D.Disk result disk.old disk.new }

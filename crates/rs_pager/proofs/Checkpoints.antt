@@ -216,7 +216,7 @@ module _ {D : Type 0} (d : disk.Ghosts D) (p : Paged D) (kept : FilePages) (is_k
 
 -- what a crash meanwhile leaves
 module _ {D : Type 0} (d : disk.Ghosts D) (p : Paged D) (kept : FilePages) (on : CarriesOn d p kept) where
-  gives_either : (stage : Stage) (image : Content) → GivesFrom stage kept on.checkpoint image → Recovers image kept ⊎ GivesMap (committed d p) image
+  gives_either : (stage : Stage) (image : Content) → GivesFrom stage kept on.checkpoint image → IsQuiet kept image ⊎ GivesMap (committed d p) image
   gives_either Fresh image (inl was) = inl was
   gives_either Fresh image (inr now) = inr (record { pages = on.checkpoint; recovers = now; are = on.are })
   gives_either Gate image (inl was) = inl was
@@ -283,7 +283,7 @@ module _ {D : Type 0} (d : disk.Ghosts D) (p : Paged D) (kept : FilePages) (is_k
     (sound : IsSound p.limit p.changes p.committed_fields p.working p.is_begun p.under_way.stage) (shut : p.is_begun ≡ false) (none : p.clean ≡ []) (disk : D)
     (meanwhile : Meanwhile d (GivesFrom p.under_way.stage kept on.checkpoint) p.disk disk) where
   gives : IsTrue (d.keeps_crashes p.disk) → (start : D) (image : Content) → d.left_since start disk image
-      → d.left_since start p.disk image ⊎ (Recovers image kept ⊎ GivesMap (committed d p) image)
+      → d.left_since start p.disk image ⊎ (IsQuiet kept image ⊎ GivesMap (committed d p) image)
   gives keeps start image left = elim ((meanwhile keeps).each start image left) [
     | inl before ↦ inl before
     | inr from ↦ inr (gives_either d p kept on p.under_way.stage image from)

@@ -9,6 +9,7 @@ use Rattle.rs_page_cache.specs.Changes.{Changes, held_at}
 use Rattle.rs_journal.specs.FilePages.{FilePages, HasPages}
 use Rattle.rs_journal.specs.declared.stage.Stage.{Stage}
 use Rattle.rs_journal.specs.declared.stage.Stage.TheVariants.{Fresh}
+use Rattle.rs_journal.proofs.Staging.{quiet-gives}
 use Rattle.rs_page_copies.specs.Listed.{Checkpoint}
 use Rattle.rs_pager.specs.Lasts.{Carried, Checkpoints, Cuts, KeepsMap, stopped_pager, written_pager}
 use Rattle.rs_pager.specs.Maps.{page_or_stored, committed, ArePages, CarriesOn, HoldsNoChange, IsKept, IsTied, KeepsMaps}
@@ -272,7 +273,7 @@ module _ {D : Type 0} (d : disk.Ghosts D) {T E : Type 0} (result : Result T E) (
         lasts = record {
           meanwhile = λ kept tied was keeps start image left. elim ((cut_whole kept tied was).meanwhile (subst IsTrue (sym keeping) keeps) start image left) [
             | inl before ↦ (whole kept tied was).meanwhile keeps start image before
-            | inr now ↦ inr (inr (record { pages = (whole kept tied was).next.pages; recovers = now; are = (whole kept tied was).next.are }))
+            | inr now ↦ inr (inr (record { pages = (whole kept tied was).next.pages; recovers = quiet-gives (whole kept tied was).next.pages image now; are = (whole kept tied was).next.are }))
           ];
           next = λ kept tied was. inr (kept_map kept tied was);
           keeping = cut_keeping ∙ keeping;

@@ -8,7 +8,6 @@ use Rattle.rs_page_cache.specs.Stored.{disk_page}
 use Rattle.rs_journal.specs.FilePages.{FilePages}
 use Rattle.rs_journal.specs.Stages.{IsQuiet, Remains}
 use Rattle.rs_journal.specs.declared.stage.Stage.TheVariants.{Fresh}
-use Rattle.rs_journal.proofs.Staging.{quiet-gives}
 use Rattle.rs_pager.specs.Lasts.{Cuts}
 use Rattle.rs_pager.specs.Maps.{page_or_stored, committed, ArePages, IsKept, IsTied}
 use Rattle.rs_pager.specs.Paged.{Paged, IsSound, held}
@@ -72,7 +71,7 @@ module _ {D : Type 0} (d : disk.Ghosts D) (p : Paged D) (kept : FilePages) (tied
     is_kept = cut_kept;
     meanwhile = λ keeps start image left. elim ((remains.meanwhile keeps).each start image left) [
       | inl before ↦ inl before
-      | inr now ↦ inr (quiet-gives kept image now)
+      | inr now ↦ inr now
     ];
     stored = record {
       header = first_page;

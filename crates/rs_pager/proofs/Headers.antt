@@ -1,5 +1,5 @@
 -- Page 0 says the same fields whatever the gate and the journal's fields are.
-use Rattle.std.proofs.Common.{◌≡◌, inl, inr, ℕ, ◌+◌, ◌*◌, ◌<◌, ◌≤◌, List, length, slice_index, sym, ◌∙◌, subst, arith}
+use Rattle.std.proofs.Common.{◌≡◌, ◌≢◌, inl, inr, ℕ, ◌+◌, ◌*◌, ◌<◌, ◌≤◌, List, length, slice_index, sym, ◌∙◌, subst, arith}
 use Rattle.std.proofs.lemmas.Bool.{cases_lt}
 use Rattle.std.proofs.lemmas.List.{get_or_past}
 use Rattle.rs_disk.specs.Content.{Content, Holds}
@@ -58,6 +58,25 @@ module _ (one other : List ℕ) (agree : Agree one other) where
   second_header-same fields size is = record {
     first = header-same _ is.first;
     marks = marks-same is.marks;
+    zeros = zeros-same size is.zeros;
+    pages = low_number 32 4 (omega arith) ∙ is.pages;
+    first_free = low_number 36 4 (omega arith) ∙ is.first_free;
+    free_pages = low_number 40 4 (omega arith) ∙ is.free_pages;
+    catalogue = low_number 44 4 (omega arith) ∙ is.catalogue;
+    catalogue_length = low_number 48 4 (omega arith) ∙ is.catalogue_length;
+  }
+
+  pub first_header-same : (fields : FileHeader) → length other ≡ 4096 → number_at 64 1 other ≢ 1 → IsFirstHeader one fields → IsFirstHeader other fields
+  first_header-same fields size shut is = record {
+    first = header-same _ is.first;
+    marks = record {
+      magic = low_number 16 4 (omega arith) ∙ is.marks.magic;
+      magic_end = low_number 20 4 (omega arith) ∙ is.marks.magic_end;
+      format = low_number 24 4 (omega arith) ∙ is.marks.format;
+      unused = low_number 29 2 (omega arith) ∙ is.marks.unused;
+      unused_too = low_number 31 1 (omega arith) ∙ is.marks.unused_too;
+      shut = shut;
+    };
     zeros = zeros-same size is.zeros;
     pages = low_number 32 4 (omega arith) ∙ is.pages;
     first_free = low_number 36 4 (omega arith) ∙ is.first_free;

@@ -4,8 +4,7 @@ use Rattle.rs_disk.specs.Content.{Content}
 use Rattle.rs_disk.specs.declared.disk.Disk as disk
 use Rattle.rs_pages.specs.PageMap.{PageMap, SamePages}
 use Rattle.rs_journal.specs.FilePages.{FilePages}
-use Rattle.rs_journal.specs.Journal.{Recovers}
-use Rattle.rs_journal.specs.Stages.{GivesFrom}
+use Rattle.rs_journal.specs.Stages.{GivesFrom, IsQuiet}
 use Rattle.rs_journal.specs.declared.stage.Stage.{Stage}
 use Rattle.rs_journal.specs.declared.stage.Stage.TheVariants.{Fresh, Gate, Home, Closing}
 use Rattle.rs_journal.proofs.Staging.{quiet-gives, stage-gives}
@@ -18,7 +17,7 @@ same_back : (one other : PageMap) → SamePages one other → SamePages other on
 same_back one other same = record { fields = sym same.fields; pages = λ n. sym (same.pages n) }
 
 -- what gives the pages of a map gives those of the same one
-gives_same : (one other : PageMap) (image : Content) → SamePages one other → GivesMap one image → GivesMap other image
+pub gives_same : (one other : PageMap) (image : Content) → SamePages one other → GivesMap one image → GivesMap other image
 gives_same one other image same gives = record {
   pages = gives.pages;
   recovers = gives.recovers;
@@ -27,7 +26,7 @@ gives_same one other image same gives = record {
 
 -- from each stage on the pages kept last or the checkpoint's, which are those of this map
 stage_gives : (stage : Stage) (kept checkpoint : FilePages) (map : PageMap) (image : Content) → ArePages map checkpoint → GivesFrom stage kept checkpoint image
-    → Recovers image kept ⊎ GivesMap map image
+    → IsQuiet kept image ⊎ GivesMap map image
 stage_gives Fresh kept checkpoint map image are (inl was) = inl was
 stage_gives Fresh kept checkpoint map image are (inr now) = inr (record { pages = checkpoint; recovers = now; are = are })
 stage_gives Gate kept checkpoint map image are (inl was) = inl was
@@ -45,15 +44,15 @@ module _ {D : Type 0} (d : disk.Ghosts D) where
 
   -- what a crash may leave gives the pages kept last or the committed ones
   module _ (p : Paged D) (kept : FilePages) (is : IsKept d p kept) (keeps : IsTrue (d.keeps_crashes p.disk)) (image : Content) (left : d.may_leave p.disk image) where
-    carried_gives : p.under_way.stage ≢ Fresh → Recovers image kept ⊎ GivesMap (committed d p) image
+    carried_gives : p.under_way.stage ≢ Fresh → IsQuiet kept image ⊎ GivesMap (committed d p) image
     carried_gives ne =
         let on = is.under_way ne in
         stage_gives p.under_way.stage kept on.checkpoint (committed d p) image on.are
         (stage-gives p.under_way.stage kept (pager_journal d p) on.checkpoint image on.makes (on.every.images keeps image left))
 
-    image_gives : Recovers image kept ⊎ GivesMap (committed d p) image
-    image_gives = elim p.under_way.stage as (λ s. p.under_way.stage ≡ s → Recovers image kept ⊎ GivesMap (committed d p) image) [
-      | Fresh ↦ λ e. inl (quiet-gives kept image ((is.quiet e).images keeps image left))
+    image_gives : IsQuiet kept image ⊎ GivesMap (committed d p) image
+    image_gives = elim p.under_way.stage as (λ s. p.under_way.stage ≡ s → IsQuiet kept image ⊎ GivesMap (committed d p) image) [
+      | Fresh ↦ λ e. inl ((is.quiet e).images keeps image left)
       | Gate ↦ λ e. carried_gives (λ f. cc)
       | Home ↦ λ e. carried_gives (λ f. cc)
       | Closing ↦ λ e. carried_gives (λ f. cc)
@@ -76,7 +75,7 @@ module _ {D : Type 0} (d : disk.Ghosts D) where
     gives_first image = gives_same (committed d b) (committed d a) image (same tied)
 
     then_meanwhile : IsTrue (d.keeps_crashes a.disk) → (start : D) (image : Content) → d.left_since start c.disk image
-        → d.left_since start a.disk image ⊎ (Recovers image kept ⊎ GivesMap (committed d a) image)
+        → d.left_since start a.disk image ⊎ (IsQuiet kept image ⊎ GivesMap (committed d a) image)
     then_meanwhile keeps start image left = elim (first.next kept tied is) [
       | inl still ↦ elim (second.meanwhile kept (tie tied) still keeps_on start image left) [
         | inl before ↦ first.meanwhile kept tied is keeps start image before
@@ -85,7 +84,7 @@ module _ {D : Type 0} (d : disk.Ghosts D) where
       ]
       | inr now_kept ↦ elim (second.meanwhile now_kept.pages (tie tied) now_kept.is_kept keeps_on start image left) [
         | inl before ↦ first.meanwhile kept tied is keeps start image before
-        | inr (inl was) ↦ inr (inr (record { pages = now_kept.pages; recovers = was; are = now_kept.are }))
+        | inr (inl was) ↦ inr (inr (record { pages = now_kept.pages; recovers = quiet-gives now_kept.pages image was; are = now_kept.are }))
         | inr (inr now) ↦ inr (inr (gives_first image now))
       ]
     ]

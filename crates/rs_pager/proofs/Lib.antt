@@ -6,6 +6,7 @@ pub mod Copied
 pub mod Cut
 pub mod DiskBytes
 pub mod Edited
+pub mod FirstKept
 pub mod Headers
 pub mod Keeping
 pub mod Lasting

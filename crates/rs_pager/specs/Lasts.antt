@@ -5,6 +5,7 @@ use Rattle.rs_disk.specs.declared.disk.Disk as disk
 use Rattle.rs_pages.specs.PageMap.{PageMap, SamePages}
 use Rattle.rs_journal.specs.FilePages.{FilePages}
 use Rattle.rs_journal.specs.Journal.{Recovers}
+use Rattle.rs_journal.specs.Stages.{IsQuiet}
 use Rattle.rs_pager.specs.Paged.{Paged}
 use Rattle.rs_pager.specs.Maps.{ArePages, IsKept, IsTied, KeepsMaps, committed as committed_pages, working as working_pages}
 use Rattle.rs_pager.specs.Stored.{Stores}
@@ -32,11 +33,11 @@ module _ {D : Type 0} (d : disk.Ghosts D) where
     pub is_kept : IsKept d p pages
     pub are : ArePages map pages
 
-  -- What a crash might have left meanwhile counted before already, or gives the pages kept last or the committed ones; and one of these
-  -- are kept last now.
+  -- What a crash might have left meanwhile counted before already, or has the pages kept last, with a closed gate, or gives the committed
+  -- ones; and one of these are kept last now.
   pub record Lasts (old new : Paged D) : Type 0 where
     pub meanwhile : (kept : FilePages) → IsTied d old → IsKept d old kept → IsTrue (d.keeps_crashes old.disk) → (start : D) (image : Content)
-        → d.left_since start new.disk image → d.left_since start old.disk image ⊎ (Recovers image kept ⊎ GivesMap (committed_pages d old) image)
+        → d.left_since start new.disk image → d.left_since start old.disk image ⊎ (IsQuiet kept image ⊎ GivesMap (committed_pages d old) image)
     pub next : (kept : FilePages) → IsTied d old → IsKept d old kept → IsKept d new kept ⊎ KeepsMap new (committed_pages d old)
     pub keeping : d.keeps_crashes new.disk ≡ d.keeps_crashes old.disk
 
@@ -48,7 +49,7 @@ module _ {D : Type 0} (d : disk.Ghosts D) where
     pub working : SamePages (working_pages d new) (working_pages d old)
     pub next : MatchResult result (λ _. KeepsMap new (committed_pages d old)) (λ _. IsKept d new kept)
     pub meanwhile : IsTrue (d.keeps_crashes old.disk) → (start : D) (image : Content) → d.left_since start new.disk image
-        → d.left_since start old.disk image ⊎ (Recovers image kept ⊎ GivesMap (committed_pages d old) image)
+        → d.left_since start old.disk image ⊎ (IsQuiet kept image ⊎ GivesMap (committed_pages d old) image)
     pub stored : OnOk result (Stores (d.seen new.disk) (committed_pages d new))
 
   -- what the cut of a file leaves, whose pages are all kept
@@ -58,7 +59,7 @@ module _ {D : Type 0} (d : disk.Ghosts D) where
     pub working : SamePages (working_pages d new) (working_pages d old)
     pub is_kept : IsKept d new kept
     pub meanwhile : IsTrue (d.keeps_crashes old.disk) → (start : D) (image : Content) → d.left_since start new.disk image
-        → d.left_since start old.disk image ⊎ Recovers image kept
+        → d.left_since start old.disk image ⊎ IsQuiet kept image
     pub stored : Stores (d.seen new.disk) (committed_pages d new)
 
   -- what a checkpoint does to a pager and what it keeps

@@ -59,6 +59,8 @@ impl<D: Disk> Pager<D> {
             (λ refused. CountsFault refused.1 (D.failures disk) (D.failures refused.0)) }
         ensures honesty { MatchResult result (λ pager. D.is_honest pager.disk ≡ D.is_honest disk)
             (λ refused. D.is_honest refused.0 ≡ D.is_honest disk) }
+        ensures keeping { MatchResult result (λ pager. D.keeps_crashes pager.disk ≡ D.keeps_crashes disk)
+            (λ refused. D.keeps_crashes refused.0 ≡ D.keeps_crashes disk) }
         ensures untouched { IfErr result (λ refused. refused.1 ≡ Refusal.OutOfMemory → refused.0 ≡ disk) }
     {
         let room = match room_of(alloc) {

@@ -20,7 +20,7 @@ use Rattle.rs_refusal.specs.declared.refusal.Refusal.TheVariants as refusal
 use Rattle.rs_server.specs.declared.report.Failure.{Failure}
 use Rattle.rs_server.specs.declared.report.Failure.TheVariants.{Refused, Stream}
 use Rattle.rs_engine.specs.Standing.{Stands}
-use Rattle.rs_engine.specs.Calls.{IsLeftOpen, IsNoFileOfAny, WantsCreating, WantsOpening}
+use Rattle.rs_engine.specs.Calls.{IsLeftOpen, IsNoFileOfAny, LeavesFile, WantsCreating, WantsOpening}
 
 -- ---- failures
 
@@ -87,7 +87,8 @@ module _ {D : Type 0} (d : disk.Ghosts D) where
     pub serves : ServesAndCloses limit first result unread unread_now before after
 
   -- The disk was not opened, and is handed back: it is a file of no state, or one of version 1 that was not closed, or memory or the disk
-  -- gave out: 91 counts one failure. One of version 2 was recovered, as far as the disk allowed. Nothing of the streams was read or written.
+  -- gave out: 91 counts one failure. One of version 2 was recovered, as far as the disk allowed; what stood for a state stands for it still,
+  -- and so does what a crash might have left. Nothing of the streams was read or written.
   pub record RefusesFile (limit : ℕ) (old : D) (result : Result D (Option D × Failure)) (unread unread_now before after : Option (List ℕ)) : Type 0 where
     pub disk : D
     pub why : Refusal
@@ -97,6 +98,7 @@ module _ {D : Type 0} (d : disk.Ghosts D) where
     pub damaged : why ≡ refusal.DamagedFile → IsNoFileOfAny limit (d.seen old)
     pub left_open : why ≡ refusal.FileNotClosed → IsLeftOpen limit (d.seen old)
     pub recovers : (map : PageMap) (pages : FilePages) → ArePages map pages → Recovers (d.seen old) pages → Recovered d pages result old disk
+    pub leaves : LeavesFile d limit old (Err (disk, why))
     pub input : Keeps unread unread_now
     pub output : Keeps before after
 

@@ -1,6 +1,6 @@
 //! The word `dump`: what it does, and how it ends.
 
-ghost use Rattle.std.specs.Prelude.{◌≡◌, IsTrue, false};
+ghost use Rattle.std.specs.Prelude.{◌≡◌, ◌⊎◌, IsTrue, false};
 ghost use Rattle.std.specs.Option.{option_map};
 ghost use Rattle.std.specs.Io.KnownBytes.{Keeps};
 ghost use Rattle.rs_file_dump.specs.Files.{DumpsDisk};
@@ -29,6 +29,7 @@ pub fn dump_on<D: Disk + Drop, W: Write, E: Write>(
         → DumpsDisk GREATEST_LIMIT (D.seen disk) (option_map (λ t. t.now) wanted.entry.table) wanted.entry.omits_rows false (W.contents output.old) (W.contents output.new) }
     ensures fails { IsTrue (D.is_honest disk) → result ≡ FAILED
         → FailsToDump GREATEST_LIMIT (D.seen disk) (option_map (λ t. t.now) wanted.entry.table) wanted.entry.omits_rows (W.contents output.old) (W.contents output.new) }
+    ensures either { (result ≡ SUCCESS) ⊎ (result ≡ FAILED) }
     ensures quiet { result ≡ SUCCESS → Keeps (E.contents errors.old) (E.contents errors.new) }
 {
     match dump_file(alloc, disk, wanted, output, errors) {

@@ -32,6 +32,7 @@ pub mod Routed
 pub mod Rows
 pub mod Same
 pub mod Settled
+pub mod Surviving
 pub mod TableLess
 pub mod TableMore
 pub mod TableReads

@@ -1,6 +1,8 @@
 -- What the calls of a store do, and why they are refused.
 use Rattle.std.specs.Prelude.{◌≡◌, ◌≢◌, ◌≤◌, ◌⊎◌, ℕ, false, Err, IfErr, IfOk, IsTrue, MatchResult, OnErr, OnOk, Result}
 use Rattle.rs_disk.specs.Content.{Content}
+use Rattle.rs_disk.specs.Crash.{Same}
+use Rattle.rs_disk.specs.Reaches.{Reaches}
 use Rattle.rs_disk.specs.declared.disk.Disk as disk
 use Rattle.rs_file.specs.Contents.{Contents, SameContents}
 use Rattle.rs_machine.specs.State.{State, fresh}
@@ -12,14 +14,14 @@ use Rattle.rs_pager.specs.Lasts.{KeepsMap}
 use Rattle.rs_pager.specs.Maps.{ArePages, IsTied, KeepsBelow, committed, working}
 use Rattle.rs_pager.specs.Opened.{CountsFault}
 use Rattle.rs_pager.specs.Paged.{Paged}
-use Rattle.rs_pager.specs.Versions.{StoresFirst}
+use Rattle.rs_pager.specs.Versions.{IsNoFile, StoresFirst}
 use Rattle.rs_pages.specs.PageMap.{PageMap, SamePages}
 use Rattle.rs_refusal.specs.declared.refusal.Refusal.{Refusal}
 use Rattle.rs_refusal.specs.declared.refusal.Refusal.TheVariants as refusal
 use Rattle.rs_store.specs.Standing.{IsFileOf, Stands}
 use Rattle.rs_store.specs.Changing.{StillHolds}
 use Rattle.rs_store.specs.Kept.{Keeps, StandsIn, StoreState}
-use Rattle.rs_store.specs.Lasting.{Endures, IsLast, LeavesOneOf}
+use Rattle.rs_store.specs.Lasting.{Endures, IsLast, LeavesOneOf, StaysFileOf}
 
 -- ---- disks
 
@@ -67,11 +69,13 @@ module _ {D : Type 0} (d : disk.Ghosts D) where
 
   -- ---- a store that comes to be
 
-  -- Whatever the disk is, it is lent to the store or handed back. 91 comes exactly where its failures rose, by one.
+  -- Whatever the disk is, it is lent to the store or handed back, and keeps the model of crashes where it did. 91 comes exactly where its
+  -- failures rose, by one.
   pub record HandsOver (most : ℕ) (old : D) (result : Result (StoreState D) (D × Refusal)) : Type 0 where
     pub honesty : MatchResult result (λ store. d.is_honest store.pager.disk ≡ d.is_honest old) (λ refused. d.is_honest refused.0 ≡ d.is_honest old)
     pub count : MatchResult result (λ store. d.failures store.pager.disk ≡ d.failures old) (λ refused. CountsFault refused.1 (d.failures old) (d.failures refused.0))
     pub limit : IfOk result (λ store. store.pager.limit ≡ most)
+    pub keeping : MatchResult result (λ store. d.keeps_crashes store.pager.disk ≡ d.keeps_crashes old) (λ refused. d.keeps_crashes refused.0 ≡ d.keeps_crashes old)
 
   -- the disk stood for a state, in which the store stands, and which is kept last; its versions begin with the one that was accepted last
   pub record OpensState (limit : ℕ) (content : Content) (store : StoreState D) : Type 0 where
@@ -87,6 +91,14 @@ module _ {D : Type 0} (d : disk.Ghosts D) where
     pub left_open : IfErr result (λ refused. refused.1 ≡ refusal.FileNotClosed → IsLeftOpen limit (d.seen old))
     pub recovers : (map : PageMap) (pages : FilePages) → ArePages map pages → Recovers (d.seen old) pages
         → MatchResult result (λ store. Recovered d pages result old store.pager.disk) (λ refused. Recovered d pages result old refused.0)
+
+  -- What opening leaves of a file, whatever it answers. Where it stood for a state, it stands for that still, and so does what a crash might
+  -- have left meanwhile. One of version 1 that was not closed is left as it was, and so is what is no file of any pages.
+  pub record LeavesFile (limit : ℕ) (old : D) (result : Result (StoreState D) (D × Refusal)) : Type 0 where
+    pub stays : (state : State) → Stands limit (d.seen old) state
+        → MatchResult result (λ store. StaysFileOf d limit state old store.pager.disk) (λ refused. StaysFileOf d limit state old refused.0)
+    pub left_open : IfErr result (λ refused. refused.1 ≡ refusal.FileNotClosed → Reaches d Same old refused.0)
+    pub no_file : IsNoFile (d.seen old) limit → IfErr result (λ refused. refused.1 ≡ refusal.DamagedFile → Reaches d Same old refused.0)
 
   -- What is made of an honest disk: a store that stands in the state at the beginning, which is kept last. It isn't found damaged.
   pub record Creates (result : Result (StoreState D) (D × Refusal)) : Type 0 where

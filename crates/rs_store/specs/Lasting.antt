@@ -1,5 +1,5 @@
 -- Which state is kept last, and what a crash leaves of it.
-use Rattle.std.specs.Prelude.{◌⊎◌, ℕ}
+use Rattle.std.specs.Prelude.{◌⊎◌, ℕ, IsTrue}
 use Rattle.rs_disk.specs.Content.{Content}
 use Rattle.rs_disk.specs.declared.disk.Disk as disk
 use Rattle.rs_machine.specs.State.{State}
@@ -21,6 +21,12 @@ module _ {D : Type 0} (d : disk.Ghosts D) where
     pub tied : IsTied d old → IsTied d new
     pub committed : IsTied d old → SamePages (committed d new) (committed d old)
     pub lasts : Lasts d old new
+
+  -- the disk goes on to stand for the state, and so does what a crash might have left meanwhile, but for what it might have left before
+  pub record StaysFileOf (limit : ℕ) (state : State) (old new : D) : Type 0 where
+    pub stands : Stands limit (d.seen new) state
+    pub meanwhile : IsTrue (d.keeps_crashes old) → (start : D) (image : Content) → d.left_since start new image
+        → d.left_since start old image ⊎ (d.may_leave old image ⊎ Stands limit image state)
 
   -- what a crash might have left meanwhile counted before already, or stands for one of these two states
   abbrev pub LeavesOneOf : ℕ → State → State → D → D → Type 0

@@ -55,6 +55,7 @@ fn create_pages<D: Disk>(alloc: Global, pager: &mut Pager<D>) -> Result<Loaded, 
     ensures limit { pager.new.limit ≡ pager.old.limit }
     ensures most_clean { pager.new.most_clean ≡ pager.old.most_clean }
     ensures honesty { D.is_honest pager.new.disk ≡ D.is_honest pager.old.disk }
+    ensures keeping { D.keeps_crashes pager.new.disk ≡ D.keeps_crashes pager.old.disk }
     ensures refused { IfErr result WantsCreating }
     ensures count { MatchResult result (λ _. D.failures pager.new.disk ≡ D.failures pager.old.disk)
         (λ why. CountsFault why (D.failures pager.old.disk) (D.failures pager.new.disk)) }
@@ -77,6 +78,7 @@ fn write_nothing<D: Disk>(alloc: Global, pager: &mut Pager<D>) -> Result<(), Ref
     ensures limit { pager.new.limit ≡ pager.old.limit }
     ensures most_clean { pager.new.most_clean ≡ pager.old.most_clean }
     ensures honesty { D.is_honest pager.new.disk ≡ D.is_honest pager.old.disk }
+    ensures keeping { D.keeps_crashes pager.new.disk ≡ D.keeps_crashes pager.old.disk }
     ensures refused { IfErr result WantsCreating }
     ensures count { MatchResult result (λ _. D.failures pager.new.disk ≡ D.failures pager.old.disk)
         (λ why. CountsFault why (D.failures pager.old.disk) (D.failures pager.new.disk)) }

@@ -4,7 +4,6 @@ use Rattle.rs_journal.specs.Journal.{journal_of}
 use Rattle.rs_journal.specs.declared.stage.Stage.{Stage}
 use Rattle.rs_journal.specs.declared.stage.Stage.TheVariants.{Fresh}
 use Rattle.rs_journal.proofs.Advancing.{on_err, meanwhile-less, every-still, ends-then}
-use Rattle.rs_journal.proofs.Staging.{quiet-gives}
 use Rattle.rs_journal.proofs.checkpoint.from_fresh.Goals as goal
 
 pub returns-in_err-begin-clause-ends : goal.returns-in_err-begin-clause-ends
@@ -14,7 +13,7 @@ returns-in_err-begin-clause-ends g c = λ kept checkpoint makes every.
     record {
       done = search rules;
       reached = on_err _ _ (every-still g.D.Disk kept journal checkpoint _ Fresh _ c.requires.stage goes.fault);
-      meanwhile = meanwhile-less g.D.Disk _ _ _ _ (λ image is. inl (quiet-gives kept image is)) goes.meanwhile;
+      meanwhile = meanwhile-less g.D.Disk _ _ _ _ (λ image is. inl is) goes.meanwhile;
     }
 
 always : {T E : Type 0} (result : Result T E) (stage : Stage) (P : Type 0) → P → OnErr result (stage ≡ Fresh → P)
@@ -24,13 +23,13 @@ always (Err e) stage P p = λ _. p
 pub returns-in_err-begin-clause-untouched : goal.returns-in_err-begin-clause-untouched
 returns-in_err-begin-clause-untouched g c = λ kept checkpoint makes every.
     let goes = c.in_err-begin.ensures.goes kept checkpoint makes every in
-    always c.from_residual.result c.args.stage.now _ (meanwhile-less g.D.Disk _ _ _ _ (λ image is. quiet-gives kept image is) goes.meanwhile)
+    always c.from_residual.result c.args.stage.now _ goes.meanwhile
 
 pub returns-clause-ends : goal.returns-clause-ends
 returns-clause-ends g c = λ kept checkpoint makes every.
     let journal = journal_of g.C.Copies c.args.first c.args.copies.now in
     let goes = c.in_ok-begin.ensures.goes kept checkpoint makes every in
-    ends-then g.D.Disk _ kept journal checkpoint _ _ _ _ _ _ _ (λ image is. inl (quiet-gives kept image is)) (λ image is. is)
+    ends-then g.D.Disk _ kept journal checkpoint _ _ _ _ _ _ _ (λ image is. inl is) (λ image is. is)
     (search rules) goes.meanwhile (c.from_gate.ensures.ends c.args.first kept checkpoint makes goes.done)
 
 touched : {T E : Type 0} (result : Result T E) (stage : Stage) (P : Type 0) → OnErr result (stage ≢ Fresh) → OnErr result (stage ≡ Fresh → P)

@@ -5,6 +5,7 @@ use Rattle.rs_file.proofs.Loaded.{same_map}
 use Rattle.rs_pager.specs.Lasts.{KeepsMap}
 use Rattle.rs_pager.specs.Maps.{committed}
 use Rattle.rs_pages.specs.PageMap.{PageMap}
+use Rattle.rs_store.proofs.Enduring.{endures-refl, endures-trans, endures_below, endures_maps}
 use Rattle.rs_store.proofs.OpenedPages.{maps-trans}
 use Rattle.rs_store.proofs.opening.migrate.Goals as goal
 
@@ -21,3 +22,18 @@ returns-clause-kept g c = λ lacks tied.
     subst (λ (map : PageMap). OnOk c.migrate.result (KeepsMap d last map))
     (same_map (committed d mid) (committed d c.args.pager.now) (c.check_closed.ensures.keeps.committed tied))
     (c.migrate.ensures.checkpoints.kept still.kept still still.is_kept)
+
+-- ---- what lasts
+
+pub returns-in_if-clause-endures : goal.returns-in_if-clause-endures
+returns-in_if-clause-endures g c = endures-refl g.D.Disk c.args.pager.now
+
+pub returns-in_err-check_closed-clause-endures : goal.returns-in_err-check_closed-clause-endures
+returns-in_err-check_closed-clause-endures g c = endures_below g.D.Disk c.args.pager.now c.check_closed.new.pager c.check_closed.ensures.below
+
+pub returns-clause-endures : goal.returns-clause-endures
+returns-clause-endures g c =
+    let checkpoints = c.migrate.ensures.checkpoints in
+    endures-trans g.D.Disk c.args.pager.now c.check_closed.new.pager c.migrate.new.pager
+    (endures_below g.D.Disk c.args.pager.now c.check_closed.new.pager c.check_closed.ensures.below)
+    (endures_maps g.D.Disk c.check_closed.new.pager c.migrate.new.pager checkpoints.keeps checkpoints.lasts)

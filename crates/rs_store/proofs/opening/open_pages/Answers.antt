@@ -6,6 +6,7 @@ use Rattle.rs_disk.specs.Content.{Content}
 use Rattle.rs_page.specs.declared.file_header.TheConstants.{FLAG_OFFSET}
 use Rattle.rs_pager.specs.Maps.{working}
 use Rattle.rs_refusal.specs.declared.refusal.Refusal.TheVariants as refusal
+use Rattle.rs_store.proofs.Enduring.{endures-trans, endures_below}
 use Rattle.rs_store.proofs.Keeping.{leaves_by_reading}
 use Rattle.rs_store.proofs.Loaded.{stands_for_some}
 use Rattle.rs_store.proofs.OpenedPages.{opened_pages, opened_read}
@@ -54,3 +55,18 @@ returns-in_err-migrate-clause-left_open g c = λ tied is.
       stands_for_some (working d was) loaded.file loaded.catalog loaded.referents (c.in_ok-loaded.ensures.loads tied),
       subst (λ (content : Content). content.byte FLAG_OFFSET ≢ 0) (below.unwritten tied.honest) left.1,
     )
+
+-- ---- what lasts
+
+pub returns-in_err-loaded-clause-endures : goal.returns-in_err-loaded-clause-endures
+returns-in_err-loaded-clause-endures g c = endures_below g.D.Disk c.args.pager.now c.load_whole.new.pager c.load_whole.ensures.rests.below
+
+pub returns-in_err-migrate-clause-endures : goal.returns-in_err-migrate-clause-endures
+returns-in_err-migrate-clause-endures g c =
+    endures-trans g.D.Disk c.args.pager.now c.load_whole.new.pager c.migrate.new.pager
+    (endures_below g.D.Disk c.args.pager.now c.load_whole.new.pager c.load_whole.ensures.rests.below) c.migrate.ensures.endures
+
+pub returns-clause-endures : goal.returns-clause-endures
+returns-clause-endures g c =
+    endures-trans g.D.Disk c.args.pager.now c.load_whole.new.pager c.migrate.new.pager
+    (endures_below g.D.Disk c.args.pager.now c.load_whole.new.pager c.load_whole.ensures.rests.below) c.migrate.ensures.endures
