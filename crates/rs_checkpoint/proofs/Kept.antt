@@ -69,7 +69,7 @@ module _ {D : Type 0} (d : disk.Ghosts D) where
       → d.may_leave p.disk image → IsQuiet kept image
   quiet_image p kept is fresh on image left = (is.quiet fresh).images on image left
 
-  -- what holds of all that a disk is left as holds of one of the two
+  -- A content of which all holds that holds of every image has the pages kept last, or gives the committed ones.
   pub kept_gives : (p : Paged D) (kept : FilePages) → IsKept d p kept → (content : Content) → ((P : Content → Type 0) → EveryImage d P p.disk → P content)
       → IsQuiet kept content ⊎ GivesMap (committed d p) content
   kept_gives p kept is content each = elim (stage_cases p.under_way.stage) [

@@ -9,7 +9,8 @@ use Rattle.rs_pager.specs.Maps.{IsKept, IsTied, committed}
 use Rattle.rs_pager.specs.Paged.{Paged}
 
 module _ {D : Type 0} (d : disk.Ghosts D) where
-  -- each image that a crash might have left since the start of the call has the pages kept last at the start, with a closed gate, or gives the committed ones
+  -- Each image that a crash might have left since the start of the call has the pages kept last at the start, with a closed gate, or gives
+  -- the committed ones.
   pub record LeavesKept (old new : Paged D) : Type 0 where
     pub either : (kept : FilePages) → IsTied d old → IsKept d old kept → IsTrue (d.keeps_crashes old.disk) → (image : Content)
         → d.left_since old.disk new.disk image → IsQuiet kept image ⊎ GivesMap (committed d old) image

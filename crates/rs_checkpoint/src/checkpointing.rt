@@ -15,8 +15,8 @@ use rs_refusal::Refusal;
 /// Makes all that is committed the file's, by a checkpoint, or by the rest of one that a fault stopped. Where the disk lacks nothing,
 /// nothing is called.
 ///
-/// It is refused with 90, before anything is written, and with 91. Each image that a crash might have left since its start gives the
-/// pages kept last or the committed ones; after Ok the committed ones are kept.
+/// It is refused with 90, before anything is written, and with 91. Each image that a crash might have left since its start has the
+/// pages kept last, with a closed gate, or gives the committed ones; after Ok the committed ones are kept.
 pub fn checkpoint<D: Disk>(pager: &mut Pager<D>) -> Result<(), Refusal>
     requires { pager.old.is_begun ≡ false }
     ensures leaves { LeavesKept D.Disk pager.old pager.new }

@@ -11,7 +11,8 @@ ghost use Rattle.rs_pager.specs.Paged.{Paged};
 
 use rs_disk::Disk;
 
-/// Each image that a crash may leave gives the pages kept last, or, where a checkpoint is under way, the committed ones.
+/// Each image that a crash may leave has the pages kept last, with a closed gate, or, where a checkpoint is under way, gives the committed
+/// ones.
 pub fn image_gives_what_is_kept<D: Disk>()
     ensures fresh { (pager : Paged D) (kept : FilePages) → IsKept D.Disk pager kept → pager.under_way.stage ≡ Fresh
         → IsTrue (D.keeps_crashes pager.disk) → (image : Content) → D.may_leave pager.disk image → IsQuiet kept image }

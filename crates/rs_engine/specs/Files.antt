@@ -14,7 +14,7 @@ use Rattle.rs_pager.specs.Maps.{ArePages}
 use Rattle.rs_pages.specs.PageMap.{PageMap}
 use Rattle.rs_refusal.specs.declared.refusal.Refusal.{Refusal}
 use Rattle.rs_refusal.specs.declared.refusal.Refusal.TheVariants as refusal
-use Rattle.rs_store_source.specs.Standing.{Stands}
+use Rattle.rs_store_source.specs.Standing.{IsSecondFileOf, Stands}
 use Rattle.rs_store_source.specs.Calls.{IsLeftOpen, IsNoFileOfAny}
 use Rattle.rs_store_source.specs.Kept.{StoreState}
 use Rattle.rs_store_source.specs.Lasting.{IsLast, LeavesOneOf}
@@ -98,11 +98,12 @@ module _ {D : Type 0} (d : disk.Ghosts D) where
 
   -- ---- an engine that is put away
 
-  -- The disk stands for the state that the engine was in, without its cursors, and so does each image that a crash may leave; meanwhile
-  -- a crash left one that stands for the state kept last or for this one. An engine that is handed back is the machine that it was, but
+  -- The disk stands for the state that the engine was in, without its cursors, as a file of version 2 with a closed gate, and so does each
+  -- image that a crash may leave; meanwhile a crash left one that stands for the state kept last or for this one. An engine that is handed back is the machine that it was, but
   -- for the count of failures; whatever the disk is, what lasts, lasts, and the engine has the cursors that it had.
   pub record Closes (old : EngineState D) (result : Result D (EngineState D × Refusal)) : Type 0 where
     pub stands : (machine : Machine) → IsMachine d old machine → IfOk result (λ disk. Stands old.store.pager.limit (d.seen disk) (without_cursors machine.state))
+    pub second : (machine : Machine) → IsMachine d old machine → IfOk result (λ disk. IsSecondFileOf old.store.pager.limit (d.seen disk) (without_cursors machine.state))
     pub durable : (machine : Machine) → IsMachine d old machine → IfOk result (IsDurable old.store.pager.limit (without_cursors machine.state))
     pub meanwhile : (machine : Machine) (last : State) → IsMachine d old machine → IsLast d old.store.pager last → IsTrue (d.keeps_crashes old.store.pager.disk)
         → old.store.pager.committed_fields.pages ≤ old.store.pager.limit

@@ -9,7 +9,7 @@ use Rattle.rs_refusal.specs.declared.refusal.Refusal.TheVariants as refusal
 use Rattle.rs_server.specs.Disks.{IsClosedAs, TellsFirst}
 use Rattle.rs_server.specs.declared.report.Failure.{Failure}
 use Rattle.rs_server.specs.declared.report.Failure.TheVariants.{Refused}
-use Rattle.rs_engine.specs.Standing.{Stands}
+use Rattle.rs_engine.specs.Standing.{IsSecondFileOf, Stands}
 
 -- a file within one limit is one within a greater one
 pub stands_within : (limit most : ℕ) → limit ≤ most → (content : Content) (state : State) → Stands limit content state → Stands most content state
@@ -26,10 +26,24 @@ stands_within limit most below content state stands = record {
   closed = stands.closed;
 }
 
-pub closed_as : {D : Type 0} (d : disk.Ghosts D) (limit : ℕ) → limit ≤ GREATEST_LIMIT → (closed : D) (state : State) → Stands limit (d.seen closed) state
+second_within : (limit most : ℕ) → limit ≤ most → (content : Content) (state : State) → IsSecondFileOf limit content state → IsSecondFileOf most content state
+second_within limit most below content state second = record {
+  pages = second.pages;
+  stand = record {
+    within = omega (arith, second.stand.within, below);
+    contents = second.stand.contents;
+    stands = second.stand.stands;
+  };
+  file_pages = second.file_pages;
+  are = second.are;
+  quiet = second.quiet;
+}
+
+pub closed_as : {D : Type 0} (d : disk.Ghosts D) (limit : ℕ) → limit ≤ GREATEST_LIMIT → (closed : D) (state : State) → Stands limit (d.seen closed) state → IsSecondFileOf limit (d.seen closed) state
     → (IsTrue (d.keeps_crashes closed) → (image : Content) → d.may_leave closed image → Stands limit image state) → IsClosedAs d GREATEST_LIMIT state closed
-closed_as d limit below closed state stands durable = record {
+closed_as d limit below closed state stands second durable = record {
   stands = stands_within limit GREATEST_LIMIT below (d.seen closed) state stands;
+  second = second_within limit GREATEST_LIMIT below (d.seen closed) state second;
   durable = λ keeps image left. stands_within limit GREATEST_LIMIT below image state (durable keeps image left);
 }
 

@@ -2,7 +2,7 @@
 use Rattle.std.proofs.Common.{ℕ, List, Option, Some, None, Err, refl}
 use Rattle.std.specs.Io.KnownBytes.{Keeps}
 use Rattle.rs_disk.specs.declared.disk.Disk as disk
-use Rattle.rs_engine.specs.Calls.{LeavesFile, WantsOpening}
+use Rattle.rs_engine.specs.Calls.{PreservesFile, WantsOpening}
 use Rattle.rs_engine.specs.Files.{Opens}
 use Rattle.rs_engine.specs.Kept.{EngineState}
 use Rattle.rs_pager.proofs.Recovered.{recovered-err}
@@ -18,9 +18,9 @@ kept None = tt
 kept (Some bytes) = refl
 
 pub refuses_file : {D : Type 0} (d : disk.Ghosts D) (limit : ℕ) (old back : D) (why : Refusal) (unread before : Option (List ℕ)) → Opens d limit old (Err (back, why)) → WantsOpening why
-    → CountsFault why (d.failures old) (d.failures back) → LeavesFile d limit old (Err (back, why))
+    → CountsFault why (d.failures old) (d.failures back) → PreservesFile d limit old (Err (back, why))
     → RefusesFile d limit old (Err (Some back, Refused why)) unread unread before before
-refuses_file {D} d limit old back why unread before opens wants count leaves = record {
+refuses_file {D} d limit old back why unread before opens wants count preserves = record {
   disk = back;
   why = why;
   refused = refl;
@@ -31,7 +31,7 @@ refuses_file {D} d limit old back why unread before opens wants count leaves = r
   recovers = λ map pages are gives.
       recovered-err d {T = EngineState D} {E = D × Refusal} {T' = D} {E' = Option D × Failure} pages (back, why) (Some back, Refused why) old back
       (opens.recovers map pages are gives);
-  leaves = leaves;
+  preserves = preserves;
   input = kept unread;
   output = kept before;
 }

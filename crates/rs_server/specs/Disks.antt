@@ -19,8 +19,8 @@ use Rattle.rs_refusal.specs.declared.refusal.Refusal.{Refusal}
 use Rattle.rs_refusal.specs.declared.refusal.Refusal.TheVariants as refusal
 use Rattle.rs_server.specs.declared.report.Failure.{Failure}
 use Rattle.rs_server.specs.declared.report.Failure.TheVariants.{Refused, Stream}
-use Rattle.rs_engine.specs.Standing.{Stands}
-use Rattle.rs_engine.specs.Calls.{IsLeftOpen, IsNoFileOfAny, LeavesFile, WantsCreating, WantsOpening}
+use Rattle.rs_engine.specs.Standing.{IsSecondFileOf, Stands}
+use Rattle.rs_engine.specs.Calls.{IsLeftOpen, IsNoFileOfAny, PreservesFile, WantsCreating, WantsOpening}
 
 -- ---- failures
 
@@ -55,9 +55,10 @@ pub record ServesInput (outcome : Result End Fault) (first last : Machine) (unre
   pub ended : Ends outcome told unread_now first last before after
 
 module _ {D : Type 0} (d : disk.Ghosts D) where
-  -- the disk stands for the state, and so does each image that a crash may leave
+  -- the disk stands for the state, as a file of version 2 with a closed gate, and so does each image that a crash may leave
   pub record IsClosedAs (limit : ℕ) (state : State) (disk : D) : Type 0 where
     pub stands : Stands limit (d.seen disk) state
+    pub second : IsSecondFileOf limit (d.seen disk) state
     pub durable : IsTrue (d.keeps_crashes disk) → (image : Content) → d.may_leave disk image → Stands limit image state
 
   -- No call of the disk failed in a close that was accepted, from this count of failures on. Why one was refused is told where nothing
@@ -87,8 +88,8 @@ module _ {D : Type 0} (d : disk.Ghosts D) where
     pub serves : ServesAndCloses limit first result unread unread_now before after
 
   -- The disk was not opened, and is handed back: it is a file of no state, or one of version 1 that was not closed, or memory or the disk
-  -- gave out: 91 counts one failure. One of version 2 was recovered, as far as the disk allowed; what stood for a state stands for it still,
-  -- and so does what a crash might have left. Nothing of the streams was read or written.
+  -- gave out: 91 counts one failure. One of version 2 was recovered, as far as the disk allowed; what stood for a state stands for it still.
+  -- Nothing of the streams was read or written.
   pub record RefusesFile (limit : ℕ) (old : D) (result : Result D (Option D × Failure)) (unread unread_now before after : Option (List ℕ)) : Type 0 where
     pub disk : D
     pub why : Refusal
@@ -98,7 +99,7 @@ module _ {D : Type 0} (d : disk.Ghosts D) where
     pub damaged : why ≡ refusal.DamagedFile → IsNoFileOfAny limit (d.seen old)
     pub left_open : why ≡ refusal.FileNotClosed → IsLeftOpen limit (d.seen old)
     pub recovers : (map : PageMap) (pages : FilePages) → ArePages map pages → Recovers (d.seen old) pages → Recovered d pages result old disk
-    pub leaves : LeavesFile d limit old (Err (disk, why))
+    pub preserves : PreservesFile d limit old (Err (disk, why))
     pub input : Keeps unread unread_now
     pub output : Keeps before after
 

@@ -29,7 +29,7 @@ pub fn dump_on<D: Disk + Drop, W: Write, E: Write>(
         → DumpsDisk GREATEST_LIMIT (D.seen disk) (option_map (λ t. t.now) wanted.entry.table) wanted.entry.omits_rows false (W.contents output.old) (W.contents output.new) }
     ensures fails { IsTrue (D.is_honest disk) → result ≡ FAILED
         → FailsToDump GREATEST_LIMIT (D.seen disk) (option_map (λ t. t.now) wanted.entry.table) wanted.entry.omits_rows (W.contents output.old) (W.contents output.new) }
-    ensures either { (result ≡ SUCCESS) ⊎ (result ≡ FAILED) }
+    ensures status { (result ≡ SUCCESS) ⊎ (result ≡ FAILED) }
     ensures quiet { result ≡ SUCCESS → Keeps (E.contents errors.old) (E.contents errors.new) }
 {
     match dump_file(alloc, disk, wanted, output, errors) {

@@ -18,7 +18,7 @@ use Rattle.rs_pages.proofs.Stores.{SamePages-trans}
 use Rattle.rs_store.specs.Kept.{StandsIn, StoreState}
 use Rattle.rs_store.specs.Lasting.{Endures, IsLast, LeavesOneOf}
 use Rattle.rs_store.specs.Settling.{IsKept as IsChangeKept, IsTakenBack}
-use Rattle.rs_store.specs.Standing.{Stands, StandWithin}
+use Rattle.rs_store.specs.Standing.{IsSecondFileOf, Stands, StandWithin}
 use Rattle.rs_store.proofs.Same.{fewer_meant}
 
 -- an image that gives the pages of a state stands for it
@@ -79,6 +79,9 @@ module _ {D : Type 0} (d : disk.Ghosts D) where
     pub read_gives : GivesMap map (d.seen p.disk)
     read_gives = record { pages = keeps.pages; recovers = quiet-gives keeps.pages (d.seen p.disk) (keeps.is_kept.quiet fresh).reads; are = keeps.are }
 
+    pub read_second : (limit : ℕ) (state : State) → StandWithin limit map state → IsSecondFileOf limit (d.seen p.disk) state
+    read_second limit state stand = record { pages = map; stand = stand; file_pages = keeps.pages; are = keeps.are; quiet = (keeps.is_kept.quiet fresh).reads }
+
     pub image_gives : IsTrue (d.keeps_crashes p.disk) → (image : Content) → d.may_leave p.disk image → GivesMap map image
     image_gives on image left = record { pages = keeps.pages; recovers = quiet-gives keeps.pages image ((keeps.is_kept.quiet fresh).images on image left); are = keeps.are }
 
@@ -88,8 +91,8 @@ module _ {D : Type 0} (d : disk.Ghosts D) where
     pub leaves_one : IsTrue (d.keeps_crashes old.disk) → LeavesOneOf d old.limit last state old.disk new.disk
     leaves_one on start image left = elim (lasts.meanwhile was.keeps.pages tied was.keeps.is_kept on start image left) [
       | inl before ↦ inl before
-      | inr (inl gives) ↦
-          inr (inl (stands_by old.limit image was.pages last (record { pages = was.keeps.pages; recovers = gives; are = was.keeps.are }) was.stand))
+      | inr (inl is) ↦
+          inr (inl (stands_by old.limit image was.pages last (record { pages = was.keeps.pages; recovers = quiet-gives was.keeps.pages image is; are = was.keeps.are }) was.stand))
       | inr (inr gives) ↦ inr (inr (stands_by old.limit image (committed d old) state gives stand))
     ]
 
@@ -111,6 +114,6 @@ module _ {D : Type 0} (d : disk.Ghosts D) where
   pub image_stands : (p : Paged D) (last state : State) → IsLast d p last → StandWithin p.limit (committed d p) state → IsTrue (d.keeps_crashes p.disk) → (image : Content)
       → d.may_leave p.disk image → Stands p.limit image last ⊎ Stands p.limit image state
   image_stands p last state was stand on image left = elim (image_given d p was.keeps.pages was.keeps.is_kept on image left) [
-    | inl gives ↦ inl (stands_by p.limit image was.pages last (record { pages = was.keeps.pages; recovers = gives; are = was.keeps.are }) was.stand)
+    | inl is ↦ inl (stands_by p.limit image was.pages last (record { pages = was.keeps.pages; recovers = quiet-gives was.keeps.pages image is; are = was.keeps.are }) was.stand)
     | inr gives ↦ inr (stands_by p.limit image (committed d p) state gives stand)
   ]

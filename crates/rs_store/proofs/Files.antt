@@ -27,7 +27,7 @@ use Rattle.rs_file_meaning.specs.Meant.{IsMeant}
 use Rattle.rs_file_meaning.specs.Standing.{StandsFor}
 use Rattle.rs_refusal.specs.declared.refusal.Refusal.TheVariants as refusal
 use Rattle.rs_store.specs.Standing.{IsFileOf, StandWithin}
-use Rattle.rs_store.specs.Calls.{IsLeftOpen, IsNoFileOfAny, LeavesDisk, Opens, OpensPages, OpensState}
+use Rattle.rs_store.specs.Calls.{IsClosedFirst, IsLeftOpen, IsNoFileOfAny, LeavesDisk, Opens, OpensPages, OpensState}
 use Rattle.rs_store.specs.Kept.{StoreState}
 use Rattle.rs_store.specs.Loading.{LoadsState, StandsForNone, StandsForSome}
 use Rattle.rs_store.specs.declared.loading.Loaded.{Loaded}
@@ -65,6 +65,10 @@ module _ {D : Type 0} (d : disk.Ghosts D) (limit : ℕ) (content : Content) (p :
   pub left_open : p.is_header_changed ≡ true → StandsForSome (working d p) → (content.byte FLAG_OFFSET ≡ 0 → ⊥) → IsLeftOpen limit content
   unfolding file_of
   left_open lacks some isnt = record { state = some.state; file = file_of some.contents some.state some.stands; first = lacks_first lacks; not_closed = isnt }
+
+  pub closed_first : p.is_header_changed ≡ true → StandsForSome (working d p) → content.byte FLAG_OFFSET ≡ 0 → IsClosedFirst limit content
+  unfolding file_of
+  closed_first lacks some closed = record { state = some.state; file = file_of some.contents some.state some.stands; first = lacks_first lacks; closed = closed }
 
   -- pages that stand for none are no file
   pub no_file : DiskHasOneMap → StandsForNone (working d p) → IsNoFileOfAny limit content

@@ -23,12 +23,12 @@ use Rattle.rs_pages.proofs.Stores.{SamePages-trans}
 use Rattle.rs_refusal.specs.declared.refusal.Refusal.{Refusal}
 use Rattle.rs_file_meaning.specs.Standing.{StandsFor}
 use Rattle.rs_refusal.specs.declared.refusal.Refusal.TheVariants as refusal
-use Rattle.rs_store.specs.Standing.{Stands, StandWithin}
+use Rattle.rs_store.specs.Standing.{IsSecondFileOf, Stands, StandWithin}
 use Rattle.rs_store.specs.Calls.{KeepsSame, KeepsStore, LeavesDisk, Reopens, Saves}
 use Rattle.rs_store.specs.Changing.{StillHolds}
 use Rattle.rs_store.specs.Kept.{Keeps, StandsIn, StoreState}
 use Rattle.rs_store.specs.Loading.{LoadsState, StandsForNone}
-use Rattle.rs_store.proofs.Enduring.{endures-refl, endures-trans, image_gives, read_gives, stand_within, stands_by}
+use Rattle.rs_store.proofs.Enduring.{endures-refl, endures-trans, image_gives, read_gives, read_second, stand_within, stands_by}
 use Rattle.rs_store.proofs.HeldChanges.{still_later}
 use Rattle.rs_store.proofs.Results.{err_with, ok_always}
 use Rattle.rs_store.proofs.Same.{FileHoldsOne, SameMeant, SameSays, SameState, fewer_meant, meant_moves, same_accepted, state_moves}
@@ -169,7 +169,7 @@ module _ {D : Type 0} (d : disk.Ghosts D) where
   pub saves_checkpoint : {E : Type 0} (store : StoreState D) (now : Paged D) (r : Result (Unit {0}) E) → KeepsMaps d store.pager now
       → ((pages : FilePages) → IsTied d store.pager → IsKept d store.pager pages → OnOk r (KeepsMap d now (committed d store.pager)))
       → OnOk r (now.under_way.stage ≡ Fresh) → Saves d r store (store_over now store.file store.catalog store.referents)
-  saves_checkpoint store now (Err why) maps keeps fresh = record { stands = λ oldest state stands. tt; last = λ oldest state stands. tt; durable = λ oldest state stands. tt }
+  saves_checkpoint store now (Err why) maps keeps fresh = record { stands = λ oldest state stands. tt; second = λ oldest state stands. tt; last = λ oldest state stands. tt; durable = λ oldest state stands. tt }
   saves_checkpoint store now (Ok answer) maps keeps fresh =
       let within : store.pager.committed_fields.pages ≤ now.limit = omega (arith, maps.within, ap (λ (f : FileHeader). f.pages) maps.committed_fields) in
       let map = committed d store.pager in
@@ -177,6 +177,7 @@ module _ {D : Type 0} (d : disk.Ghosts D) where
       record {
         stands = λ oldest state stands.
             stands_by now.limit (d.seen now.disk) map state (read_gives d now map (kept stands.keeps.tied) fresh) (stand_within d oldest store state stands now.limit within);
+        second = λ oldest state stands. read_second d now map (kept stands.keeps.tied) fresh now.limit state (stand_within d oldest store state stands now.limit within);
         last = λ oldest state stands. record { pages = map; keeps = kept stands.keeps.tied; stand = stand_within d oldest store state stands now.limit within };
         durable = λ oldest state stands on image left.
             stands_by now.limit image map state (image_gives d now map (kept stands.keeps.tied) fresh on image left) (stand_within d oldest store state stands now.limit within);
@@ -279,6 +280,9 @@ module _ {D : Type 0} (d : disk.Ghosts D) where
         stands = λ oldest state stands.
             ok_always r (subst (λ (content : Content). Stands c.pager.limit content state) (sym (below.unwritten (still oldest state stands).honest))
             (subst (λ (most : ℕ). Stands most (d.seen b.pager.disk) state) (sym limit) (saves.stands oldest state stands)));
+        second = λ oldest state stands.
+            ok_always r (subst (λ (content : Content). IsSecondFileOf c.pager.limit content state) (sym (below.unwritten (still oldest state stands).honest))
+            (subst (λ (most : ℕ). IsSecondFileOf most (d.seen b.pager.disk) state) (sym limit) (saves.second oldest state stands)));
         last = λ oldest state stands.
             let last = saves.last oldest state stands in
             ok_always r (record {

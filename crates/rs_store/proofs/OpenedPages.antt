@@ -1,15 +1,19 @@
 -- The pages of a file that was opened: those of version 2 are only read, and those of version 1 are made its.
-use Rattle.std.proofs.Common.{◌≡◌, ◌∙◌, false, true, refl, subst, sym}
+use Rattle.std.proofs.Common.{◌≡◌, ◌∙◌, ◌⊎◌, IsTrue, false, true, inl, inr, refl, subst, sym}
+use Rattle.rs_disk.specs.Content.{Content}
 use Rattle.rs_disk.specs.Crash.{Same}
 use Rattle.rs_disk.specs.Reaches.{Reaches}
 use Rattle.rs_disk.specs.declared.disk.Disk as disk
 use Rattle.rs_file.proofs.Loaded.{same_map}
+use Rattle.rs_page.specs.declared.file_header.TheConstants.{FLAG_OFFSET}
+use Rattle.rs_pager.specs.Below.{KeepsBelow-trans}
 use Rattle.rs_pager.specs.Lasts.{KeepsMap}
 use Rattle.rs_pager.specs.Maps.{IsTied, KeepsBelow, KeepsMaps, committed, working}
 use Rattle.rs_pager.specs.Paged.{Paged}
 use Rattle.rs_pages.specs.PageMap.{PageMap}
 use Rattle.rs_pages.proofs.Stores.{SamePages-trans}
 use Rattle.rs_store.specs.Calls.{LeavesDisk, OpensPages}
+use Rattle.rs_store.specs.Loading.{StandsForSome}
 
 module _ {D : Type 0} (d : disk.Ghosts D) where
   -- what is kept below the working pages is only read of the disk
@@ -68,3 +72,12 @@ module _ {D : Type 0} (d : disk.Ghosts D) where
   -- of version 2 nothing is written
   pub opened_read : (old mid new : Paged D) → LeavesDisk d old mid → (mid.is_header_changed ≡ false → new ≡ mid) → old.is_header_changed ≡ false → KeepsBelow d old new
   opened_read old mid new leaves alone has = subst (λ (p : Paged D). KeepsBelow d old p) (sym (alone (leaves.below.lacks ∙ has))) leaves.below
+
+  -- only a closed file of version 1, whose pages stand for a state, is written
+  pub unclosed_after : (old mid new : Paged D) → KeepsBelow d old mid → StandsForSome (working d old) → IsTrue (d.is_honest old.disk)
+      → KeepsBelow d mid new ⊎ ((mid.is_header_changed ≡ true) × ((d.seen mid.disk).byte FLAG_OFFSET ≡ 0))
+      → KeepsBelow d old new ⊎ ((old.is_header_changed ≡ true) × StandsForSome (working d old) × ((d.seen old.disk).byte FLAG_OFFSET ≡ 0))
+  unclosed_after old mid new below some honest after = elim after [
+    | inl read ↦ inl (KeepsBelow-trans d old mid new below read)
+    | inr raised ↦ inr (sym below.lacks ∙ raised.0, some, subst (λ (content : Content). content.byte FLAG_OFFSET ≡ 0) (below.unwritten honest) raised.1)
+  ]

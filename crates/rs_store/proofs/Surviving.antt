@@ -6,7 +6,7 @@ use Rattle.rs_disk.specs.Crash.{Same}
 use Rattle.rs_disk.specs.Reaches.{Reaches}
 use Rattle.rs_disk.specs.declared.disk.Disk as disk
 use Rattle.rs_disk.proofs.Reaching.{same-then}
-use Rattle.rs_checkpoint.proofs.Kept.{read_gives}
+use Rattle.rs_checkpoint.proofs.Kept.{image_gives, read_gives}
 use Rattle.rs_journal.specs.FilePages.{FilePages}
 use Rattle.rs_journal.specs.Journal.{Recovers}
 use Rattle.rs_journal.specs.Recovery.{Recovered, SaysCount}
@@ -17,7 +17,7 @@ use Rattle.rs_journal.proofs.Staging.{quiet-gives}
 use Rattle.rs_machine.specs.State.{State}
 use Rattle.rs_page.specs.declared.file_header.TheConstants.{FLAG_OFFSET}
 use Rattle.rs_pager.specs.Lasts.{GivesMap}
-use Rattle.rs_pager.specs.Maps.{ArePages, IsTied, KeepsBelow, committed, working}
+use Rattle.rs_pager.specs.Maps.{ArePages, IsKept, IsTied, KeepsBelow, committed, working}
 use Rattle.rs_pager.specs.Opened.{IsFresh, IsOpened}
 use Rattle.rs_pager.specs.Paged.{Paged}
 use Rattle.rs_pager.specs.Versions.{IsNoFile, StoresFirst}
@@ -27,12 +27,13 @@ use Rattle.rs_pager.proofs.Versions.{first-shut}
 use Rattle.rs_pages.specs.PageMap.{PageMap, SamePages}
 use Rattle.rs_refusal.specs.declared.refusal.Refusal.{Refusal}
 use Rattle.rs_refusal.specs.declared.refusal.Refusal.TheVariants as refusal
-use Rattle.rs_store.specs.Calls.{LeavesFile}
+use Rattle.rs_store.specs.Calls.{IsClosedFirst, PreservesFile}
 use Rattle.rs_store.specs.Kept.{StoreState}
 use Rattle.rs_store.specs.Lasting.{Endures, StaysFileOf}
+use Rattle.rs_store.specs.Loading.{StandsForSome}
 use Rattle.rs_store.specs.Standing.{Stands, StandWithin}
 use Rattle.rs_store.proofs.Enduring.{stands_by}
-use Rattle.rs_store.proofs.Files.{DiskHasOneMap, lacks_first, still_recovered}
+use Rattle.rs_store.proofs.Files.{DiskHasOneMap, closed_first, still_recovered}
 use Rattle.rs_store.proofs.OpenedPages.{below_reaches}
 
 -- a content with the pages of a closed file of version 1, and a closed gate, stands for what that file stands for
@@ -52,19 +53,33 @@ module _ {D : Type 0} (d : disk.Ghosts D) (limit : ℕ) (state : State) (old : D
       | inl before ↦ inl before
       | inr follows ↦ inr (inl (subst (d.may_leave old) (sym follows.steps) follows.was_left))
     ];
+    images = λ on image left. let follows = (reaches.images on).now image left in inl (subst (d.may_leave old) (sym follows.steps) follows.was_left);
   }
 
   -- a file of version 2 that was recovered
-  pub stays_recovered : {T E : Type 0} (result : Result T E) (new : D) (map : PageMap) (pages : FilePages) → ArePages map pages → StandWithin limit map state
-      → Recovered d pages result old new → StaysFileOf d limit state old new
-  stays_recovered result new map pages are stand recovered = record {
-    stands = stands_by limit (d.seen new) map state (record { pages = pages; recovers = recovered.reads; are = are }) stand;
-    meanwhile = λ on start image left. elim ((recovered.meanwhile on).each start image left) [
-      | inl before ↦ inl before
-      | inr (inl gives) ↦ inr (inr (stands_by limit image map state (record { pages = pages; recovers = gives; are = are }) stand))
-      | inr (inr was) ↦ inr (inl was)
-    ];
-  }
+  module _ (new : D) (map : PageMap) (pages : FilePages) (are : ArePages map pages) (stand : StandWithin limit map state) where
+    given_by : (image : Content) → Recovers image pages → Stands limit image state
+    given_by image gives = stands_by limit image map state (record { pages = pages; recovers = gives; are = are }) stand
+
+    image_recovered : {T E : Type 0} (result : Result T E) → d.keeps_crashes new ≡ d.keeps_crashes old → Recovered d pages result old new → IsTrue (d.keeps_crashes old) → (image : Content)
+        → d.may_leave new image → d.may_leave old image ⊎ Stands limit image state
+    image_recovered (Ok value) keeping recovered on image left =
+        inr (given_by image (quiet-gives pages image (recovered.done.images (subst IsTrue (sym keeping) on) image left)))
+    image_recovered (Err why) keeping recovered on image left = elim (recovered.images on) [
+      | inl gives ↦ inr (given_by image (gives image left))
+      | inr was ↦ inl (was image left)
+    ]
+
+    pub stays_recovered : {T E : Type 0} (result : Result T E) → d.keeps_crashes new ≡ d.keeps_crashes old → Recovered d pages result old new → StaysFileOf d limit state old new
+    stays_recovered result keeping recovered = record {
+      stands = given_by (d.seen new) recovered.reads;
+      meanwhile = λ on start image left. elim ((recovered.meanwhile on).each start image left) [
+        | inl before ↦ inl before
+        | inr (inl gives) ↦ inr (inr (given_by image gives))
+        | inr (inr was) ↦ inr (inl was)
+      ];
+      images = image_recovered result keeping recovered;
+    }
 
   -- a closed file of version 1, which was read and perhaps made one of version 2
   module _ (first now : Paged D) (map : PageMap) (honest : IsTrue (d.is_honest old)) (reaches : Reaches d Same old first.disk) (tied : IsTied d first) (fresh : first.under_way.stage ≡ Fresh)
@@ -82,15 +97,16 @@ module _ {D : Type 0} (d : disk.Ghosts D) (limit : ℕ) (state : State) (old : D
     given_now : (image : Content) → GivesMap (committed d now) image → Stands limit image state
     given_now image gives = given image (gives_same (committed d now) (committed d first) image (endures.committed tied) gives)
 
-    read_now : Stands limit (d.seen now.disk) state
-    read_now = elim (endures.lasts.next tied.kept tied tied.is_kept) [
-      | inl still ↦ elim (read_gives d now tied.kept still) [
-        | inl is ↦ quiet (d.seen now.disk) is
-        | inr gives ↦ given_now (d.seen now.disk) gives
+    -- what holds the pages that are kept now
+    left_now : (image : Content) → ((kept : FilePages) → IsKept d now kept → IsQuiet kept image ⊎ GivesMap (committed d now) image) → Stands limit image state
+    left_now image gives_one = elim (endures.lasts.next tied.kept tied tied.is_kept) [
+      | inl still ↦ elim (gives_one tied.kept still) [
+        | inl is ↦ quiet image is
+        | inr gives ↦ given_now image gives
       ]
-      | inr kept ↦ elim (read_gives d now kept.pages kept.is_kept) [
-        | inl is ↦ given (d.seen now.disk) (record { pages = kept.pages; recovers = quiet-gives kept.pages (d.seen now.disk) is; are = kept.are })
-        | inr gives ↦ given_now (d.seen now.disk) gives
+      | inr kept ↦ elim (gives_one kept.pages kept.is_kept) [
+        | inl is ↦ given image (record { pages = kept.pages; recovers = quiet-gives kept.pages image is; are = kept.are })
+        | inr gives ↦ given_now image gives
       ]
     ]
 
@@ -107,58 +123,67 @@ module _ {D : Type 0} (d : disk.Ghosts D) (limit : ℕ) (state : State) (old : D
         ]
 
     pub stays_raised : StaysFileOf d limit state old now.disk
-    stays_raised = record { stands = read_now; meanwhile = meanwhile }
+    stays_raised = record {
+      stands = left_now (d.seen now.disk) (λ kept is. read_gives d now kept is);
+      meanwhile = meanwhile;
+      images = λ on image left. inr (left_now image
+          (λ kept is. image_gives d now kept is (subst IsTrue (sym (endures.lasts.keeping ∙ reaches.keeping)) on) image left));
+    }
 
 -- ---- answers of opening
 
 module _ {D : Type 0} (d : disk.Ghosts D) (limit : ℕ) (old : D) (honest : IsTrue (d.is_honest old)) where
-  -- pages of version 2 are recovered, and a file of version 1 is read
+  -- pages of version 2 are recovered
   abbrev pub RecoversPages : {T E : Type 0} → Result T E → D → Type 0
   RecoversPages {T} {E} result new = (pages : FilePages) → SaysCount pages → Recovers (d.seen old) pages → Recovered d {T = T} {E = E} pages result old new
 
+  -- where the gate is not open the disk is only read
   abbrev pub ReadsShut : D → Type 0
   ReadsShut new = (d.seen old).byte GATE ≢ OPEN → Reaches d Same old new
 
-  -- a disk of which no pager came to be
-  pub leaves_none : (back : D) (why : Refusal) → (why ≡ refusal.FileNotClosed → ⊥) → (why ≡ refusal.DamagedFile → Reaches d Same old back) → ReadsShut back
-      → RecoversPages {T = Paged D} {E = D × Refusal} (Err (back, why)) back → LeavesFile d limit old (Err (back, why))
-  leaves_none back why other damaged shut recovers = record {
-    stays = λ state stands. elim stands.file.stores [
-      | inl gives ↦ stays_recovered d limit state old {T = Paged D} {E = D × Refusal} (Err (back, why)) back stands.file.pages gives.pages gives.are stands.file.stand
+  -- where no pager was made
+  pub preserves_none : (back : D) (why : Refusal) → d.keeps_crashes back ≡ d.keeps_crashes old → (why ≢ refusal.Disk → Reaches d Same old back) → ReadsShut back
+      → RecoversPages {T = Paged D} {E = D × Refusal} (Err (back, why)) back → PreservesFile d limit old (Err (back, why))
+  preserves_none back why keeping alone shut recovers = record {
+    stays = λ state stands. elim stands.file.stores as (λ stores. stands.file.stores ≡ stores → StaysFileOf d limit state old back) [
+      | inl gives ↦ λ _. stays_recovered d limit state old back stands.file.pages gives.pages gives.are stands.file.stand {T = Paged D} {E = D × Refusal} (Err (back, why)) keeping
           (recovers gives.pages gives.are.says gives.recovers)
-      | inr first ↦ stays_by_reading d limit state old back honest stands (shut (first-shut (d.seen old) stands.file.pages.fields first.header))
-    ];
-    left_open = λ is. absurd (other is);
-    no_file = λ none is. damaged is;
+      | inr first ↦ λ _. stays_by_reading d limit state old back honest stands (shut (first-shut (d.seen old) stands.file.pages.fields first.header))
+    ] refl;
+    shut = λ closed none. shut closed;
+    no_file = λ none other. alone other;
   }
 
-  -- one over which a pager came to be, whose pages were read, and those of version 1 perhaps made the file's
+  -- where a pager was made, whose pages were read, and those of a closed file of version 1 perhaps made the file's
   module _ (first now : Paged D) (fresh : IsFresh limit first) (same : SamePages (working d first) (committed d first)) (opened : IsOpened d (d.seen old) first)
       (read : first.is_header_changed ≡ false → KeepsBelow d first now) (endures : Endures d first now) (keeping : d.keeps_crashes first.disk ≡ d.keeps_crashes old) (shut : ReadsShut first.disk)
-      (recovers : RecoversPages {T = Paged D} {E = D × Refusal} (Ok first) first.disk) (one_map : DiskHasOneMap) where
+      (recovers : RecoversPages {T = Paged D} {E = D × Refusal} (Ok first) first.disk) (one_map : DiskHasOneMap)
+      (unclosed : KeepsBelow d first now ⊎ ((first.is_header_changed ≡ true) × StandsForSome (working d first) × ((d.seen first.disk).byte FLAG_OFFSET ≡ 0))) where
     stays_after : (result : Result (StoreState D) (D × Refusal)) (state : State) → Stands limit (d.seen old) state → StaysFileOf d limit state old now.disk
     stays_after result state stands = elim stands.file.stores as (λ stores. stands.file.stores ≡ stores → StaysFileOf d limit state old now.disk) [
-      | inl gives ↦ λ _. stays_recovered d limit state old result now.disk stands.file.pages gives.pages gives.are stands.file.stand
+      | inl gives ↦ λ _. stays_recovered d limit state old now.disk stands.file.pages gives.pages gives.are stands.file.stand result (endures.lasts.keeping ∙ keeping)
           (still_recovered d old first now result opened read keeping recovers stands.file.pages gives.pages gives.are gives.recovers)
       | inr one ↦ λ _. stays_raised d limit state old first now stands.file.pages honest (shut (first-shut (d.seen old) stands.file.pages.fields one.header)) opened.tied fresh.fresh
           (one_map (d.seen old) (committed d first) stands.file.pages opened.stores (inr one)) one (stands.closed one) stands.file.stand endures
     ] refl
 
-    untouched : KeepsBelow d first now → first.is_header_changed ≡ true → Reaches d Same old now.disk
-    untouched below lacks = same-then d old first.disk now.disk
-        (shut (first-shut (d.seen old) first.committed_fields (lacks_first d limit (d.seen old) first fresh same opened lacks).header)) (below_reaches d first now below)
+    shut_after : (d.seen old).byte GATE ≢ OPEN → (IsClosedFirst limit (d.seen old) → ⊥) → Reaches d Same old now.disk
+    shut_after closed none = elim unclosed [
+      | inl below ↦ same-then d old first.disk now.disk (shut closed) (below_reaches d first now below)
+      | inr raised ↦ absurd (none (closed_first d limit (d.seen old) first fresh same opened raised.0 raised.1
+          (subst (λ (content : Content). content.byte FLAG_OFFSET ≡ 0) ((shut closed).reads honest) raised.2)))
+    ]
 
-    pub leaves_opened : (store : StoreState D) → store.pager ≡ now → LeavesFile d limit old (Ok store)
-    leaves_opened store over = record {
+    pub preserves_opened : (store : StoreState D) → store.pager ≡ now → PreservesFile d limit old (Ok store)
+    preserves_opened store over = record {
       stays = λ state stands. subst (λ (p : Paged D). StaysFileOf d limit state old p.disk) (sym over) (stays_after (Ok store) state stands);
-      left_open = tt;
+      shut = λ closed none. subst (λ (p : Paged D). Reaches d Same old p.disk) (sym over) (shut_after closed none);
       no_file = λ none. tt;
     }
 
-    pub leaves_refused : (back : D) (why : Refusal) → back ≡ now.disk → (why ≡ refusal.FileNotClosed → KeepsBelow d first now × (first.is_header_changed ≡ true))
-        → LeavesFile d limit old (Err (back, why))
-    leaves_refused back why at unclosed = record {
+    pub preserves_refused : (back : D) (why : Refusal) → back ≡ now.disk → PreservesFile d limit old (Err (back, why))
+    preserves_refused back why at = record {
       stays = λ state stands. subst (λ (disk : D). StaysFileOf d limit state old disk) (sym at) (stays_after (Err (back, why)) state stands);
-      left_open = λ is. subst (λ (disk : D). Reaches d Same old disk) (sym at) (untouched (unclosed is).0 (unclosed is).1);
-      no_file = λ none is. absurd (none.none (committed d first) opened.stores fresh.least fresh.greatest);
+      shut = λ closed none. subst (λ (disk : D). Reaches d Same old disk) (sym at) (shut_after closed none);
+      no_file = λ none other. absurd (none.none (committed d first) opened.stores fresh.least fresh.greatest);
     }

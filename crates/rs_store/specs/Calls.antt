@@ -10,6 +10,7 @@ use Rattle.rs_page.specs.declared.file_header.TheConstants.{FLAG_OFFSET}
 use Rattle.rs_journal.specs.FilePages.{FilePages}
 use Rattle.rs_journal.specs.Journal.{Recovers}
 use Rattle.rs_journal.specs.Recovery.{Recovered}
+use Rattle.rs_journal.specs.declared.limits.TheConstants.{GATE, OPEN}
 use Rattle.rs_pager.specs.Lasts.{KeepsMap}
 use Rattle.rs_pager.specs.Maps.{ArePages, IsTied, KeepsBelow, committed, working}
 use Rattle.rs_pager.specs.Opened.{CountsFault}
@@ -18,7 +19,7 @@ use Rattle.rs_pager.specs.Versions.{IsNoFile, StoresFirst}
 use Rattle.rs_pages.specs.PageMap.{PageMap, SamePages}
 use Rattle.rs_refusal.specs.declared.refusal.Refusal.{Refusal}
 use Rattle.rs_refusal.specs.declared.refusal.Refusal.TheVariants as refusal
-use Rattle.rs_store.specs.Standing.{IsFileOf, Stands}
+use Rattle.rs_store.specs.Standing.{IsFileOf, IsSecondFileOf, Stands}
 use Rattle.rs_store.specs.Changing.{StillHolds}
 use Rattle.rs_store.specs.Kept.{Keeps, StandsIn, StoreState}
 use Rattle.rs_store.specs.Lasting.{Endures, IsLast, LeavesOneOf, StaysFileOf}
@@ -31,6 +32,13 @@ pub record IsLeftOpen (limit : ℕ) (content : Content) : Type 0 where
   pub file : IsFileOf limit content state
   pub first : StoresFirst content file.pages
   pub not_closed : content.byte FLAG_OFFSET ≢ 0
+
+-- it is one of version 1 that was closed
+pub record IsClosedFirst (limit : ℕ) (content : Content) : Type 0 where
+  pub state : State
+  pub file : IsFileOf limit content state
+  pub first : StoresFirst content file.pages
+  pub closed : content.byte FLAG_OFFSET ≡ 0
 
 -- it is a file of no state, closed or not
 pub record IsNoFileOfAny (limit : ℕ) (content : Content) : Type 0 where
@@ -92,13 +100,14 @@ module _ {D : Type 0} (d : disk.Ghosts D) where
     pub recovers : (map : PageMap) (pages : FilePages) → ArePages map pages → Recovers (d.seen old) pages
         → MatchResult result (λ store. Recovered d pages result old store.pager.disk) (λ refused. Recovered d pages result old refused.0)
 
-  -- What opening leaves of a file, whatever it answers. Where it stood for a state, it stands for that still, and so does what a crash might
-  -- have left meanwhile. One of version 1 that was not closed is left as it was, and so is what is no file of any pages.
-  pub record LeavesFile (limit : ℕ) (old : D) (result : Result (StoreState D) (D × Refusal)) : Type 0 where
+  -- What opening leaves of a disk, whatever it answers. A file that stood for a state stands for it still. Where the gate was not open
+  -- nothing is written, but to a closed file of version 1; and nothing to what is no file of any pages, unless a call failed.
+  pub record PreservesFile (limit : ℕ) (old : D) (result : Result (StoreState D) (D × Refusal)) : Type 0 where
     pub stays : (state : State) → Stands limit (d.seen old) state
         → MatchResult result (λ store. StaysFileOf d limit state old store.pager.disk) (λ refused. StaysFileOf d limit state old refused.0)
-    pub left_open : IfErr result (λ refused. refused.1 ≡ refusal.FileNotClosed → Reaches d Same old refused.0)
-    pub no_file : IsNoFile (d.seen old) limit → IfErr result (λ refused. refused.1 ≡ refusal.DamagedFile → Reaches d Same old refused.0)
+    pub shut : (d.seen old).byte GATE ≢ OPEN → (IsClosedFirst limit (d.seen old) → ⊥)
+        → MatchResult result (λ store. Reaches d Same old store.pager.disk) (λ refused. Reaches d Same old refused.0)
+    pub no_file : IsNoFile (d.seen old) limit → IfErr result (λ refused. refused.1 ≢ refusal.Disk → Reaches d Same old refused.0)
 
   -- What is made of an honest disk: a store that stands in the state at the beginning, which is kept last. It isn't found damaged.
   pub record Creates (result : Result (StoreState D) (D × Refusal)) : Type 0 where
@@ -120,9 +129,11 @@ module _ {D : Type 0} (d : disk.Ghosts D) where
     pub full : new.pager.full_refusals ≡ old.pager.full_refusals
     pub endures : Endures d old.pager new.pager
 
-  -- the disk stands for the state in which the store stands, and which is kept last: so does each image that a crash may leave
+  -- The disk stands for the state in which the store stands, and which is kept last: so does each image that a crash may leave. It is a
+  -- file of version 2 with a closed gate.
   pub record Saves {E : Type 0} (result : Result (Unit {0}) E) (old new : StoreState D) : Type 0 where
     pub stands : (oldest : ℕ) (state : State) → StandsIn d oldest old state → OnOk result (Stands new.pager.limit (d.seen new.pager.disk) state)
+    pub second : (oldest : ℕ) (state : State) → StandsIn d oldest old state → OnOk result (IsSecondFileOf new.pager.limit (d.seen new.pager.disk) state)
     pub last : (oldest : ℕ) (state : State) → StandsIn d oldest old state → OnOk result (IsLast d new.pager state)
     pub durable : (oldest : ℕ) (state : State) → StandsIn d oldest old state → OnOk result (IsTrue (d.keeps_crashes new.pager.disk)
         → (image : Content) → d.may_leave new.pager.disk image → Stands new.pager.limit image state)
@@ -152,10 +163,11 @@ module _ {D : Type 0} (d : disk.Ghosts D) where
 
   -- ---- a store that is put away
 
-  -- The disk stands for the state in which the store stood, and so does each image that a crash may leave; meanwhile a crash left one that
-  -- stands for the state kept last or for this one. A store that is handed back keeps what it kept.
+  -- The disk stands for the state in which the store stood, as a file of version 2 with a closed gate, and so does each image that a crash
+  -- may leave; meanwhile a crash left one that stands for the state kept last or for this one. A store that is handed back keeps what it kept.
   pub record Closes (old : StoreState D) (result : Result D (StoreState D × Refusal)) : Type 0 where
     pub stands : (oldest : ℕ) (state : State) → StandsIn d oldest old state → IfOk result (λ disk. Stands old.pager.limit (d.seen disk) state)
+    pub second : (oldest : ℕ) (state : State) → StandsIn d oldest old state → IfOk result (λ disk. IsSecondFileOf old.pager.limit (d.seen disk) state)
     pub durable : (oldest : ℕ) (state : State) → StandsIn d oldest old state → IfOk result (λ disk. IsTrue (d.keeps_crashes disk)
         → (image : Content) → d.may_leave disk image → Stands old.pager.limit image state)
     pub meanwhile : (oldest : ℕ) (state last : State) → StandsIn d oldest old state → IsLast d old.pager last → IsTrue (d.keeps_crashes old.pager.disk)

@@ -22,11 +22,13 @@ module _ {D : Type 0} (d : disk.Ghosts D) where
     pub committed : IsTied d old → SamePages (committed d new) (committed d old)
     pub lasts : Lasts d old new
 
-  -- the disk goes on to stand for the state, and so does what a crash might have left meanwhile, but for what it might have left before
+  -- The disk still stands for the state. What a crash might have left meanwhile, and what one may leave now, stands for it too, or might
+  -- have been left before.
   pub record StaysFileOf (limit : ℕ) (state : State) (old new : D) : Type 0 where
     pub stands : Stands limit (d.seen new) state
     pub meanwhile : IsTrue (d.keeps_crashes old) → (start : D) (image : Content) → d.left_since start new image
         → d.left_since start old image ⊎ (d.may_leave old image ⊎ Stands limit image state)
+    pub images : IsTrue (d.keeps_crashes old) → (image : Content) → d.may_leave new image → d.may_leave old image ⊎ Stands limit image state
 
   -- what a crash might have left meanwhile counted before already, or stands for one of these two states
   abbrev pub LeavesOneOf : ℕ → State → State → D → D → Type 0

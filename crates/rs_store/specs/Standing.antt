@@ -3,8 +3,11 @@ use Rattle.std.specs.Prelude.{◌≡◌, ◌≤◌, ℕ}
 use Rattle.rs_disk.specs.Content.{Content}
 use Rattle.rs_file.specs.Contents.{Contents}
 use Rattle.rs_file_meaning.specs.Standing.{StandsFor}
+use Rattle.rs_journal.specs.FilePages.{FilePages}
+use Rattle.rs_journal.specs.Stages.{IsQuiet}
 use Rattle.rs_machine.specs.State.{State}
 use Rattle.rs_page.specs.declared.file_header.TheConstants.{FLAG_OFFSET}
+use Rattle.rs_pager.specs.Maps.{ArePages}
 use Rattle.rs_pager.specs.Versions.{IsFileOfPages, StoresFirst}
 use Rattle.rs_pages.specs.PageMap.{PageMap}
 
@@ -25,3 +28,11 @@ pub record IsFileOf (limit : ℕ) (disk : Content) (state : State) : Type 0 wher
 pub record Stands (limit : ℕ) (disk : Content) (state : State) : Type 0 where
   pub file : IsFileOf limit disk state
   pub closed : StoresFirst disk file.pages → disk.byte FLAG_OFFSET ≡ 0
+
+-- The disk has the pages of a file of version 2 in their places, with a closed gate, and they stand for the state.
+pub record IsSecondFileOf (limit : ℕ) (disk : Content) (state : State) : Type 0 where
+  pub pages : PageMap
+  pub stand : StandWithin limit pages state
+  pub file_pages : FilePages
+  pub are : ArePages pages file_pages
+  pub quiet : IsQuiet file_pages disk

@@ -14,7 +14,7 @@ use rs_catalog_pages::{
 };
 use rs_machine::limits::{ALIGNMENTS, INDEXES, ROUTES, TABLES, VIEWS};
 
-/// How many bytes a name or a list may have in its field, and one more.
+/// The least length that a field of one byte can't say: of a name in bytes, of a list in items.
 const SHORT: usize = 256;
 
 /// Whether there are no more of each kind than there may be.

@@ -7,7 +7,7 @@ ghost use Rattle.rs_page_cache.specs.declared.clean.TheConstants.{MOST_CLEAN};
 ghost use Rattle.rs_pager.specs.Lasts.{KeepsMap};
 ghost use Rattle.rs_pager.specs.Maps.{committed, working, IsTied, KeepsBelow, KeepsMaps};
 ghost use Rattle.rs_pager.specs.Opened.{CountsFault};
-ghost use Rattle.rs_store.specs.Calls.{HandsOver, LeavesFile, Opens, OpensPages, WantsOpening};
+ghost use Rattle.rs_store.specs.Calls.{HandsOver, Opens, OpensPages, PreservesFile, WantsOpening};
 ghost use Rattle.rs_store.specs.Kept.{IsAtRest};
 ghost use Rattle.rs_store.specs.Lasting.{Endures};
 ghost use Rattle.rs_store.specs.Loading.{LoadsState, StandsForNone, StandsForSome};
@@ -26,13 +26,13 @@ impl<D: Disk> Store<D> {
     /// of it is written. One of version 1 that was closed becomes one of version 2. `limit` is the greatest number of pages.
     ///
     /// It is refused with 94 only where the disk is a file of no state, closed or not, and with 95 only where it is one of version 1 and was
-    /// not closed; it may be refused with 90 or 91 instead. A refusal hands the disk back. Whatever is answered, and whenever a crash comes,
-    /// a file that stood for a state stands for it still.
+    /// not closed; it may be refused with 90 or 91 instead. A refusal hands the disk back. Whatever is answered, a file
+    /// that stood for a state stands for it still, and so does what a crash meanwhile leaves of it, but for what one might have left before.
     pub fn open(alloc: Global, disk: D, limit: u32) -> Result<Store<D>, (D, Refusal)>
         requires least { LEAST_LIMIT ≤ limit }
         requires greatest { limit ≤ GREATEST_LIMIT }
         ensures opens { IsTrue (D.is_honest disk) → Opens D.Disk limit disk result }
-        ensures leaves { IsTrue (D.is_honest disk) → LeavesFile D.Disk limit disk result }
+        ensures preserves { IsTrue (D.is_honest disk) → PreservesFile D.Disk limit disk result }
         ensures hands { HandsOver D.Disk limit disk result }
         ensures refused { IfErr result (λ refused. WantsOpening refused.1) }
     {
@@ -66,14 +66,16 @@ pub(crate) fn store_of<D: Disk>(pager: Pager<D>, loaded: Loaded) -> Store<D>
 }
 
 /// Reads and checks the file, and makes one of version 1 that was closed one of version 2. It is refused with 90, with 91, with 94 only where
-/// the pages stand for no state, and with 95 only where they do and are of version 1 and not closed. Nothing is written to a file of version 2.
+/// the pages stand for no state, and with 95 only where they do and are of version 1 and not closed. Nothing is written but to a file
+/// of version 1 that was closed and stands for a state.
 fn open_pages<D: Disk>(alloc: Global, pager: &mut Pager<D>) -> Result<Loaded, Refusal>
     requires narrow { pager.old.most_clean ≡ MOST_CLEAN }
     requires shut { pager.old.is_begun ≡ false }
     ensures opens { OnOk result (OpensPages D.Disk pager.old pager.new) }
     ensures read { pager.old.is_header_changed ≡ false → KeepsBelow D.Disk pager.old pager.new }
     ensures endures { Endures D.Disk pager.old pager.new }
-    ensures untouched { result ≡ Err Refusal.FileNotClosed → KeepsBelow D.Disk pager.old pager.new }
+    ensures unclosed { IsTied D.Disk pager.old → KeepsBelow D.Disk pager.old pager.new
+        ⊎ ((pager.old.is_header_changed ≡ true) × StandsForSome (working D.Disk pager.old) × ((D.seen pager.old.disk).byte FLAG_OFFSET ≡ 0)) }
     ensures most_clean { pager.new.most_clean ≡ pager.old.most_clean }
     ensures shut { pager.new.is_begun ≡ pager.old.is_begun }
     ensures honesty { D.is_honest pager.new.disk ≡ D.is_honest pager.old.disk }
@@ -100,7 +102,8 @@ fn migrate<D: Disk>(pager: &mut Pager<D>) -> Result<(), Refusal>
     ensures alone { pager.old.is_header_changed ≡ false → pager.new ≡ pager.old }
     ensures keeps { pager.old.is_header_changed ≡ true → KeepsMaps D.Disk pager.old pager.new }
     ensures endures { Endures D.Disk pager.old pager.new }
-    ensures untouched { result ≡ Err Refusal.FileNotClosed → KeepsBelow D.Disk pager.old pager.new }
+    ensures unclosed { IsTrue (D.is_honest pager.old.disk) → KeepsBelow D.Disk pager.old pager.new
+        ⊎ ((pager.old.is_header_changed ≡ true) × ((D.seen pager.old.disk).byte FLAG_OFFSET ≡ 0)) }
     ensures kept { pager.old.is_header_changed ≡ true → IsTied D.Disk pager.old → OnOk result (KeepsMap D.Disk pager.new (committed D.Disk pager.old)) }
     ensures begun { pager.new.is_begun ≡ pager.old.is_begun }
     ensures honesty { D.is_honest pager.new.disk ≡ D.is_honest pager.old.disk }

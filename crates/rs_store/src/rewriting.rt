@@ -1,4 +1,4 @@
-//! This module writes other definitions of the same tables into a file, once it has checked that a file can keep them.
+//! This module writes other definitions of the same tables into a file, once it has checked that a file has room for them.
 
 ghost use Rattle.std.specs.Prelude.{◌≡◌, ◌≤◌, ◌<◌, ◌+◌, IsOkUnless, OnErr, OnOk, true};
 ghost use Rattle.std.specs.List.{AllByRecursion};
@@ -24,7 +24,7 @@ use rs_stored_catalog::stored_of;
 use std::alloc::Global;
 
 /// Writes the definitions of this catalogue into the file, which has the same tables and indexes. It is refused with 90, with 91, with 92
-/// where the file is full, and with 94 where the definitions can't be kept or the disk does not give back what was written.
+/// where the file is full, and with 94 only where the definitions can't be kept or the disk does not give back what was written.
 pub(crate) fn write_definitions_of<P: Pages>(
     alloc: Global,
     pages: &mut P,

@@ -17,7 +17,7 @@ ghost use Rattle.rs_page_cache.specs.Changes.{ListsHeld};
 ghost use Rattle.rs_page_cache.specs.declared.clean.TheConstants.{MOST_CLEAN};
 ghost use Rattle.rs_pager.specs.Lasts.{Lasts};
 ghost use Rattle.rs_pager.specs.Opened.{CountsFault};
-ghost use Rattle.rs_store_source.specs.Calls.{CountsClosing, HandsOver, LeavesFile, WantsCreating, WantsOpening};
+ghost use Rattle.rs_store_source.specs.Calls.{CountsClosing, HandsOver, PreservesFile, WantsCreating, WantsOpening};
 ghost use Rattle.rs_store_source.specs.Kept.{garbage_of};
 
 use crate::engine::Engine;
@@ -61,7 +61,7 @@ impl<D: Disk> Engine<D> {
     /// Opens the file that the disk holds, and checks it as a whole, as `open_within` does with the greatest limit.
     pub fn open(alloc: Global, disk: D) -> Result<Engine<D>, (D, Refusal)>
         ensures opens { IsTrue (D.is_honest disk) → Opens D.Disk GREATEST_LIMIT disk result }
-        ensures leaves { IsTrue (D.is_honest disk) → LeavesFile D.Disk GREATEST_LIMIT disk (stores_of result) }
+        ensures preserves { IsTrue (D.is_honest disk) → PreservesFile D.Disk GREATEST_LIMIT disk (stores_of result) }
         ensures hands { HandsOver D.Disk GREATEST_LIMIT disk (stores_of result) }
         ensures refused { IfErr result (λ refused. WantsOpening refused.1) }
     {
@@ -72,13 +72,13 @@ impl<D: Disk> Engine<D> {
     /// else nothing of it is written. One of version 1 that was closed becomes one of version 2. `limit` is the greatest number of pages.
     ///
     /// It is refused with 94 only where the disk is a file of no state, closed or not, and with 95 only where it is one of version 1 and was
-    /// not closed; it may be refused with 90 or 91 instead. A refusal hands the disk back. Whatever is answered, and whenever a crash comes,
-    /// a file that stood for a state stands for it still.
+    /// not closed; it may be refused with 90 or 91 instead. A refusal hands the disk back. Whatever is answered, a file
+    /// that stood for a state stands for it still, and so does what a crash meanwhile leaves of it, but for what one might have left before.
     pub fn open_within(alloc: Global, disk: D, limit: u32) -> Result<Engine<D>, (D, Refusal)>
         requires least { LEAST_LIMIT ≤ limit }
         requires greatest { limit ≤ GREATEST_LIMIT }
         ensures opens { IsTrue (D.is_honest disk) → Opens D.Disk limit disk result }
-        ensures leaves { IsTrue (D.is_honest disk) → LeavesFile D.Disk limit disk (stores_of result) }
+        ensures preserves { IsTrue (D.is_honest disk) → PreservesFile D.Disk limit disk (stores_of result) }
         ensures hands { HandsOver D.Disk limit disk (stores_of result) }
         ensures refused { IfErr result (λ refused. WantsOpening refused.1) }
     {

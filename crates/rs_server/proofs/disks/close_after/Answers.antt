@@ -7,7 +7,7 @@ use Rattle.rs_server.proofs.disks.close_after.Goals as goal
 pub returns-in-Ok-None : goal.returns-in-Ok-None
 returns-in-Ok-None g c = λ machine is. record {
   closed = closed_as g.D.Disk c.args.engine.store.pager.limit is.is.within c.in-Ok-None.disk _ (c.in-Ok-None.ensures.closes.stands machine is.is)
-      (c.in-Ok-None.ensures.closes.durable machine is.is);
+      (c.in-Ok-None.ensures.closes.second machine is.is) (c.in-Ok-None.ensures.closes.durable machine is.is);
   told = search rules;
   count = c.in-Ok-None.ensures.count.count ∙ sym is.is.failures;
 }
@@ -15,7 +15,7 @@ returns-in-Ok-None g c = λ machine is. record {
 pub returns-in-Ok-Some : goal.returns-in-Ok-Some
 returns-in-Ok-Some g c = λ machine is. record {
   closed = closed_as g.D.Disk c.args.engine.store.pager.limit is.is.within c.in-Ok-Some.disk _ (c.in-Ok-Some.ensures.closes.stands machine is.is)
-      (c.in-Ok-Some.ensures.closes.durable machine is.is);
+      (c.in-Ok-Some.ensures.closes.second machine is.is) (c.in-Ok-Some.ensures.closes.durable machine is.is);
   told = search rules;
   count = c.in-Ok-Some.ensures.count.count ∙ sym is.is.failures;
 }

@@ -19,4 +19,4 @@ returns-in-Ok g c = λ honest.
 pub returns-in-Err : goal.returns-in-Err
 returns-in-Err g c = λ honest.
     inr (refuses_file g.D.Disk GREATEST_LIMIT c.args.disk c.in-Err.disk c.in-Err.refusal _ _ (c.in-Err.ensures.opens honest) c.in-Err.ensures.refused
-    c.in-Err.ensures.hands.count (c.in-Err.ensures.leaves honest))
+    c.in-Err.ensures.hands.count (c.in-Err.ensures.preserves honest))

@@ -1,7 +1,8 @@
 -- The flag is read, and then the file is migrated.
-use Rattle.std.proofs.Common.{subst}
+use Rattle.std.proofs.Common.{inl, inr, rules, subst}
 use Rattle.std.specs.Prelude.{OnOk}
 use Rattle.rs_file.proofs.Loaded.{same_map}
+use Rattle.rs_pager.specs.Below.{KeepsBelow-refl}
 use Rattle.rs_pager.specs.Lasts.{KeepsMap}
 use Rattle.rs_pager.specs.Maps.{committed}
 use Rattle.rs_pages.specs.PageMap.{PageMap}
@@ -37,3 +38,14 @@ returns-clause-endures g c =
     endures-trans g.D.Disk c.args.pager.now c.check_closed.new.pager c.migrate.new.pager
     (endures_below g.D.Disk c.args.pager.now c.check_closed.new.pager c.check_closed.ensures.below)
     (endures_maps g.D.Disk c.check_closed.new.pager c.migrate.new.pager checkpoints.keeps checkpoints.lasts)
+
+-- ---- what is written
+
+pub returns-in_if-clause-unclosed : goal.returns-in_if-clause-unclosed
+returns-in_if-clause-unclosed g c = λ honest. inl (KeepsBelow-refl g.D.Disk c.args.pager.now)
+
+pub returns-in_err-check_closed-clause-unclosed : goal.returns-in_err-check_closed-clause-unclosed
+returns-in_err-check_closed-clause-unclosed g c = λ honest. inl c.check_closed.ensures.below
+
+pub returns-clause-unclosed : goal.returns-clause-unclosed
+returns-clause-unclosed g c = λ honest. inr (search rules, c.in_ok-check_closed.ensures.closed honest)

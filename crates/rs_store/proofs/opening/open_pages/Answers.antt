@@ -1,5 +1,5 @@
 -- The pages are read and checked, and those of version 1 are made the file's.
-use Rattle.std.proofs.Common.{◌≡◌, ◌∙◌, Err, ap, subst, sym}
+use Rattle.std.proofs.Common.{◌≡◌, ◌∙◌, Err, ap, inl, subst, sym}
 use Rattle.std.specs.Prelude.{◌≢◌, IsTrue}
 use Rattle.std.proofs.lemmas.Result.{err_from_is_err_and}
 use Rattle.rs_disk.specs.Content.{Content}
@@ -9,7 +9,7 @@ use Rattle.rs_refusal.specs.declared.refusal.Refusal.TheVariants as refusal
 use Rattle.rs_store.proofs.Enduring.{endures-trans, endures_below}
 use Rattle.rs_store.proofs.Keeping.{leaves_by_reading}
 use Rattle.rs_store.proofs.Loaded.{stands_for_some}
-use Rattle.rs_store.proofs.OpenedPages.{opened_pages, opened_read}
+use Rattle.rs_store.proofs.OpenedPages.{opened_pages, opened_read, unclosed_after}
 use Rattle.rs_store.proofs.opening.open_pages.Goals as goal
 
 pub returns-clause-opens : goal.returns-clause-opens
@@ -70,3 +70,24 @@ pub returns-clause-endures : goal.returns-clause-endures
 returns-clause-endures g c =
     endures-trans g.D.Disk c.args.pager.now c.load_whole.new.pager c.migrate.new.pager
     (endures_below g.D.Disk c.args.pager.now c.load_whole.new.pager c.load_whole.ensures.rests.below) c.migrate.ensures.endures
+
+-- ---- what is written
+
+pub returns-in_err-loaded-clause-unclosed : goal.returns-in_err-loaded-clause-unclosed
+returns-in_err-loaded-clause-unclosed g c = λ tied. inl c.load_whole.ensures.rests.below
+
+pub returns-in_err-migrate-clause-unclosed : goal.returns-in_err-migrate-clause-unclosed
+returns-in_err-migrate-clause-unclosed g c = λ tied.
+    let below = c.load_whole.ensures.rests.below in
+    let loaded = c.in_ok-loaded.loaded in
+    unclosed_after g.D.Disk c.args.pager.now c.load_whole.new.pager c.migrate.new.pager below
+    (stands_for_some (working g.D.Disk c.args.pager.now) loaded.file loaded.catalog loaded.referents (c.in_ok-loaded.ensures.loads tied)) tied.honest
+    (c.migrate.ensures.unclosed (below.tied tied).honest)
+
+pub returns-clause-unclosed : goal.returns-clause-unclosed
+returns-clause-unclosed g c = λ tied.
+    let below = c.load_whole.ensures.rests.below in
+    let loaded = c.in_ok-loaded.loaded in
+    unclosed_after g.D.Disk c.args.pager.now c.load_whole.new.pager c.migrate.new.pager below
+    (stands_for_some (working g.D.Disk c.args.pager.now) loaded.file loaded.catalog loaded.referents (c.in_ok-loaded.ensures.loads tied)) tied.honest
+    (c.migrate.ensures.unclosed (below.tied tied).honest)

@@ -5,7 +5,7 @@ use Rattle.rs_engine.specs.Kept.{EngineState}
 use Rattle.rs_engine.proofs.Filing.{engine_with, stays, without}
 use Rattle.rs_machine.specs.State.{State}
 use Rattle.rs_store_source.specs.Lasting.{LeavesOneOf}
-use Rattle.rs_store_source.specs.Standing.{Stands}
+use Rattle.rs_store_source.specs.Standing.{IsSecondFileOf, Stands}
 use Rattle.rs_engine.proofs.engine.Engine.close.Goals as goal
 
 pub returns-in-Ok-clause-closes : goal.returns-in-Ok-clause-closes
@@ -15,6 +15,8 @@ returns-in-Ok-clause-closes g c =
     subst (λ (e : EngineState g.row.D.Denot). Closes d e (Ok c.in-Ok.disk)) c.self.view_is (record {
       stands = λ machine is. subst (λ (state : State). Stands was.store.pager.limit (d.seen c.in-Ok.disk) state) (sym (without d was machine is))
           (c.in-Ok.ensures.closes.stands was.oldest is.state is.stands);
+      second = λ machine is. subst (λ (state : State). IsSecondFileOf was.store.pager.limit (d.seen c.in-Ok.disk) state) (sym (without d was machine is))
+          (c.in-Ok.ensures.closes.second was.oldest is.state is.stands);
       durable = λ machine is. subst (λ (state : State). IsDurable d was.store.pager.limit state c.in-Ok.disk) (sym (without d was machine is))
           (c.in-Ok.ensures.closes.durable was.oldest is.state is.stands);
       meanwhile = λ machine last is kept on within.
@@ -35,6 +37,7 @@ returns-in-Err-clause-closes g c =
     let now = engine_with c.in-Err.store c.self.inside.live.oldest c.self.inside.cursors in
     subst (λ (e : EngineState g.row.D.Denot). Closes d e (Err (now, c.in-Err.refusal))) c.self.view_is (record {
       stands = λ machine is. tt;
+      second = λ machine is. tt;
       durable = λ machine is. tt;
       meanwhile = λ machine last is kept on within. tt;
       keeping = tt;

@@ -2,7 +2,7 @@
 use Rattle.std.proofs.Common.{◌∙◌, ℕ, IsTrue, ap, subst, sym}
 use Rattle.rs_disk.specs.Content.{Content}
 use Rattle.rs_store.specs.Lasting.{LeavesOneOf}
-use Rattle.rs_store.specs.Standing.{Stands}
+use Rattle.rs_store.specs.Standing.{IsSecondFileOf, Stands}
 use Rattle.rs_store.proofs.Enduring.{leaves_one, stand_within}
 use Rattle.rs_store.proofs.store.Store.close.Goals as goal
 
@@ -16,6 +16,9 @@ returns-in-Ok-clause-closes g c =
       stands = λ oldest state stands.
           subst (λ (disk : g.row.D.Denot). Stands was.pager.limit (d.seen disk) state) (sym same)
           (subst (λ (most : ℕ). Stands most (d.seen last.pager.disk) state) c.save.ensures.keeps.limit (c.in-Ok.ensures.saves.stands oldest state stands));
+      second = λ oldest state stands.
+          subst (λ (disk : g.row.D.Denot). IsSecondFileOf was.pager.limit (d.seen disk) state) (sym same)
+          (subst (λ (most : ℕ). IsSecondFileOf most (d.seen last.pager.disk) state) c.save.ensures.keeps.limit (c.in-Ok.ensures.saves.second oldest state stands));
       durable = λ oldest state stands.
           subst (λ (disk : g.row.D.Denot). IsTrue (d.keeps_crashes disk) → (image : Content) → d.may_leave disk image → Stands was.pager.limit image state) (sym same)
           (λ on image left. subst (λ (most : ℕ). Stands most image state) c.save.ensures.keeps.limit (c.in-Ok.ensures.saves.durable oldest state stands on image left));

@@ -8,10 +8,10 @@ use Rattle.rs_pager.specs.Paged.{Paged}
 use Rattle.rs_pager.proofs.Recovered.{recovered-at, recovered-err}
 use Rattle.rs_pager.proofs.Versions.{first-shut}
 use Rattle.rs_refusal.specs.declared.refusal.Refusal.{Refusal}
-use Rattle.rs_store.specs.Calls.{LeavesFile, Opens}
+use Rattle.rs_store.specs.Calls.{Opens, PreservesFile}
 use Rattle.rs_store.specs.Kept.{StoreState}
 use Rattle.rs_store.proofs.Files.{lacks_first, opens_err, opens_none, opens_ok, opens_state, still_recovered}
-use Rattle.rs_store.proofs.Surviving.{leaves_none, leaves_opened, leaves_refused}
+use Rattle.rs_store.proofs.Surviving.{preserves_none, preserves_opened, preserves_refused}
 use Rattle.rs_store.proofs.store.Store.open.Goals as goal
 
 pub returns-in_err-pager-clause-opens : goal.returns-in_err-pager-clause-opens
@@ -63,33 +63,37 @@ returns-in-Err-clause-opens g c = λ honest.
 
 -- ---- what is left of the file
 
-pub returns-in_err-pager-clause-leaves : goal.returns-in_err-pager-clause-leaves
-returns-in_err-pager-clause-leaves g c = λ honest.
+pub returns-in_err-pager-clause-preserves : goal.returns-in_err-pager-clause-preserves
+returns-in_err-pager-clause-preserves g c = λ honest.
     let d = g.D.Disk in
     let back = c.in_err-pager.field-0.0 in
     let p = err_from_is_err_and c.from_residual.result c.from_residual.ensures.1 in
-    rw (p.1, p.2) (leaves_none d c.args.limit c.args.disk honest back.0 back.1
-    (λ is. elim c.in_err-pager.ensures.refused [ inl e ↦ absurd (cc (is, e)) | inr (inl e) ↦ absurd (cc (is, e)) | inr (inr e) ↦ absurd (cc (is, e)) ])
-    (c.in_err-pager.ensures.left honest) (c.in_err-pager.ensures.shut honest)
+    rw (p.1, p.2) (preserves_none d c.args.limit c.args.disk honest back.0 back.1 c.in_err-pager.ensures.keeping
+    (λ other. elim c.in_err-pager.ensures.refused [
+      | inl memory ↦ c.in_err-pager.ensures.untouched memory honest
+      | inr (inl failed) ↦ absurd (other failed)
+      | inr (inr damaged) ↦ c.in_err-pager.ensures.left honest damaged
+    ]) (c.in_err-pager.ensures.shut honest)
     (λ pages says gives. c.in_err-pager.ensures.recovers pages honest says gives))
 
-pub returns-in-Ok-clause-leaves : goal.returns-in-Ok-clause-leaves
-returns-in-Ok-clause-leaves g c = λ honest.
-    let d = g.D.Disk in
-    let first = c.in_ok-pager.pager in
-    let now = c.open_pages.new.pager in
-    subst (λ (s : StoreState g.row.D.Denot). LeavesFile d c.args.limit c.args.disk (Ok s)) (sym c.store_of.ensures)
-    (leaves_opened d c.args.limit c.args.disk honest first now c.in_ok-pager.ensures.fresh c.in_ok-pager.ensures.same (c.in_ok-pager.ensures.opened honest)
-    c.open_pages.ensures.read c.open_pages.ensures.endures c.in_ok-pager.ensures.keeping (c.in_ok-pager.ensures.shut honest)
-    (λ pages says gives. c.in_ok-pager.ensures.recovers pages honest says gives) c.disk_stands_for_one_map.ensures _ refl)
-
-pub returns-in-Err-clause-leaves : goal.returns-in-Err-clause-leaves
-returns-in-Err-clause-leaves g c = λ honest.
+pub returns-in-Ok-clause-preserves : goal.returns-in-Ok-clause-preserves
+returns-in-Ok-clause-preserves g c = λ honest.
     let d = g.D.Disk in
     let first = c.in_ok-pager.pager in
     let now = c.open_pages.new.pager in
     let opened = c.in_ok-pager.ensures.opened honest in
-    leaves_refused d c.args.limit c.args.disk honest first now c.in_ok-pager.ensures.fresh c.in_ok-pager.ensures.same opened
+    subst (λ (s : StoreState g.row.D.Denot). PreservesFile d c.args.limit c.args.disk (Ok s)) (sym c.store_of.ensures)
+    (preserves_opened d c.args.limit c.args.disk honest first now c.in_ok-pager.ensures.fresh c.in_ok-pager.ensures.same opened
     c.open_pages.ensures.read c.open_pages.ensures.endures c.in_ok-pager.ensures.keeping (c.in_ok-pager.ensures.shut honest)
-    (λ pages says gives. c.in_ok-pager.ensures.recovers pages honest says gives) c.disk_stands_for_one_map.ensures c.into_disk.result c.in-Err.refusal c.into_disk.ensures
-    (λ is. (c.open_pages.ensures.untouched (cc (ap Err is)), (c.in-Err.ensures.left_open opened.tied (ap Err is)).0))
+    (λ pages says gives. c.in_ok-pager.ensures.recovers pages honest says gives) c.disk_stands_for_one_map.ensures (c.open_pages.ensures.unclosed opened.tied) _ refl)
+
+pub returns-in-Err-clause-preserves : goal.returns-in-Err-clause-preserves
+returns-in-Err-clause-preserves g c = λ honest.
+    let d = g.D.Disk in
+    let first = c.in_ok-pager.pager in
+    let now = c.open_pages.new.pager in
+    let opened = c.in_ok-pager.ensures.opened honest in
+    preserves_refused d c.args.limit c.args.disk honest first now c.in_ok-pager.ensures.fresh c.in_ok-pager.ensures.same opened
+    c.open_pages.ensures.read c.open_pages.ensures.endures c.in_ok-pager.ensures.keeping (c.in_ok-pager.ensures.shut honest)
+    (λ pages says gives. c.in_ok-pager.ensures.recovers pages honest says gives) c.disk_stands_for_one_map.ensures (c.open_pages.ensures.unclosed opened.tied)
+    c.into_disk.result c.in-Err.refusal c.into_disk.ensures
