@@ -4,7 +4,7 @@ use Rattle.std.proofs.lemmas.List.{append-nil}
 use Rattle.rs_disk.specs.Content.{Content}
 use Rattle.rs_disk.specs.declared.disk.Disk as disk
 use Rattle.rs_engine.proofs.Filing.{without}
-use Rattle.rs_engine.specs.Crashes.{AreSteps, Call, GoThrough, HoldsAllSaved, IsAfterFront, IsOfAFront, IsStep, LeaveAFront}
+use Rattle.rs_engine.specs.Crashes.{AreSteps, BecomesBySteps, Call, ComeTo, GoThrough, HoldsAllSaved, IsAfterFront, IsOfAFront, IsStep, LeaveAFront}
 use Rattle.rs_engine.specs.Files.{WhereSaved}
 use Rattle.rs_engine.specs.Kept.{EngineState, IsMachine}
 use Rattle.rs_engine.specs.Single.{IsOneMachine}
@@ -189,3 +189,33 @@ module _ {D : Type 0} (d : disk.Ghosts D) where
               )
             ];
       }
+
+  -- ---- steps
+
+  pub come_to : (calls : List Call) (old new : EngineState D) (first : Machine) → AreSteps d calls old new → IsOneMachine d old first → ComeTo d calls first old new
+  come_to [] old new first same is =
+      subst (λ (engine : EngineState D). ComeTo d [] first old engine) (sym same) (record { machine = first; is = is; goes = refl; limit = refl; keeping = refl })
+  come_to (call ∷ calls) old new first steps is =
+      let step = steps.1 in
+      let next = step.served first is in
+      let rest = come_to calls steps.0 new next.0 steps.2 next.1 in
+      record {
+        machine = rest.machine;
+        is = rest.is;
+        goes = (next.0, next.2, rest.goes);
+        limit = rest.limit ∙ step.stays.limit;
+        keeping = rest.keeping ∙ step.stays.lasts.keeping;
+      }
+
+  pub no_steps : (engine : EngineState D) → BecomesBySteps d engine engine
+  no_steps engine = ([], refl)
+
+  pub one_step : (call : Call) (old new : EngineState D) → IsStep d call old new → BecomesBySteps d old new
+  one_step call old new step = (call ∷ [], (new, step, refl))
+
+  steps_on : (calls more : List Call) (a b c : EngineState D) → AreSteps d calls a b → AreSteps d more b c → AreSteps d (calls ++ more) a c
+  steps_on [] more a b c same rest = subst (λ (engine : EngineState D). AreSteps d more engine c) same rest
+  steps_on (call ∷ calls) more a b c steps rest = (steps.0, steps.1, steps_on calls more steps.0 b c steps.2 rest)
+
+  pub more_steps : (a b c : EngineState D) → BecomesBySteps d a b → BecomesBySteps d b c → BecomesBySteps d a c
+  more_steps a b c first second = (first.0 ++ second.0, steps_on first.0 second.0 a b c first.1 second.1)

@@ -63,6 +63,18 @@ module _ {D : Type 0} (d : disk.Ghosts D) where
   AreSteps [] old new = new ≡ old
   AreSteps (call ∷ calls) old new = (between : EngineState D) × IsStep call old between × AreSteps calls between new
 
+  -- by some steps, one after another, an engine became another
+  abbrev pub BecomesBySteps : EngineState D → EngineState D → Type 0
+  BecomesBySteps old new = (calls : List Call) × AreSteps calls old new
+
+  -- the engine is a machine to which the calls come, and its limit and whether its disk keeps the model of crashes are as they were
+  pub record ComeTo (calls : List Call) (first : Machine) (old new : EngineState D) : Type 0 where
+    pub machine : Machine
+    pub is : IsOneMachine d new machine
+    pub goes : GoThrough calls first machine
+    pub limit : new.store.pager.limit ≡ old.store.pager.limit
+    pub keeping : d.keeps_crashes new.store.pager.disk ≡ d.keeps_crashes old.store.pager.disk
+
   -- What calls leave of a crash, from a machine on, where a state was kept last. Each image that a crash might have left meanwhile was
   -- left before, or stands for the state after a front of the calls. What is kept after them holds all that was saved, and so does each
   -- image that a crash may leave then.

@@ -12,4 +12,5 @@ pub mod Reads
 pub mod Single
 pub mod Staying
 pub use Rattle.rs_store_source.specs.Calls
+pub use Rattle.rs_store_source.specs.Lasting
 pub use Rattle.rs_store_source.specs.Standing

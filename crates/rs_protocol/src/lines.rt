@@ -32,8 +32,9 @@ pub(crate) fn answer_line<E: Serve, W: Write>(
     line: &[u8],
     writer: &mut W,
 ) -> Result<(), Fault>
-    ensures { (old : Machine) → E.is engine.old old → (new : Machine) × E.is engine.new new
+    ensures served { (old : Machine) → E.is engine.old old → (new : Machine) × E.is engine.new new
         × PutsAnswer result line.now old new (W.contents writer.old) (W.contents writer.new) }
+    ensures becomes { E.becomes engine.old engine.new }
 {
     let request = match request_of(line) {
         Ok(request) => request,
@@ -57,10 +58,11 @@ pub(crate) fn take_byte<E: Serve, W: Write>(
     byte: u8,
     writer: &mut W,
 ) -> Result<(), Fault>
-    ensures { (told : List ℕ) (first old : Machine) (before : Option (List ℕ)) → E.is engine.old old →
+    ensures served { (told : List ℕ) (first old : Machine) (before : Option (List ℕ)) → E.is engine.old old →
         IsServed kept.old.items told first old before (W.contents writer.old) →
         (new : Machine) × E.is engine.new new
         × GoesOn result kept.new.items (told ++ byte ∷ []) first new before (W.contents writer.new) }
+    ensures becomes { E.becomes engine.old engine.new }
 {
     if byte != LINE_FEED {
         if !kept.is_full() {
@@ -81,10 +83,11 @@ pub(crate) fn take_piece<E: Serve, W: Write>(
     piece: &[u8],
     writer: &mut W,
 ) -> Result<(), Fault>
-    ensures { (told : List ℕ) (first old : Machine) (before : Option (List ℕ)) → E.is engine.old old →
+    ensures served { (told : List ℕ) (first old : Machine) (before : Option (List ℕ)) → E.is engine.old old →
         IsServed kept.old.items told first old before (W.contents writer.old) →
         (new : Machine) × E.is engine.new new
         × GoesOn result kept.new.items (told ++ piece.now) first new before (W.contents writer.new) }
+    ensures becomes { E.becomes engine.old engine.new }
 {
     for byte in piece {
         take_byte(alloc, engine, kept, *byte, writer)?;

@@ -65,9 +65,10 @@ pub fn run<E: Serve, R: Read, W: Write>(
     reader: &mut R,
     writer: &mut W,
 ) -> Result<End, Fault>
-    ensures { (old : Machine) → E.is engine.old old → (new : Machine) × E.is engine.new new
+    ensures served { (old : Machine) → E.is engine.old old → (new : Machine) × E.is engine.new new
         × ((told : List ℕ) × Consumes (R.remaining reader.old) (R.remaining reader.new) told
         × Ends result told (R.remaining reader.new) old new (W.contents writer.old) (W.contents writer.new)) }
+    ensures becomes { E.becomes engine.old engine.new }
 {
     let mut reads = Reads::none();
     serve_pieces(alloc, engine, reader, writer, &mut reads)
@@ -115,6 +116,7 @@ fn serve_pieces<E: Serve, R: Read, W: Write>(
         × Ends result told (R.remaining reader.new) old new (W.contents writer.old) (W.contents writer.new)) }
     ensures stopped { (old : Machine) → E.is engine.old old → IfErr result (λ fault. fault ≡ Fault.Read
         → IsTrue reads.new.failed ⊎ (READS ≤ reads.new.made)) }
+    ensures becomes { E.becomes engine.old engine.new }
 {
     let mut kept = Kept::new();
     let mut piece = [0u8; PIECE_BYTES];
@@ -148,6 +150,7 @@ pub fn answer<E: Serve>(alloc: Global, engine: &mut E, input: &[u8]) -> Result<V
         (new : Machine) × E.is engine.new new × AnswersInput input.now written.items old new) }
     ensures fault { (old : Machine) → E.is engine.old old → IfErr result (λ fault.
         (new : Machine) × E.is engine.new new × StopsInInput fault input.now old new) }
+    ensures becomes { E.becomes engine.old engine.new }
 {
     let mut reader = input;
     let mut written = Vec::new(alloc);

@@ -5,3 +5,4 @@ mod Damage
 mod Reopenings
 mod Dumps
 mod Unopened
+mod Surviving

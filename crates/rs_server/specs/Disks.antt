@@ -19,6 +19,7 @@ use Rattle.rs_refusal.specs.declared.refusal.Refusal.{Refusal}
 use Rattle.rs_refusal.specs.declared.refusal.Refusal.TheVariants as refusal
 use Rattle.rs_server.specs.declared.report.Failure.{Failure}
 use Rattle.rs_server.specs.declared.report.Failure.TheVariants.{Refused, Stream}
+use Rattle.rs_engine.specs.Crashes.{Call, GoThrough, IsOfAFront}
 use Rattle.rs_engine.specs.Standing.{IsSecondFileOf, Stands}
 use Rattle.rs_engine.specs.Calls.{IsLeftOpen, IsNoFileOfAny, PreservesFile, WantsCreating, WantsOpening}
 
@@ -73,19 +74,33 @@ module _ {D : Type 0} (d : disk.Ghosts D) where
     pub told : TellsFirst before (disk_of result) (told_of result)
     pub count : CountsClose machine.failures before (disk_of result) (told_of result)
 
-  -- the input was served by this machine, and then the file was closed
-  pub record ServesAndCloses (limit : ℕ) (first : Machine) (result : Result D (Option D × Failure)) (unread unread_now before after : Option (List ℕ)) : Type 0 where
+  -- What a service and the closing after it leave of a crash. Each image that a crash might have left by the end was left before, or stands
+  -- for the state that was kept at first, or for the one after a front of these calls.
+  abbrev pub LeavesFrontOf : ℕ → List Call → Machine → State → D → Result D (Option D × Failure) → Type 0
+  LeavesFrontOf limit calls first kept old result = IfSome (disk_of result) (λ closed. (start : D) (image : Content) → d.left_since start closed image
+      → d.left_since start old image ⊎ ((state : State) × IsOfAFront calls first kept state × Stands limit image state))
+
+  -- The input was served by this machine, and then the file was closed, over a disk as it was, where a state was kept last. Some calls lead
+  -- from the first machine to the last, and a crash by the end leaves the state after a front of them.
+  pub record ServesAndCloses (limit : ℕ) (first : Machine) (kept : State) (old : D) (result : Result D (Option D × Failure)) (unread unread_now before after : Option (List ℕ)) : Type 0 where
     pub outcome : Result End Fault
     pub last : Machine
     pub served : ServesInput outcome first last unread unread_now before after
     pub closes : Closes limit last (failure_of outcome) result
+    pub calls : List Call
+    pub goes : GoThrough calls first last
+    pub crashes : IsTrue (d.keeps_crashes old) → LeavesFrontOf limit calls first kept old result
 
-  -- the disk stood for a state, from which on it was served, with the disk's count of failures
+  -- The disk stood for a state, from which on it was served, with the disk's count of failures. Each image that a crash might have left by
+  -- the end was left before, or stands for the state after a front of the calls that were served.
   pub record ServesState (limit : ℕ) (old : D) (result : Result D (Option D × Failure)) (unread unread_now before after : Option (List ℕ)) : Type 0 where
     pub first : Machine
     pub stood : Stands limit (d.seen old) first.state
     pub failures : first.failures ≡ d.failures old
-    pub serves : ServesAndCloses limit first result unread unread_now before after
+    pub opened : D
+    pub serves : ServesAndCloses limit first first.state opened result unread unread_now before after
+    pub crashes : IsTrue (d.keeps_crashes old) → IfSome (disk_of result) (λ closed. (start : D) (image : Content) → d.left_since start closed image
+        → d.left_since start old image ⊎ (d.may_leave old image ⊎ ((state : State) × IsOfAFront serves.calls first first.state state × Stands limit image state)))
 
   -- The disk was not opened, and is handed back: it is a file of no state, or one of version 1 that was not closed, or memory or the disk
   -- gave out: 91 counts one failure. One of version 2 was recovered, as far as the disk allowed; what stood for a state stands for it still.

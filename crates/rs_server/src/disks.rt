@@ -3,17 +3,20 @@
 //! A disk is handed back where it was closed, or not opened at all. The first failure alone is told: a file that is not closed after
 //! another failure is no second one.
 
-ghost use Rattle.std.specs.Prelude.{◌≡◌, IsTrue};
+ghost use Rattle.std.specs.Prelude.{◌≡◌, IfSome, IsTrue};
 ghost use Rattle.rs_engine.specs.Single.{IsOneMachine};
+ghost use Rattle.rs_engine.specs.Lasting.{IsLast, LeavesOneOf};
 ghost use Rattle.rs_machine.specs.Served.{Machine};
+ghost use Rattle.rs_machine.specs.State.{State};
+ghost use Rattle.rs_machine.specs.Step.{without_cursors};
 ghost use Rattle.rs_pages.specs.declared.pages.TheConstants.{GREATEST_LIMIT};
-ghost use Rattle.rs_server.specs.Disks.{Closes, CreatesFile, ServesAndCloses, ServesFile, failure_of};
+ghost use Rattle.rs_server.specs.Disks.{Closes, CreatesFile, ServesAndCloses, ServesFile, disk_of, failure_of};
 
 use crate::reopened::Reopened;
 use crate::report::Failure;
 use rs_disk::Disk;
 use rs_engine::Engine;
-use rs_engine::engine::laws::machine_is_the_only_one;
+use rs_engine::engine::laws::{machine_is_the_only_one, steps_leave_a_front};
 use rs_protocol::{End, Fault, run};
 use std::alloc::Global;
 use std::io::{Read, Write};
@@ -54,9 +57,11 @@ fn serve_and_close<D: Disk + Drop, R: Read, W: Write>(
     input: &mut R,
     output: &mut W,
 ) -> Result<D, (Option<D>, Failure<'static>)>
-    ensures { (machine : Machine) → IsOneMachine D.Disk engine machine → ServesAndCloses D.Disk GREATEST_LIMIT machine result
+    ensures { (machine : Machine) (kept : State) → IsOneMachine D.Disk engine machine → IsLast D.Disk engine.store.pager kept
+        → ServesAndCloses D.Disk GREATEST_LIMIT machine kept engine.store.pager.disk result
         (R.remaining input.old) (R.remaining input.new) (W.contents output.old) (W.contents output.new) }
 {
+    steps_leave_a_front::<D>();
     let mut reopened = Reopened::new(engine);
     let outcome = run(alloc, &mut reopened, input, output);
     let (engine, failure) = reopened.end(failure_after(outcome));
@@ -78,8 +83,13 @@ pub(crate) fn close_after<'a, D: Disk + Drop>(
     engine: Engine<D>,
     failure: Option<Failure<'a>>,
 ) -> Result<D, (Option<D>, Failure<'a>)>
-    ensures { (machine : Machine) → IsOneMachine D.Disk engine machine → Closes D.Disk GREATEST_LIMIT machine failure.entry result }
+    ensures closes { (machine : Machine) → IsOneMachine D.Disk engine machine → Closes D.Disk GREATEST_LIMIT machine failure.entry result }
+    ensures meanwhile { (machine : Machine) (last : State) → IsOneMachine D.Disk engine machine → IsLast D.Disk engine.store.pager last
+        → IsTrue (D.keeps_crashes engine.store.pager.disk)
+        → IfSome (disk_of result) (LeavesOneOf D.Disk engine.store.pager.limit last (without_cursors machine.state) engine.store.pager.disk) }
 {
+    // For the proof: that the committed pages are within the limit.
+    let _ = engine.limit();
     match (engine.close(), failure) {
         (Ok(disk), None) => Ok(disk),
         (Ok(disk), Some(failure)) => Err((Some(disk), failure)),

@@ -45,6 +45,8 @@ impl<E> Reopened<E> {
 impl<E: Serve> Serve for Reopened<E> {
     ghost is = { IsSound E.is };
 
+    ghost becomes = { λ old new. E.becomes old.engine new.engine };
+
     /// As the engine does.
     fn step(&mut self, session: Session, command: Command) -> Reply
         requires said { IsSaid session (tree_of command) }
@@ -52,6 +54,7 @@ impl<E: Serve> Serve for Reopened<E> {
             × Served old session (tree_of command) (reply_of result) new }
         ensures found { self.new.is_damaged ≡ found_after (asks_to_reopen (tree_of command)) result.finish self.old.is_damaged }
         ensures alone { StandsAlone result.rows.items result.finish }
+        ensures becomes { E.becomes self.old.engine self.new.engine }
     {
         let reopens = is_reopen(&command);
         let reply = self.engine.step(session, command);
@@ -60,6 +63,10 @@ impl<E: Serve> Serve for Reopened<E> {
     }
 
     ghost one = { λ it machine other is also. E.one it.engine machine other is.is also.is };
+
+    ghost becomes_itself = { λ it. E.becomes_itself it.engine };
+
+    ghost becomes_later = { λ first second third one other. E.becomes_later first.engine second.engine third.engine one other };
 }
 
 /// Whether a command is REOPEN.

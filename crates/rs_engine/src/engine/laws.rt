@@ -7,7 +7,7 @@ ghost use Rattle.std.specs.FinMap as names;
 ghost use Rattle.rs_answers.specs.Counts.{AreCounted};
 ghost use Rattle.rs_cursor.specs.Held.{held_of};
 ghost use Rattle.rs_cursor.specs.declared.cursor.Cursor.{Cursor};
-ghost use Rattle.rs_engine.specs.Crashes.{AreSteps, Call, LeaveAFront};
+ghost use Rattle.rs_engine.specs.Crashes.{AreSteps, Call, ComeTo, LeaveAFront};
 ghost use Rattle.rs_engine.specs.Giving.{HasItsLines};
 ghost use Rattle.rs_engine.specs.Kept.{EngineState, IsMachine, IsOldestIn, seen_at};
 ghost use Rattle.rs_engine.specs.Laws.{StoreLaws};
@@ -105,8 +105,10 @@ pub fn a_crash_leaves_a_state_that_was_kept<D: Disk>()
 
 /// Over any list of steps, from a machine on, where a state was kept last: each image that a crash might have left meanwhile was left
 /// before, or stands for the state after a front of them, none skipped and none in part. What is kept after them holds all up to the last
-/// SAVE or REOPEN that was accepted, and so does each image that a crash may leave then.
+/// SAVE or REOPEN that was accepted, and so does each image that a crash may leave then. They come to a machine, which the engine is.
 pub fn steps_leave_a_front<D: Disk>()
-    ensures { (calls : List Call) (old new : EngineState D) (machine : Machine) (last : State) → AreSteps D.Disk calls old new → IsOneMachine D.Disk old machine
+    ensures comes { (calls : List Call) (old new : EngineState D) (machine : Machine) → AreSteps D.Disk calls old new → IsOneMachine D.Disk old machine
+        → ComeTo D.Disk calls machine old new }
+    ensures leaves { (calls : List Call) (old new : EngineState D) (machine : Machine) (last : State) → AreSteps D.Disk calls old new → IsOneMachine D.Disk old machine
         → IsLast D.Disk old.store.pager last → IsTrue (D.keeps_crashes old.store.pager.disk) → LeaveAFront D.Disk calls machine last old new }
 {}

@@ -24,9 +24,13 @@ use rs_syntax::laws::command_of_a_line_is_sound;
 use std::alloc::Global;
 
 impl<D: Disk + Drop> Serve for Engine<D> {
+    ghost use Rattle.rs_engine.specs.Crashes.{BecomesBySteps};
     ghost use Rattle.rs_engine.specs.Single.{IsOneMachine, one_machine};
+    ghost use Rattle.rs_engine.proofs.Fronts.{more_steps, no_steps};
 
     ghost is = { IsOneMachine D.Disk };
+
+    ghost becomes = { BecomesBySteps D.Disk };
 
     /// As the trait says. Where SAVE or REOPEN is accepted, the disk stands for the state that the engine was in, and so does each image
     /// that a crash may leave. Where a change or a CLOSE is accepted, 64 of the records that no version sees any more that is looked at are
@@ -41,13 +45,20 @@ impl<D: Disk + Drop> Serve for Engine<D> {
         ensures cleared { ClearsWhereAsked D.Disk (tree_of command) (reply_of result) self.old self.new }
         ensures stays { StaysOnAnyDisk D.Disk session (tree_of command) (reply_of result) self.old self.new }
         ensures alone { StandsAlone result.rows.items result.finish }
+        ensures becomes { BecomesBySteps D.Disk self.old self.new }
     {
+        // For the proof: that the committed pages are within the limit.
+        let _ = self.limit();
         command_of_a_line_is_sound();
         stores_have_their_laws::<D>();
         self.reply_to(session, command)
     }
 
     ghost one = { λ engine machine other is also. one_machine _ engine machine other is also };
+
+    ghost becomes_itself = { λ engine. no_steps _ engine };
+
+    ghost becomes_later = { λ first second third one other. more_steps _ first second third one other };
 }
 
 impl<D: Disk> Engine<D> {

@@ -3,8 +3,8 @@ use Rattle.rs_syntax.specs.View.{tree_of}
 use Rattle.rs_protocol.proofs.Answering.{request_says, answers_unreadable, answers_refused, answers_command}
 use Rattle.rs_protocol.proofs.lines.answer_line.Goals as goal
 
-pub returns-in-Err : goal.returns-in-Err
-returns-in-Err g c old is = (
+pub returns-in-Err-clause-served : goal.returns-in-Err-clause-served
+returns-in-Err-clause-served g c old is = (
   old,
   is,
   answers_unreadable (Unit {0}) c.put_refusal.result c.args.line.now c.in-Err.refusal old
@@ -18,8 +18,8 @@ step-reply-requires g c =
           (tree_of c.in-Ok-command_of.command) c.in-Ok.ensures c.in-Ok-command_of.ensures.ok;
     }
 
-pub returns-in-Ok-command_of : goal.returns-in-Ok-command_of
-returns-in-Ok-command_of g c old is =
+pub returns-in-Ok-command_of-clause-served : goal.returns-in-Ok-command_of-clause-served
+returns-in-Ok-command_of-clause-served g c old is =
     let served = c.step-reply.ensures.served old is in (
       served.0,
       served.1,
@@ -29,8 +29,8 @@ returns-in-Ok-command_of g c old is =
           (rw (← c.number-session.ensures.value) c.put_reply.ensures),
     )
 
-pub returns-in-Err-command_of : goal.returns-in-Err-command_of
-returns-in-Err-command_of g c old is = (
+pub returns-in-Err-command_of-clause-served : goal.returns-in-Err-command_of-clause-served
+returns-in-Err-command_of-clause-served g c old is = (
   old,
   is,
   answers_refused (Unit {0}) c.put_refusal-in-Err-command_of.result c.args.line.now c.in-Ok.request.text.now c.in-Ok.request.session c.in-Ok.request.digits
@@ -38,3 +38,12 @@ returns-in-Err-command_of g c old is = (
       (g.W.Write.contents c.args.writer.now) (g.W.Write.contents c.put_refusal-in-Err-command_of.new.writer) c.in-Ok.ensures c.in-Err-command_of.ensures.err
       (rw (← c.number-session.ensures.value) c.put_refusal-in-Err-command_of.ensures),
 )
+
+pub returns-in-Err-clause-becomes : goal.returns-in-Err-clause-becomes
+returns-in-Err-clause-becomes g c = g.met.E.Serve.becomes_itself c.args.engine.now
+
+pub returns-in-Ok-command_of-clause-becomes : goal.returns-in-Ok-command_of-clause-becomes
+returns-in-Ok-command_of-clause-becomes g c = c.step-reply.ensures.becomes
+
+pub returns-in-Err-command_of-clause-becomes : goal.returns-in-Err-command_of-clause-becomes
+returns-in-Err-command_of-clause-becomes g c = g.met.E.Serve.becomes_itself c.args.engine.now

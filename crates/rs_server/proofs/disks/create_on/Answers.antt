@@ -7,4 +7,4 @@ use Rattle.rs_server.proofs.disks.create_on.Goals as goal
 pub returns-in-Ok : goal.returns-in-Ok
 returns-in-Ok g c = λ honest.
     let first = machine_with g.D.Disk fresh c.in-Ok.engine in
-    inl (first, refl, c.in-Ok.ensures.hands.count, c.close_after.ensures first (c.machine_is_the_only_one.ensures c.in-Ok.engine first (c.in-Ok.ensures.creates honest).fresh))
+    inl (first, refl, c.in-Ok.ensures.hands.count, c.close_after.ensures.closes first (c.machine_is_the_only_one.ensures c.in-Ok.engine first (c.in-Ok.ensures.creates honest).fresh))

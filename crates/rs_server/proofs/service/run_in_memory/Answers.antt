@@ -5,7 +5,7 @@ use Rattle.rs_server.proofs.service.run_in_memory.Goals as goal
 pub returns-in-Ok : goal.returns-in-Ok
 returns-in-Ok g c =
     let creates = c.in-Ok.ensures.creates refl in
-    let served = c.run.ensures _ (c.machine_is_the_only_one.ensures c.in-Ok.engine _ creates.fresh) in
+    let served = c.run.ensures.served _ (c.machine_is_the_only_one.ensures c.in-Ok.engine _ creates.fresh) in
     inl (record {
       outcome = c.run.result;
       first = _;
