@@ -207,15 +207,5 @@ module _ {D : Type 0} (d : disk.Ghosts D) where
         keeping = rest.keeping ∙ step.stays.lasts.keeping;
       }
 
-  pub no_steps : (engine : EngineState D) → BecomesBySteps d engine engine
-  no_steps engine = ([], refl)
-
   pub one_step : (call : Call) (old new : EngineState D) → IsStep d call old new → BecomesBySteps d old new
   one_step call old new step = (call ∷ [], (new, step, refl))
-
-  steps_on : (calls more : List Call) (a b c : EngineState D) → AreSteps d calls a b → AreSteps d more b c → AreSteps d (calls ++ more) a c
-  steps_on [] more a b c same rest = subst (λ (engine : EngineState D). AreSteps d more engine c) same rest
-  steps_on (call ∷ calls) more a b c steps rest = (steps.0, steps.1, steps_on calls more steps.0 b c steps.2 rest)
-
-  pub more_steps : (a b c : EngineState D) → BecomesBySteps d a b → BecomesBySteps d b c → BecomesBySteps d a c
-  more_steps a b c first second = (first.0 ++ second.0, steps_on first.0 second.0 a b c first.1 second.1)

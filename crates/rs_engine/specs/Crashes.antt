@@ -1,4 +1,5 @@
 -- What a crash leaves of an engine while it takes steps, one after another.
+use Rattle.std.proofs.Common.{refl, subst}
 use Rattle.std.specs.Prelude.{◌≡◌, ◌⊎◌, ◌≤◌, ◌++◌, ℕ, IsTrue, List, [], ◌∷◌}
 use Rattle.rs_disk.specs.Content.{Content}
 use Rattle.rs_disk.specs.declared.disk.Disk as disk
@@ -84,3 +85,15 @@ module _ {D : Type 0} (d : disk.Ghosts D) where
     pub kept : (state : State) × HoldsAllSaved calls first last state × IsLast d new.store.pager state
     pub images : new.store.pager.committed_fields.pages ≤ new.store.pager.limit → (image : Content) → d.may_leave new.store.pager.disk image
         → (state : State) × HoldsAllSaved calls first last state × Stands old.store.pager.limit image state
+
+  -- ---- no steps, and steps after steps
+
+  pub no_steps : (engine : EngineState D) → BecomesBySteps engine engine
+  no_steps engine = ([], refl)
+
+  steps_on : (calls more : List Call) (a b c : EngineState D) → AreSteps calls a b → AreSteps more b c → AreSteps (calls ++ more) a c
+  steps_on [] more a b c same rest = subst (λ (engine : EngineState D). AreSteps more engine c) same rest
+  steps_on (call ∷ calls) more a b c steps rest = (steps.0, steps.1, steps_on calls more steps.0 b c steps.2 rest)
+
+  pub more_steps : (a b c : EngineState D) → BecomesBySteps a b → BecomesBySteps b c → BecomesBySteps a c
+  more_steps a b c first second = (first.0 ++ second.0, steps_on first.0 second.0 a b c first.1 second.1)

@@ -24,9 +24,8 @@ use rs_syntax::laws::command_of_a_line_is_sound;
 use std::alloc::Global;
 
 impl<D: Disk + Drop> Serve for Engine<D> {
-    ghost use Rattle.rs_engine.specs.Crashes.{BecomesBySteps};
+    ghost use Rattle.rs_engine.specs.Crashes.{BecomesBySteps, more_steps, no_steps};
     ghost use Rattle.rs_engine.specs.Single.{IsOneMachine, one_machine};
-    ghost use Rattle.rs_engine.proofs.Fronts.{more_steps, no_steps};
 
     ghost is = { IsOneMachine D.Disk };
 
