@@ -26,8 +26,8 @@ returns-clause-kept g c = λ lacks tied.
 
 -- ---- what lasts
 
-pub returns-in_if-clause-endures : goal.returns-in_if-clause-endures
-returns-in_if-clause-endures g c = endures-refl g.D.Disk c.args.pager.now
+pub returns-then-not-lacks_first_page-clause-endures : goal.returns-then-not-lacks_first_page-clause-endures
+returns-then-not-lacks_first_page-clause-endures g c = endures-refl g.D.Disk c.args.pager.now
 
 pub returns-in_err-check_closed-clause-endures : goal.returns-in_err-check_closed-clause-endures
 returns-in_err-check_closed-clause-endures g c = endures_below g.D.Disk c.args.pager.now c.check_closed.new.pager c.check_closed.ensures.below
@@ -41,8 +41,8 @@ returns-clause-endures g c =
 
 -- ---- what is written
 
-pub returns-in_if-clause-unclosed : goal.returns-in_if-clause-unclosed
-returns-in_if-clause-unclosed g c = λ honest. inl (KeepsBelow-refl g.D.Disk c.args.pager.now)
+pub returns-then-not-lacks_first_page-clause-unclosed : goal.returns-then-not-lacks_first_page-clause-unclosed
+returns-then-not-lacks_first_page-clause-unclosed g c = λ honest. inl (KeepsBelow-refl g.D.Disk c.args.pager.now)
 
 pub returns-in_err-check_closed-clause-unclosed : goal.returns-in_err-check_closed-clause-unclosed
 returns-in_err-check_closed-clause-unclosed g c = λ honest. inl c.check_closed.ensures.below
