@@ -4,7 +4,7 @@ use Rattle.std.specs.Prelude.{IfSome}
 use Rattle.std.proofs.lemmas.List.{append-nil}
 use Rattle.rs_disk.specs.Content.{Content}
 use Rattle.rs_disk.specs.declared.disk.Disk as disk
-use Rattle.rs_engine.specs.Crashes.{Call, GoThrough, HoldsAllSaved, IsOfAFront, LeaveAFront}
+use Rattle.rs_engine.specs.Crashes.{AreSteps, Call, GoThrough, HoldsAllSaved, IsOfAFront, LeaveAFront}
 use Rattle.rs_engine.specs.Kept.{EngineState}
 use Rattle.rs_engine.specs.Lasting.{IsLast, LeavesOneOf, StaysFileOf}
 use Rattle.rs_engine.specs.Standing.{Stands}
@@ -26,6 +26,11 @@ of_all : (calls : List Call) (first last : Machine) (kept : State) → GoThrough
 of_all calls first last kept goes = inr ([], record { front = calls; are = sym (append-nil calls); machine = last; goes = goes; is = refl })
 
 module _ {D : Type 0} (d : disk.Ghosts D) where
+  -- steps between engines that are these
+  pub steps_between : (calls : List Call) (a first b last : EngineState D) → a ≡ first → last ≡ b → AreSteps d calls a b → AreSteps d calls first last
+  steps_between calls a first b last one other steps =
+      subst (λ (engine : EngineState D). AreSteps d calls engine last) one (subst (λ (engine : EngineState D). AreSteps d calls a engine) (sym other) steps)
+
   -- steps, and then a closing
   module _ (calls : List Call) (first last : Machine) (kept : State) (old new : EngineState D) (goes : GoThrough calls first last) (leave : LeaveAFront d calls first kept old new)
       (below : old.store.pager.limit ≤ GREATEST_LIMIT) (same : new.store.pager.limit ≡ old.store.pager.limit) where

@@ -9,7 +9,7 @@ use Rattle.rs_server.specs.Damage.{failure_with}
 use Rattle.rs_server.specs.Disks.{Closes, failure_of}
 use Rattle.rs_server.specs.declared.report.Failure.{Failure}
 use Rattle.rs_server.proofs.Damage.{told_as_it_is}
-use Rattle.rs_server.proofs.Surviving.{leaves_front_of}
+use Rattle.rs_server.proofs.Surviving.{leaves_front_of, steps_between}
 use Rattle.rs_server.proofs.disks.serve_and_close.Goals as goal
 
 pub returns : goal.returns
@@ -22,8 +22,7 @@ returns g c = λ machine kept is is_kept.
     let was = c.args.engine in
     let now = c.end-engine.result.0 in
     let steps = c.run-outcome.ensures.becomes in
-    let became : AreSteps d steps.0 was now = subst (λ (engine : EngineState g.row.D.Denot). AreSteps d steps.0 was engine) (sym c.end-engine.ensures.engine)
-    (subst (λ (engine : EngineState g.row.D.Denot). AreSteps d steps.0 engine _) c.new-reopened.ensures.engine steps.1) in
+    let became : AreSteps d steps.0 was now = steps_between d steps.0 _ was _ now c.new-reopened.ensures.engine c.end-engine.ensures.engine steps.1 in
     let comes : ComeTo d steps.0 machine was now = c.steps_leave_a_front.ensures.comes steps.0 was now machine became is in
     let goes : GoThrough steps.0 machine served.0 = subst (λ (one : Machine). GoThrough steps.0 machine one) (one_machine d now comes.machine served.0 comes.is last) comes.goes in
     record {
