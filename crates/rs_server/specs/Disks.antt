@@ -92,7 +92,7 @@ module _ {D : Type 0} (d : disk.Ghosts D) where
     pub crashes : IsTrue (d.keeps_crashes old) → LeavesFrontOf limit calls first kept old result
 
   -- The disk stood for a state, from which on it was served, with the disk's count of failures. Each image that a crash might have left by
-  -- the end was left before, or stands for the state after a front of the calls that were served.
+  -- the end was left before, or stands for the state after a front of calls that lead from the first machine to the last.
   pub record ServesState (limit : ℕ) (old : D) (result : Result D (Option D × Failure)) (unread unread_now before after : Option (List ℕ)) : Type 0 where
     pub first : Machine
     pub stood : Stands limit (d.seen old) first.state

@@ -20,7 +20,7 @@ use Rattle.rs_pager.specs.Lasts.{GivesMap}
 use Rattle.rs_pager.specs.Maps.{ArePages, IsKept, IsTied, KeepsBelow, committed, working}
 use Rattle.rs_pager.specs.Opened.{IsFresh, IsOpened}
 use Rattle.rs_pager.specs.Paged.{Paged}
-use Rattle.rs_pager.specs.Versions.{IsNoFile, StoresFirst}
+use Rattle.rs_pager.specs.Versions.{StoresFirst}
 use Rattle.rs_pager.proofs.FirstKept.{first_is_kept, flag_is_kept}
 use Rattle.rs_pager.proofs.Lasting.{gives_same}
 use Rattle.rs_pager.proofs.Versions.{first-shut}

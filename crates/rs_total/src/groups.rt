@@ -1,11 +1,12 @@
 //! The numbers of each group by its row, in the order of the rows.
 //!
-//! It promises that a span changes the numbers of its own group alone.
+//! It promises that a span changes the numbers of its own group alone. Groups are looked up in one room, so that a span takes
+//! memory only where its group is new.
 
 ghost use Rattle.std.specs.Prelude.{◌≡◌, ◌^◌, ◌<◌, length, map, OnOk};
 ghost use Rattle.rs_value.specs.Row.{Row};
 ghost use Rattle.rs_facts.specs.Spans.{seen};
-ghost use Rattle.rs_total.specs.Counting.{kept_in, kept_with, kept_along};
+ghost use Rattle.rs_total.specs.Counting.{kept_in, kept_along};
 ghost use Rattle.rs_total.specs.Tally.{kept_of};
 
 use crate::numbers::Numbers;
@@ -27,46 +28,34 @@ pub(crate) fn add_spans(
         ≡ kept_along by.now summed start group (kept_of groups.old.entries group) (map (λ span. seen span.now) spans.now)) }
     ensures few { OnOk result (length spans.now < 2 ^ 64) }
 {
+    let mut group = KeptRow::nulls(alloc, 0)?;
     for span in spans {
-        add_span(alloc, groups, by, summed, start, span)?;
+        group = span.tuple.chosen_in(group, by)?;
+        add_to(alloc, groups, &group, summed, start, span)?;
     }
     Ok(())
 }
 
-/// Adds a span to its group.
-fn add_span(
+/// Adds a span to a group. It takes memory where the group is new.
+fn add_to(
     alloc: Global,
     groups: &mut BTreeMap<KeptRow, Numbers>,
-    by: &[u8],
-    summed: Option<u8>,
-    start: u64,
-    span: &Span,
-) -> Result<(), AllocError>
-    ensures { OnOk result ((group : Row) → kept_of groups.new.entries group
-        ≡ kept_with by.now summed start group (kept_of groups.old.entries group) (seen span.now)) }
-{
-    let group = span.tuple.chosen(alloc, by)?;
-    add_to(groups, group, summed, start, span)
-}
-
-/// Adds a span to a group.
-fn add_to(
-    groups: &mut BTreeMap<KeptRow, Numbers>,
-    group: KeptRow,
+    group: &KeptRow,
     summed: Option<u8>,
     start: u64,
     span: &Span,
 ) -> Result<(), AllocError>
     ensures { OnOk result ((other : Row) → kept_of groups.new.entries other
-        ≡ kept_in summed start group other (kept_of groups.old.entries other) (seen span.now)) }
+        ≡ kept_in summed start group.now other (kept_of groups.old.entries other) (seen span.now)) }
 {
-    match groups.get_mut(&group) {
+    match groups.get_mut(group) {
         Some(numbers) => {
             *numbers = numbers.with_span(start, summed, span);
             Ok(())
         }
         None => {
-            groups.insert(group, Numbers::none().with_span(start, summed, span))?;
+            let key = group.copied(alloc)?;
+            groups.insert(key, Numbers::none().with_span(start, summed, span))?;
             Ok(())
         }
     }

@@ -11,10 +11,11 @@ ghost use Rattle.rs_value.specs.Text.{values_text};
 ghost use Rattle.rs_value.specs.Values.{AreValues, IsRowOf};
 ghost use Rattle.rs_value.specs.View.{row_of};
 
+use crate::byte_order::compare_bytes;
 use crate::column::Schema;
 use crate::kept_bytes::{after_values, count_values, first_value};
 use crate::kept_encoding::{kept_of, push_encoded};
-use crate::kept_making::{bytes_of, bytes_of_nulls, columns_of, joined};
+use crate::kept_making::{bytes_of, bytes_of_nulls, columns_in, columns_of, joined};
 use crate::kept_text::push_each;
 use crate::lent::LentValue;
 use crate::value::Value;
@@ -82,6 +83,14 @@ impl KeptRow {
         Ok(KeptRow { bytes })
     }
 
+    /// The same in the room of another row, which is forgotten. The only refusal is for want of memory.
+    pub fn chosen_in(&self, room: KeptRow, columns: &[u8]) -> Result<Self, AllocError>
+        ensures { IfOk result (λ kept. kept ≡ map (λ column. get_or self.now column null) columns.now) }
+    {
+        let bytes = columns_in(room.bytes, &self.bytes, columns)?;
+        Ok(KeptRow { bytes })
+    }
+
     /// How many values the row has.
     pub fn width(&self) -> usize
         ensures { result ≡ length self.now }
@@ -125,14 +134,14 @@ impl KeptRow {
 pub fn compare_rows(left: &KeptRow, right: &KeptRow) -> Ordering
     ensures { result ≡ row_cmp left.now right.now }
 {
-    left.bytes.as_slice().cmp(right.bytes.as_slice())
+    compare_bytes(left.bytes.as_slice(), right.bytes.as_slice())
 }
 
 /// Whether two rows are the same.
 pub fn same_row(left: &KeptRow, right: &KeptRow) -> bool
     ensures { IsTrue result ↔ (left.now ≡ right.now) }
 {
-    left.bytes.as_slice() == right.bytes.as_slice()
+    compare_rows(left, right).is_eq()
 }
 
 /// Appends a space and the text of each value of a row. Where memory runs out, a part may have been appended.

@@ -53,7 +53,16 @@ pub(crate) fn joined(alloc: Global, left: &[u8], right: &[u8]) -> Result<Vec<u8>
 pub(crate) fn columns_of(alloc: Global, kept: &[u8], columns: &[u8]) -> Result<Vec<u8>, AllocError>
     ensures { (row : Row) → Keeps kept.now row → IfOk result (λ bytes. Keeps bytes.items (map (λ column. get_or row column null) columns.now)) }
 {
-    let mut bytes = Vec::with_capacity(alloc, columns_width(kept, columns))?;
+    let room = Vec::with_capacity(alloc, columns_width(kept, columns))?;
+    columns_in(room, kept, columns)
+}
+
+/// The same in the room of other bytes, which are forgotten.
+pub(crate) fn columns_in(room: Vec<u8>, kept: &[u8], columns: &[u8]) -> Result<Vec<u8>, AllocError>
+    ensures { (row : Row) → Keeps kept.now row → IfOk result (λ bytes. Keeps bytes.items (map (λ column. get_or row column null) columns.now)) }
+{
+    let mut bytes = room;
+    bytes.clear();
     for column in columns {
         bytes.extend_from_slice(column_bytes(kept, *column))?;
     }

@@ -3,6 +3,7 @@
 //! A row is a tuple of values. What a line writes fits a table's columns, or is refused.
 #![tactic(auto)]
 
+mod byte_order;
 pub mod column;
 pub mod comparison;
 pub mod encoding;

@@ -1,12 +1,11 @@
 -- What is so of each item as it is said is so of each item, and the other way round.
-use Rattle.std.proofs.Common.{◌≡◌, ◌∙◌, All, Bool, List, arith, false, map, refl, subst, sym, true}
+use Rattle.std.proofs.Common.{◌≡◌, ◌∙◌, All, Bool, List, false, map, refl, subst, sym, true}
 use Rattle.std.specs.Prelude.{◌↔◌, IsTrue}
 use Rattle.std.specs.Bool.{OnFalse, OnTrue}
 use Rattle.std.proofs.lemmas.Bool.{false≢true}
 use Rattle.std.proofs.lemmas.List.Elements.{All-map}
 use Rattle.rs_catalog_pages.specs.Fitting.{FitsAlignment, FitsIndex, FitsRoute, FitsTable, FitsView}
-use Rattle.rs_catalog_pages.specs.Said.{said_alignment, said_catalogue, said_index, said_route, said_table, said_view}
-use Rattle.rs_store.specs.Fitting.{FitFields}
+use Rattle.rs_catalog_pages.specs.Said.{said_alignment, said_index, said_route, said_table, said_view}
 use Rattle.rs_store.proofs.Listed.{all_seen}
 use Rattle.rs_store.proofs.fitting.fit_fields.Goals as goal
 

@@ -2,7 +2,7 @@ use Rattle.std.proofs.Common.{◌++◌, ◌∷◌, [], take, map, get_or, refl, 
 use Rattle.std.proofs.lemmas.List.{map_more}
 use Rattle.rs_value.specs.Row.{null}
 use Rattle.rs_value.proofs.KeptRows.{keeps_both, keeps_is}
-use Rattle.rs_value.proofs.kept_making.columns_of.Goals as goal
+use Rattle.rs_value.proofs.kept_making.columns_in.Goals as goal
 
 pub loop-column-preserved : goal.loop-column-preserved
 loop-column-preserved c row h =
