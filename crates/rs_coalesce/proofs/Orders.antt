@@ -61,3 +61,12 @@ apart-answer (first ∷ rest) false (k, inside, is) = (
   λ e. absurd (false≢true e),
   λ apart. absurd (unless_apart (first ∷ rest) k first (omega (arith, inside)) (subst (λ n. false ≡ ends_before (get_or (first ∷ rest) k first) (get_or (first ∷ rest) n first)) (add-one k) (is first)) apart),
 )
+
+-- ---- what `is_sorted_by` says of neighbours
+
+abbrev pub begins_before : Span → Span → Bool
+begins_before one next = nat_le one.lo next.lo
+
+pub adjacent : (test : Span → Span → Bool) (spans : List Span) (r : Bool) → IsAllAdjacentAnswer (λ x y b. b ≡ test x y) spans r → r ≡ true → (k : ℕ) (d : Span) → suc k < length spans → test (get_or spans k d) (get_or spans (suc k) d) ≡ true
+adjacent test spans true all e k d inside = subst (λ n. test (get_or spans k d) (get_or spans n d) ≡ true) (add-one k) (sym (all k d (omega (arith, inside))))
+adjacent test spans false answer e k d inside = absurd (false≢true e)

@@ -1,4 +1,4 @@
--- From spans sorted by row, joined and sorted by place, to maximal runs.
+-- From spans joined and sorted by place to maximal runs, and from spans sorted by row to those joined.
 use Rattle.std.proofs.Common.{◌≡◌, suc, ◌+◌, ◌<◌, true, false, inl, inr, List, [], ◌∷◌, map, get_or, Less, Equal, Greater, is_lt, refl, sym, ap, ◌∙◌, subst, arith}
 use Rattle.std.proofs.lemmas.List.Elements.{All-from_recursion, recursion_from_All}
 use Rattle.std.proofs.lemmas.List.Sorted.{IsPermutation-map, All-permutation}
@@ -12,13 +12,13 @@ use Rattle.rs_facts.proofs.StretchOrder.{stretch_cmp-total, stretch_cmp-tie, str
 use Rattle.rs_facts.proofs.KeptLaws.{placed-some, kept-placed, every-weaker}
 use Rattle.rs_facts.proofs.RunLaws.{IsApart, LieApart, runs-from_apart}
 use Rattle.rs_facts.proofs.Apart.{apart-permutation, kept-apart}
-use Rattle.rs_coalesce.specs.Joined.{joined}
+use Rattle.rs_coalesce.specs.Joined.{joined, AreJoined}
 use Rattle.rs_coalesce.proofs.Joining.{BySorted, kept-from_sorted, means-from_sorted}
 
 abbrev pub ByPlace : {X : Type 0} → (X → Stretch) → List X → Type 0
 ByPlace at spans = IsSortedBy (λ a b. is_lt (stretch_cmp (at a) (at b))) spans
 
-placed-permutation : (kind : Kind) (xs ys : List Stretch) → IsPermutation xs ys → ArePlaced kind xs → ArePlaced kind ys
+pub placed-permutation : (kind : Kind) (xs ys : List Stretch) → IsPermutation xs ys → ArePlaced kind xs → ArePlaced kind ys
 placed-permutation kind xs ys h placed = recursion_from_All (IsPlaced kind) ys (All-permutation (IsPlaced kind) xs ys h (All-from_recursion (IsPlaced kind) xs placed))
 
 -- spans of one row that lie apart begin at two places
@@ -62,22 +62,34 @@ pub record Made (kind : Kind) (given left : List Span) : Type 0 where
   pub placed : ArePlaced kind (map seen left)
   pub same : places_of (map seen left) ≡ places_of (map seen given)
 
-pub made : (kind : Kind) (given sorted left runs : List Span) → ArePlaced kind (map seen given)
-    → IsPermutation given sorted → BySorted sorted → map seen left ≡ joined kind (map seen sorted) → IsPermutation left runs → ByPlace seen runs
-    → Made kind given runs
-made kind given sorted left runs placed moved by_row are_joined moved_again by_place =
-    let placed_sorted = placed-permutation kind (map seen given) (map seen sorted) (IsPermutation-map seen given sorted moved) placed in
-    let kept : AreKept kind (map seen left) = subst (AreKept kind) (sym are_joined) (kept-from_sorted kind sorted by_row placed_sorted) in
-    let over = IsPermutation-map seen left runs moved_again in
-    let placed_runs = placed-permutation kind (map seen left) (map seen runs) over (kept-placed kind (map seen left) kept) in
-    let apart = apart-permutation kind (map seen left) (map seen runs) over (kept-apart kind (map seen left) kept) in
-    let means : places_of (map seen runs) ≡ places_of (map seen given) =
-    sym (places_of-permutation (map seen left) (map seen runs) over)
-    ∙ ap places_of are_joined
-    ∙ means-from_sorted kind sorted by_row placed_sorted
-    ∙ sym (places_of-permutation (map seen given) (map seen sorted) (IsPermutation-map seen given sorted moved)) in
+pub made : (kind : Kind) (given left runs : List Span) → AreJoined kind (map seen left) → ArePlaced kind (map seen left) → places_of (map seen left) ≡ places_of (map seen given)
+    → IsPermutation left runs → ByPlace seen runs → Made kind given runs
+made kind given left runs apart placed same moved by_place =
+    let over = IsPermutation-map seen left runs moved in
+    let placed_runs = placed-permutation kind (map seen left) (map seen runs) over placed in
+    let apart_runs = apart-permutation kind (map seen left) (map seen runs) over apart in
+    let means : places_of (map seen runs) ≡ places_of (map seen given) = sym (places_of-permutation (map seen left) (map seen runs) over) ∙ same in
     record {
-      runs = subst (λ p. AreRunsOf kind p (map seen runs)) means (runs-from_apart kind (map seen runs) placed_runs apart (ordered-from_sorted seen kind runs by_place placed_runs apart));
+      runs = subst (λ p. AreRunsOf kind p (map seen runs)) means (runs-from_apart kind (map seen runs) placed_runs apart_runs (ordered-from_sorted seen kind runs by_place placed_runs apart_runs));
       placed = placed_runs;
       same = means;
+    }
+
+-- ---- from spans sorted by row
+
+pub record Joined (kind : Kind) (given left : List Span) : Type 0 where
+  pub joined : AreJoined kind (map seen left)
+  pub placed : ArePlaced kind (map seen left)
+  pub same : places_of (map seen left) ≡ places_of (map seen given)
+
+pub joined-by_row : (kind : Kind) (given sorted left : List Span) → ArePlaced kind (map seen given)
+    → IsPermutation given sorted → BySorted sorted → map seen left ≡ joined kind (map seen sorted) → Joined kind given left
+joined-by_row kind given sorted left placed moved by_row are_joined =
+    let over = IsPermutation-map seen given sorted moved in
+    let placed_sorted = placed-permutation kind (map seen given) (map seen sorted) over placed in
+    let kept : AreKept kind (map seen left) = subst (AreKept kind) (sym are_joined) (kept-from_sorted kind sorted by_row placed_sorted) in
+    record {
+      joined = kept-apart kind (map seen left) kept;
+      placed = kept-placed kind (map seen left) kept;
+      same = ap places_of are_joined ∙ means-from_sorted kind sorted by_row placed_sorted ∙ sym (places_of-permutation (map seen given) (map seen sorted) over);
     }

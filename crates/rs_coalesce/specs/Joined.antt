@@ -1,10 +1,11 @@
 -- How runs are made: spans by row and place, or by place and apart, and each joined with what follows it as far as they
 -- are one.
-use Rattle.std.specs.Prelude.{ℕ, suc, ◌+◌, ◌<◌, ◌≤◌, max, Bool, ◌&&◌, nat_lt, List, [], ◌∷◌, length, get_or, if◌then◌else◌}
+use Rattle.std.specs.Prelude.{ℕ, suc, ◌+◌, ◌<◌, ◌≤◌, ◌≢◌, ◌⊎◌, ◌≡◌, max, Bool, ◌&&◌, nat_lt, List, [], ◌∷◌, length, get_or, if◌then◌else◌}
 use Rattle.std.specs.declared.cmp.Ordering.{Ordering}
 use Rattle.std.specs.Ordering.{nat_cmp, ordering_then, eq_by_cmp}
 use Rattle.rs_value.specs.declared.column.Kind.{Kind}
 use Rattle.rs_value.specs.Row.{row_cmp}
+use Rattle.rs_facts.specs.declared.fact.Span.{Span}
 use Rattle.rs_facts.specs.Runs.{Stretch, stretch}
 use Rattle.rs_facts.specs.Spans.{gap_of}
 
@@ -31,3 +32,12 @@ joined kind (first ∷ rest) = joined_onto kind first rest
 -- each begins at or after the end of the one before it
 abbrev pub AreApart : List Stretch → Type 0
 AreApart spans = (k : ℕ) (d : Stretch) → suc k < length spans → (get_or spans k d).hi ≤ (get_or spans (suc k) d).lo
+
+-- each begins at or after the beginning of the one before it
+abbrev pub BeginInTurn : List Span → Type 0
+BeginInTurn spans = (k : ℕ) (d : Span) → suc k < length spans → (get_or spans k d).lo ≤ (get_or spans (suc k) d).lo
+
+-- no two are one run: those of one row lie apart
+abbrev pub AreJoined : Kind → List Stretch → Type 0
+AreJoined kind spans = (i j : ℕ) (d : Stretch) → i < length spans → j < length spans → i ≢ j → (get_or spans i d).row ≡ (get_or spans j d).row
+    → ((get_or spans i d).hi + gap_of kind ≤ (get_or spans j d).lo) ⊎ ((get_or spans j d).hi + gap_of kind ≤ (get_or spans i d).lo)

@@ -1,4 +1,4 @@
-//! The joining of neighbours in a list of spans, which are in order by row and place, or by place and apart.
+//! The joining of two spans, and of neighbours in a list, which are in order by row and place, or by place and apart.
 
 ghost use Rattle.std.specs.Prelude.{◌≡◌, ◌+◌, ◌≤◌, nat_lt, length, map, take};
 ghost use Rattle.rs_facts.specs.Spans.{seen, gap_of};
@@ -8,7 +8,7 @@ use rs_facts::Span;
 use rs_value::{Kind, same_row};
 
 /// Whether a span that begins at `lo` is one with an earlier one of its row that ends at `hi`.
-fn reaches(kind: Kind, hi: u32, lo: u32) -> bool
+pub fn reaches(kind: Kind, hi: u32, lo: u32) -> bool
     ensures { result ≡ nat_lt lo (hi + gap_of kind) }
 {
     match kind {
@@ -18,7 +18,7 @@ fn reaches(kind: Kind, hi: u32, lo: u32) -> bool
 }
 
 /// Whether a span and the next one are one run.
-fn is_joined(kind: Kind, before: &Span, next: &Span) -> bool
+pub fn is_joined(kind: Kind, before: &Span, next: &Span) -> bool
     ensures { result ≡ joins kind (seen before.now) (seen next.now) }
 {
     reaches(kind, before.hi, next.lo) && same_row(&before.tuple, &next.tuple)

@@ -1,12 +1,12 @@
-//! The two orders of spans, by row and place to join them, and by place and row to print them, and the test whether
-//! they need none.
+//! The two orders of spans, by row and place to join them, and by place and row to print them, and the tests whether
+//! they are in order.
 
-ghost use Rattle.std.specs.Prelude.{◌≡◌, ◌↔◌, map, IsTrue, IsPermutation};
+ghost use Rattle.std.specs.Prelude.{◌≡◌, ◌↔◌, true, map, IsTrue, IsPermutation};
 ghost use Rattle.std.specs.Ordering.{is_lt};
 ghost use Rattle.std.specs.List.Sorted.{IsSortedBy};
 ghost use Rattle.rs_facts.specs.Runs.{stretch_cmp};
 ghost use Rattle.rs_facts.specs.Spans.{seen};
-ghost use Rattle.rs_coalesce.specs.Joined.{row_place_cmp, AreApart};
+ghost use Rattle.rs_coalesce.specs.Joined.{row_place_cmp, AreApart, BeginInTurn};
 
 use rs_facts::Span;
 use rs_value::compare_rows;
@@ -34,6 +34,13 @@ pub fn are_apart(spans: &[Span]) -> bool
     ensures { IsTrue result ↔ AreApart (map seen spans.now) }
 {
     spans.is_sorted_by(|one, next| one.hi <= next.lo)
+}
+
+/// Whether no span begins before the one before it.
+pub fn begin_in_turn(spans: &[Span]) -> bool
+    ensures { result ≡ true → BeginInTurn spans.now }
+{
+    spans.is_sorted_by(|one, next| one.lo <= next.lo)
 }
 
 /// Sorts spans by row, and those of one row by place.
