@@ -135,6 +135,8 @@ SHAPES = {
     "MERGE(pavement, pavement)": ("from", "to", "surface", "year"),
     "WINDOW(busy_pavement, US40 FROM @EXIT112-5 TO @EXIT112+5)": ("from", "to", "surface", "year", "aadt"),
     "TRANSFORM(busy, realigned)": ("from", "to", "aadt"),
+    "GAPS(pavement)": ("from", "to"),
+    "OVERLAY(GAPS(pavement), crashes)": ("at", "num", "severity"),
 }
 
 

@@ -19,7 +19,7 @@ from typing import NamedTuple
 from slow_catalogue import GREATEST_MEASURE, Route
 from slow_file import value_text
 from slow_machine import MOST_CHANGES, MOST_ROUTES
-from slow_queries import MOST_COLUMNS
+from slow_queries import MOST_COLUMNS, TooLong
 from slow_tables import measure_text
 from stored_machine import Unanswered, machine_of
 
@@ -41,7 +41,7 @@ def exchanges_of(state):
     for line in lines_for(state):
         try:
             exchanges.append(Exchange(line, machine.answer(line)))
-        except Unanswered:
+        except (Unanswered, TooLong):
             pass
     return exchanges
 

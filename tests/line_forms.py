@@ -29,6 +29,7 @@ from conversations import exchanges_of
 from harness import Wrong, parser_of, summary
 from programs import PROGRAM, answer_of, expect_answers, scratch_folder
 from slow_machine import Machine
+from slow_queries import TooLong
 from ways import WAYS, Roadseg, answer_in
 from worked import REFUSED, WORKED
 
@@ -83,7 +84,7 @@ def put_beside(machine, line, sent, wanted):
     before = machine.changes
     try:
         wanted.append(machine.answer(line))
-    except SystemExit:
+    except TooLong:
         machine.changes = before
         return
     sent.append(line + b"\n")

@@ -72,9 +72,9 @@ class Commands(Queries):
 
     def define_table(self):
         name = self.new_name(list(self.tables) + list(self.views))
-        is_line = self.chance(0.6)
-        count = self.pick([1, 2, 2, 3, 4, 6, 11, 12, 12])
-        if self.flaw(2):
+        is_line = self.chance(0.55)
+        count = self.pick([1, 2, 2, 3, 4, 6, 11, 12, 12, 12])
+        if self.flaw(4):
             count = self.pick([13, 14])
         names = self.random.sample(COLUMNS, count)
         if self.flaw(4):
@@ -96,6 +96,7 @@ class Commands(Queries):
     def define_view(self):
         name = self.new_name(list(self.views) + list(self.tables))
         self.is_view = True
+        self.rate *= 1.8
         query = self.some_query({1: 3, 2: 3, 3: 1})
         self.is_view = False
         return [b"DEFINE", b"VIEW", name, b"AS"] + query.tokens, lambda: self.know_view(name, query)
@@ -110,7 +111,7 @@ class Commands(Queries):
         if self.chance(0.2):
             name = self.pick([one for one in [*self.tables, *self.views] if one not in self.alignments] or [name])
         count = self.pick([1, 1, 1, 2, 2, 3, 4, 7])
-        if self.chance(0.06):
+        if self.chance(0.1):
             count = self.pick([MOST_PIECES, MOST_PIECES, MOST_PIECES + 1])
             self.is_flawed = self.is_flawed or count > MOST_PIECES
         self.marks.add("%d pieces" % count)
@@ -137,8 +138,8 @@ class Commands(Queries):
         start, finish = self.part_of_route(route, new.finish - new.start)
         last = new.finish - (finish - start)
         between = [self.random.randint(new.start, last) for _ in range(2)]
-        new_start = self.pick([new.start, last, *between])
-        if self.flaw(4):
+        new_start = self.pick([new.start, new.start, last, *between])
+        if self.flaw(5):
             start, finish, new_start = self.pick([
                 (start, start, new_start), (finish, start, new_start),
                 (finish, start, new.finish), (finish, start, new.finish + 1),
@@ -187,9 +188,10 @@ class Commands(Queries):
         in_alignments = {route for routes in self.alignments.values() for route in routes}
         in_use = with_events | in_windows | in_alignments
         free = [name for name in names[-9:] if name not in in_use] or names[-6:]
-        held = sorted(in_windows - with_events) + sorted(in_alignments - with_events - in_windows)
-        name = self.pick(free) if self.chance(0.8) else self.pick(names)
-        name = self.pick(held) if held and self.chance(0.3) else name
+        held = [sorted(in_windows - with_events), sorted(in_alignments - with_events - in_windows)]
+        held = [some for some in held if some]
+        name = self.pick(free) if self.chance(0.9) else self.pick(names)
+        name = self.pick(self.pick(held)) if held and self.chance(0.35) else name
         if name in in_alignments - with_events - in_windows:
             self.marks.add("in an alignment")
         self.is_flawed = self.is_flawed or name in in_use or name in self.first_routes()
@@ -224,13 +226,15 @@ class Commands(Queries):
         name = self.pick(list(self.indexes) or UNKNOWN)
         self.is_flawed = self.is_flawed or name not in self.indexes
         self.mind_cursors()
-        written = self.pick(UNKNOWN + tuple(self.tables)) if self.flaw(2) else name
+        written = self.pick(UNKNOWN + tuple(self.tables)) if self.flaw(3.5) else name
         return [b"DROP", b"INDEX", written], lambda: self.indexes.pop(name)
 
     def drop_view(self):
         """A view, mostly one that no view names."""
         names = [name for name in self.views if not self.is_named(name)]
+        held = [name for name in self.views if self.is_named(name)]
         name = self.pick(names) if names and self.chance(0.6) else self.pick(list(self.views) or UNKNOWN)
+        name = self.pick(held) if held and self.chance(0.2) else name
         self.is_flawed = self.is_flawed or self.is_named(name) or name not in self.views
         written = self.pick(UNKNOWN + tuple(self.tables)) if self.flaw(2) else name
         return [b"DROP", b"VIEW", written], lambda: self.views.pop(name)
@@ -239,7 +243,9 @@ class Commands(Queries):
         """An alignment, mostly one that no view names."""
         in_views = {name for view in self.views.values() for name in view.alignments}
         names = [name for name in self.alignments if name not in in_views]
+        held = sorted(in_views & self.alignments.keys())
         name = self.pick(names) if names and self.chance(0.6) else self.pick(list(self.alignments) or UNKNOWN)
+        name = self.pick(held) if held and self.chance(0.2) else name
         self.is_flawed = self.is_flawed or name in in_views or name not in self.alignments
         written = self.pick(UNKNOWN + tuple(self.tables)) if self.flaw(2) else name
         return [b"DROP", b"ALIGNMENT", written], lambda: self.alignments.pop(name)
@@ -279,14 +285,15 @@ class Commands(Queries):
         known = self.tables[table]
         row = self.pick(known.rows) if self.chance(0.9) else self.row(known.columns)
         key = (table, route, row)
-        is_line = known.is_line != self.flaw(0.7)
+        is_line = known.is_line != self.flaw(0.9)
         if is_line:
             start, finish = self.span(route, self.spans.get(key, []))
             self.mark_span(key, start, finish)
             self.mark_end(route, finish, "to the end")
             tokens = self.span_tokens(route, start, finish)
         else:
-            start = finish = self.some_place(self.routes[route])
+            places = [start for start, _ in self.spans.get(key, [])]
+            start = finish = self.pick(places) if places and self.chance(0.15) else self.some_place(self.routes[route])
             tokens = [b"AT"] + self.position(route, start)
             self.mark_end(route, start, "point at the end")
         tokens = [b"INSERT", b"INTO", table_name, b"ON", route_name] + tokens
@@ -298,15 +305,15 @@ class Commands(Queries):
             self.marks.add(mark)
 
     def remove(self):
-        self.rate *= 0.7
+        self.rate *= 0.8
         table, table_name = self.some_table()
         route, route_name = self.some_route()
         tokens = [b"REMOVE", table_name, b"ON", route_name]
-        is_whole = self.chance(0.15)
+        is_whole = self.chance(0.18)
         if not is_whole:
             own = [span for key, spans in self.spans.items() if key[:2] == (table, route) for span in spans]
             tokens += self.span_tokens(route, *self.span(route, own))
-        if self.chance(0.55):
+        if self.chance(0.6):
             is_whole = False
             tokens += [b"WHERE"] + self.condition(self.columns_of(table), 1)
         return tokens, lambda: self.know_removed(table, route, is_whole)
@@ -324,23 +331,18 @@ class Commands(Queries):
             return self.pick([(start, start), (finish, start)])
         if self.chance(0.08):
             return max(route.start, route.finish - (finish - start)), route.finish
-        if spans and self.chance(0.75):
-            lo, hi = self.pick(spans[-6:])
-            ends = {lo - 2, lo - 1, lo, lo + 1, hi - 1, hi, hi + 1, hi + 3}
-            ends = sorted(end for end in ends if route.start <= end <= route.finish)
-            start, finish = sorted(self.random.sample(ends, 2))
+        if spans and self.chance(0.85):
+            return self.span_beside(route, *self.pick(spans[-6:]))
         return start, finish
 
-    def span_tokens(self, route, start, finish):
-        """FROM and TO; on a long route both ends hang on one referent or on none, so that the span is short."""
-        how = None if self.kind != "long" else self.pick(METHODS)
-        if how == b"RELATIVE":
-            known = self.routes[route]
-            referent = self.pick(list(known.referents))
-            first, last = self.relative(known, referent, start), self.relative(known, referent, finish)
-        else:
-            first, last = self.position(route, start, how), self.position(route, finish, how)
-        return [b"FROM"] + first + [b"TO"] + last
+    def span_beside(self, route, lo, hi):
+        """A span that mostly touches or overlaps this one, in a third of all cases touches it or lies within or around it."""
+        if self.chance(0.35):
+            before, after = max(lo - 1, route.start), min(hi + 1, route.finish)
+            forms = [(lo + 1, hi - 1), (before, after), (before, after), (before, lo), (hi, after)]
+            return self.pick([form for form in forms if form[0] < form[1]])
+        ends = {lo - 2, lo - 1, lo, lo + 1, hi - 1, hi, hi + 1, hi + 3}
+        return sorted(self.random.sample(sorted(end for end in ends if route.start <= end <= route.finish), 2))
 
     def mark_span(self, key, start, finish):
         """Notes how the span lies beside earlier ones of its row, and over those of other rows."""
@@ -368,7 +370,8 @@ class Commands(Queries):
     def select(self):
         """A table's or a view's name."""
         query = self.named(None)
-        self.explained_next(query)
+        if self.chance(0.5):
+            self.explained_next(query)
         tokens = [b"SELECT"] + query.tokens
         if self.chance(0.8):
             tokens += [b"AS", self.pick(METHODS)]
@@ -386,7 +389,8 @@ class Commands(Queries):
 
     def total(self):
         """Totals of a query, by some of its columns, mostly with the sum of one; at times no column of numbers."""
-        query = self.some_query({0: 25, 1: 30, 2: 22, 3: 14, 4: 9})
+        query = self.some_query({0: 18, 1: 32, 2: 24, 3: 16, 4: 10})
+        self.rate *= 1.25
         tokens = [b"TOTAL"] + query.tokens + [b"BY", b"("] + listed(self.group_columns(query)) + [b")"]
         numbers = [column.name for column in query.columns if column.longest is None]
         if self.flaw(4):
@@ -418,19 +422,19 @@ class Commands(Queries):
 
     def open_cursor(self):
         """A cursor of the line's session, at times a fifth one or one of a name that is taken."""
-        if self.cursors and self.chance(0.4):
+        if self.cursors and self.chance(0.6):
             self.session_number = self.busiest_session()
         session = self.session_number
         own = [name for other, name in self.cursors if other == session]
         name = self.pick([one for one in CURSORS if one not in own])
-        if self.flaw(3):
+        if self.flaw(4):
             name = self.pick(own or [b"x" * 33, b"none"])
         self.is_flawed = self.is_flawed or len(own) == MOST_CURSORS
         query = self.some_query({0: 25, 1: 35, 2: 25, 3: 15})
         if self.chance(0.3):
             self.explained_next(query)
         tokens = [b"OPEN", name, b"FOR"] + query.tokens
-        if self.chance(0.6):
+        if self.chance(0.7):
             tokens += [b"AS", self.pick(METHODS)]
         return tokens, lambda: self.know_cursor(session, name)
 
@@ -438,9 +442,9 @@ class Commands(Queries):
         """A session that has most cursors."""
         return Counter(session for session, _ in self.cursors).most_common(1)[0][0]
 
-    def some_cursor(self):
+    def some_cursor(self, share=3):
         """The name of a cursor of what is the line's session from then on, at times of none; often the oldest."""
-        if not self.cursors or self.flaw(3):
+        if not self.cursors or self.flaw(share):
             self.is_flawed = True
             return self.pick(CURSORS + (b"none",))
         cursors = list(self.cursors)
@@ -451,15 +455,21 @@ class Commands(Queries):
 
     def fetch(self):
         name = self.some_cursor()
-        count = b"%d" % self.pick([1, 1, 1, 1, 2, 3, 5, 20, 1000, 1000])
+        session, rows = self.session_number, self.pick([1, 1, 1, 1, 2, 3, 20, 20, 1000, 1000])
+        count = b"%d" % rows
         if self.chance(0.1):
             count = count.rjust(self.random.randint(1, 25), b"0")
         if self.flaw():
-            count = self.pick([b"0", b"000", b"1001", b"00001001", b"99999999999999999999", b"1.0"])
-        return [b"FETCH", name, count], lambda: None
+            count = self.pick([b"0", b"000", b"1001", b"00001001", b"99999999999999999999", b"1.0", b"-1"])
+        return [b"FETCH", name, count], lambda: self.know_fetched(session, name, rows)
+
+    def know_fetched(self, session, name, rows):
+        """A cursor that has given all is the last to be chosen as the oldest."""
+        if rows == 1000:
+            self.cursors[session, name] = self.cursors.pop((session, name))
 
     def close_cursor(self):
-        name = self.some_cursor()
+        name = self.some_cursor(5)
         session = self.session_number
         return [b"CLOSE", name], lambda: self.cursors.pop((session, name))
 

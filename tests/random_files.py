@@ -41,6 +41,9 @@ QUERIES = [
     b"WINDOW(pave, long_name)",
     b"TRANSFORM(pave, re)",
     b"WINDOW(TRANSFORM(a, re2), A FROM 0.7 TO 0.7)",
+    b"GAPS(pave)",
+    b"OVERLAY(WINDOW(GAPS(pave), B), crash)",
+    b"GAPS(crash)",
 ]
 
 TOKEN = re.compile(rb"[A-Za-z0-9_.]+|'[^']*'|.", re.DOTALL)

@@ -218,6 +218,17 @@ class Parts:
         sign = b"-" if offset < 0 or (offset == 0 and self.chance(0.5)) else b"+"
         return [b"@", referent, sign, self.measure(abs(offset))]
 
+    def span_tokens(self, route, start, finish):
+        """FROM and TO; on a long route both ends hang on one referent or on none, so that the span is short."""
+        how = None if self.kind != "long" else self.pick(METHODS)
+        if how == b"RELATIVE":
+            known = self.routes[route]
+            referent = self.pick(list(known.referents))
+            first, last = self.relative(known, referent, start), self.relative(known, referent, finish)
+        else:
+            first, last = self.position(route, start, how), self.position(route, finish, how)
+        return [b"FROM"] + first + [b"TO"] + last
+
     # Rows.
 
     def row(self, columns):
@@ -233,10 +244,10 @@ class Parts:
     def text(self, longest):
         """A text of at most so many bytes, often of exactly so many."""
         text = b""
-        for _ in range(self.random.randint(0, longest)):
+        for _ in range(self.random.randint(0, min(longest, 20))):
             piece = self.pick(PIECES).encode()
             text += piece if len(text + piece) <= longest else b""
-        return text.ljust(longest, b"z") if self.chance(0.3) else text
+        return text.ljust(longest, b"z") if self.chance(0.4) else text
 
     def written(self, value):
         """The tokens of a value, a number in one of its forms."""
@@ -247,7 +258,7 @@ class Parts:
         digits = b"%d" % abs(value)
         if self.chance(0.1):
             digits = digits.rjust(self.random.randint(1, 20), b"0")
-        return [b"-", digits] if value < 0 or (value == 0 and self.chance(0.2)) else [digits]
+        return [b"-", digits] if value < 0 or (value == 0 and self.chance(0.3)) else [digits]
 
     def row_tokens(self, columns, row):
         """A row in brackets, flawed at times in number, type, length or range."""
@@ -262,7 +273,7 @@ class Parts:
             return self.text(5) if longest is None else self.random.randint(-9, 9)
         if longest is None and self.flaw(0.3):
             return self.pick([10**12 + 1, -(10**12) - 1, 10**30])
-        if longest is not None and self.flaw(1.8):
+        if longest is not None and self.flaw(2.2):
             return self.pick([b"y" * (longest + 1), "é".encode() * longest + b"y", b"'" * (longest + 2)])
         return value
 

@@ -8,7 +8,7 @@ windows on no route, outside it or empty, and queries that are too large, too de
 
 from typing import NamedTuple
 
-from random_parts import COLUMNS, METHODS, TABLES, UNKNOWN, Parts, listed
+from random_parts import COLUMNS, LONGEST_SPAN, METHODS, TABLES, UNKNOWN, Parts, listed
 
 MOST_COLUMNS = 12
 MOST_NODES = 256
@@ -20,8 +20,8 @@ NEW_COLUMNS = COLUMNS + (b"x", b"y", b"z", b"m1", b"m2", b"m3", b"w_", b"Q", b"r
 
 # How often each operator is chosen.
 OPERATORS = {
-    "where": 5, "dissolve": 3, "rename": 2, "window": 3, "transform": 4,
-    "overlay": 5, "cover": 4, "merge": 3, "minus": 4,
+    "where": 6, "dissolve": 4, "rename": 3, "window": 4, "transform": 5, "gaps": 4,
+    "overlay": 7, "cover": 5, "merge": 4, "minus": 6,
 }  # fmt: skip
 
 # How many TRANSFORMs stand one in another at the most, since each may have what its pieces carry several times.
@@ -97,6 +97,8 @@ class Queries(Parts):
         return operand._replace(tokens=tokens, columns=columns, nodes=operand.nodes + 1, depth=operand.depth + 1)
 
     def where(self, depth, is_line):
+        if depth > 0 and self.chance(0.2):
+            return self.filtered(self.pick([self.overlay, self.cover])(depth - 1, is_line))
         return self.filtered(self.query(depth, is_line))
 
     def filtered(self, operand):
@@ -109,7 +111,7 @@ class Queries(Parts):
         operand = self.query(depth, is_line)
         count = self.random.randint(0, len(operand.columns))
         chosen = self.random.sample(operand.columns, max(count, self.random.randint(0, 1) if operand.columns else 0))
-        if chosen and self.flaw(1.2):
+        if chosen and self.flaw(1.8):
             chosen += [self.pick([chosen[0], KnownColumn(b"none", None, [])])]
         return self.chosen_columns(operand, chosen)
 
@@ -140,7 +142,10 @@ class Queries(Parts):
         return self.over(b"RENAME", operand, [name, b"TO", new_name], columns)
 
     def window(self, depth, is_line):
-        return self.windowed(self.query(depth, is_line))
+        operand = self.query(depth, is_line)
+        if self.chance(0.25):
+            operand = self.pick([self.filtered, self.transformed])(operand)
+        return self.windowed(operand)
 
     def windowed(self, operand):
         route, route_name = self.some_route()
@@ -151,9 +156,9 @@ class Queries(Parts):
             known = self.routes[route]
             ends = sorted(self.random.sample(range(known.start, known.finish + 1), 2))
             ends = ends if self.chance(0.8) else [known.start, max(ends)]
-            if self.flaw(1.5):
+            if self.flaw(2.2):
                 ends = self.pick([ends[::-1], ends[:1] * 2])
-            how = b"RELATIVE" if self.is_view and self.chance(0.5) else self.pick([*METHODS, None])
+            how = b"RELATIVE" if self.is_view and self.chance(0.75) else self.pick([*METHODS, None])
             rest += [b"FROM"] + self.position(route, ends[0], how) + [b"TO"] + self.position(route, ends[1], how)
         return self.over(b"WINDOW", operand, rest)
 
@@ -165,9 +170,29 @@ class Queries(Parts):
         if not self.alignments or operand.transforms == MOST_TRANSFORMS:
             return operand
         name = self.pick(list(self.alignments)[-12:])
-        if self.flaw(1.2):
+        if self.flaw(1.7):
             name = self.pick(UNKNOWN + tuple(self.tables)[:6] + tuple(self.routes)[:3])
         return self.over(b"TRANSFORM", operand, [name])._replace(transforms=operand.transforms + 1)
+
+    def gaps(self, depth, is_line):
+        """Gaps are lines, and of lines, unless there is a flaw."""
+        if is_line is False:
+            return self.query(depth, is_line)
+        operand = self.query(depth, not self.flaw(1.5))
+        return self.gapped(self.filtered(operand) if self.chance(0.2) else operand)
+
+    def gapped(self, operand):
+        """Where an operand has no row; of routes that may be long, a short part."""
+        tokens = [b"GAPS", b"("] + operand.tokens + [b")"]
+        query = operand._replace(tokens=tokens, is_line=True, columns=[], nodes=operand.nodes + 1, depth=operand.depth + 1)
+        return query if self.kind == "short" else self.seen_shortly(query)
+
+    def seen_shortly(self, operand):
+        route, route_name = self.some_route()
+        known = self.routes[route]
+        start = self.random.randrange(known.start, known.finish)
+        finish = self.random.randint(start + 1, min(start + LONGEST_SPAN, known.finish))
+        return self.over(b"WINDOW", operand, [route_name] + self.span_tokens(route, start, finish))
 
     # Operators with two operands.
 
@@ -186,7 +211,7 @@ class Queries(Parts):
 
     def cover(self, depth, is_line):
         left = self.query(depth, is_line)
-        if self.flaw(1.5):
+        if self.flaw(2):
             right = self.query(self.pick([0, depth]), self.pick([None, not left.is_line]))
         else:
             left, right = self.beside(left, self.query(depth, left.is_line))
@@ -215,7 +240,7 @@ class Queries(Parts):
     def of_like(self, word, left, depth):
         """Two operands of one kind with the same columns."""
         right = self.like(left, depth)
-        if self.flaw(1.5):
+        if self.flaw(2):
             right = self.pick([self.query(0), self.query(depth), self.like(left._replace(is_line=not left.is_line), 1)])
         return self.pair(word, *(self.pick([(left, right), (right, left)])), left.columns)
 
@@ -252,9 +277,9 @@ class Queries(Parts):
         return joined(b"OR", [self.conjunction(columns, depth) for _ in range(parts)])
 
     def conjunction(self, columns, depth):
-        parts = self.random.choices([1, 2, 3], [7, 3, 1])[0]
+        parts = self.random.choices([1, 2, 3], [6, 4, 1])[0]
         atoms = [self.atom(columns, depth) for _ in range(parts)]
-        if self.chance(0.3):
+        if self.chance(0.4):
             atoms[self.random.randrange(parts)] = self.equality(columns)
         return joined(b"AND", atoms)
 
@@ -271,18 +296,18 @@ class Queries(Parts):
             inner = [b"("] + self.condition(columns, depth - 1) + [b")"]
             return [b"NOT"] + inner if self.chance(0.6) else inner
         column = self.pick(columns)
-        name = self.pick([b"none", b"Surf", b"N"]) if self.flaw(0.7) else column.name
+        name = self.pick([b"none", b"Surf", b"N"]) if self.flaw(0.9) else column.name
         if self.chance(0.15):
             return [name, b"IS"] + ([b"NOT"] if self.chance(0.5) else []) + [b"NULL"]
         return [name, self.pick(SIGNS)] + self.other_side(columns, column)
 
     def other_side(self, columns, column):
         """A value or a column that a column is compared with, mostly of its type."""
-        is_text = (column.longest is not None) != self.flaw(0.7)
+        is_text = (column.longest is not None) != self.flaw(0.9)
         if self.chance(0.2):
             fit = [one.name for one in columns if (one.longest is not None) == is_text]
             return [self.pick(fit + [column.name])]
-        if self.flaw(0.2):
+        if self.flaw(0.4):
             return self.written(10**12 + 1)
         values = [value for value in column.values if value is not None and isinstance(value, bytes) == is_text]
         if values and self.chance(0.75):
@@ -297,7 +322,7 @@ class Queries(Parts):
 
     def about_as_many_brackets(self):
         """A number of brackets, mostly no more than may be open."""
-        count = self.random.randint(OPEN_BRACKETS - 3, OPEN_BRACKETS + 1)
+        count = self.random.randint(OPEN_BRACKETS - 2, OPEN_BRACKETS + 1)
         self.is_flawed = self.is_flawed or count > OPEN_BRACKETS
         self.marks.add("%d brackets" % count)
         return count
@@ -320,9 +345,9 @@ class Queries(Parts):
         query = self.table_query(b"pave")
         while query.nodes < 127:
             query = self.pair(self.pick([b"MERGE", b"MINUS"]), query, query, query.columns)
-        left = self.over(b"WINDOW", query, [b"A"]) if self.chance(0.4) else query
+        left = self.over(b"WINDOW", query, [b"A"]) if self.chance(0.45) else query
         query = self.pair(b"MERGE", left, query, query.columns)
-        return self.over(b"WINDOW", query, [b"Z"]) if self.chance(0.4) else query
+        return self.over(b"WINDOW", query, [b"Z"]) if self.chance(0.45) else query
 
     def bracketed(self):
         """A condition in brackets, the operator's own among them."""
@@ -333,12 +358,12 @@ class Queries(Parts):
 
     def some_query(self, depths):
         """A query of some depth, at times one at a limit."""
-        if self.chance(0.03):
+        if self.chance(0.055):
             query = self.pick([self.nested, self.doubled, self.bracketed])()
         else:
             depth = self.random.choices(list(depths), depths.values())[0]
             self.rate /= 1 + depth  # it has more parts than others, each of which may have a flaw
-            query = self.query(depth)
+            query = self.query(depth, False if self.chance(0.12) else None)
         self.is_flawed = self.is_flawed or query.nodes > MOST_NODES or query.depth > DEEPEST
         self.marks |= {"depth %d" % query.depth, "%d nodes" % query.nodes}
         return query

@@ -112,6 +112,10 @@ class Transform(NamedTuple):
     alignment: bytes
 
 
+class Gaps(NamedTuple):
+    operand: tuple
+
+
 class Overlay(NamedTuple):
     left: tuple
     right: tuple
@@ -137,7 +141,7 @@ def operands_of(query):
     match query:
         case Named():
             return []
-        case Where() | Dissolve() | Rename() | Window() | Transform():
+        case Where() | Dissolve() | Rename() | Window() | Transform() | Gaps():
             return [query.operand]
         case _:
             return [query.left, query.right]

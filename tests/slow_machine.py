@@ -54,7 +54,7 @@ from slow_commands import (
     refuse_if,
 )
 from slow_plans import Planner
-from slow_queries import MOST_COLUMNS, View, meets, opened, place_of, places_of, size_of
+from slow_queries import MOST_COLUMNS, TooLong, View, keep_short, meets, opened, place_of, places_of, size_of
 from slow_reader import command_of, session_of, text_of_line
 from slow_tables import Route, Table, measure_text
 
@@ -68,9 +68,6 @@ MOST_REFERENTS = 1000
 MOST_CURSORS = 4
 MOST_CHANGES = 2**63 - 1
 GREATEST_TOTAL = 10**21
-
-# A longer span is none for this machine, which would have to keep a set for each thousandth.
-LONGEST_SPAN = 2_000_000
 
 WORDS = {
     1: "line is not text",
@@ -472,11 +469,6 @@ def row_order(row):
     return [(value is not None, value) for value in row]
 
 
-def keep_short(length):
-    if length > LONGEST_SPAN:
-        sys.exit("a span of %d thousandths is too long for the slow machine" % length)
-
-
 def values_of(facts, summed):
     """The values of the summed column over the facts, one for each; NULL is none."""
     return [row[summed] for _, _, row in facts if summed is not None and row[summed] is not None]
@@ -523,8 +515,15 @@ def main():
     machine = Machine()
     for line in sys.stdin.buffer:
         if line.endswith(b"\n"):
-            sys.stdout.buffer.write(machine.answer(line[:-1]))
+            sys.stdout.buffer.write(answer_of(machine, line[:-1]))
             sys.stdout.buffer.flush()
+
+
+def answer_of(machine, line):
+    try:
+        return machine.answer(line)
+    except TooLong as found:
+        sys.exit(str(found))
 
 
 if __name__ == "__main__":

@@ -14,6 +14,7 @@ from slow_commands import (
     Comparison,
     Cover,
     Dissolve,
+    Gaps,
     IsNull,
     Merge,
     Minus,
@@ -130,6 +131,8 @@ class Planner:
                 return self.column_names(left)
             case Where() | Window() | Transform():
                 return self.column_names(query.operand)
+            case Gaps():
+                return []
 
     def place(self, query, windows, conjuncts):
         """The plan of a query under so many windows and under these conjuncts."""
@@ -147,8 +150,9 @@ class Planner:
             case Dissolve(operand, names):
                 return node("DISSOLVE", str(len(names)), [self.place(operand, windows, conjuncts)])
             case Transform(operand, alignment):
-                plan = node("TRANSFORM", alignment.decode(), [self.place(operand, 0, conjuncts)])
-                return node("WINDOW", str(windows), [plan]) if windows else plan
+                return under_window(node("TRANSFORM", alignment.decode(), [self.place(operand, 0, conjuncts)]), windows)
+            case Gaps(operand):
+                return under_window(node("GAPS", "", [self.place(operand, 0, [])]), windows)
             case Merge(left, right) | Minus(left, right):
                 word = "MERGE" if isinstance(query, Merge) else "MINUS"
                 return node(word, "", [self.place(left, windows, conjuncts), self.place(right, windows, conjuncts)])
@@ -175,6 +179,11 @@ class Planner:
         names = [name for name, of in self.machine.indexes.items() if of.table == table and of.column in columns]
         way = "INDEX " + min(names).decode() if names else "RANGE" if windows else "SCAN"
         return Plan(way, "%s %d %d" % (table.decode(), windows, len(conjuncts)), [], [table])
+
+
+def under_window(plan, windows):
+    """A plan with windows above it, if there are any."""
+    return node("WINDOW", str(windows), [plan]) if windows else plan
 
 
 def under_where(plan, conjuncts):

@@ -6,6 +6,7 @@ the set of its rows at one thousandth of a route, and at all thousandths outside
 same members, and a condition is a function of a row.
 """
 
+from collections.abc import Set
 from functools import cached_property
 from typing import NamedTuple
 
@@ -17,6 +18,7 @@ from slow_commands import (
     Comparison,
     Cover,
     Dissolve,
+    Gaps,
     IsNull,
     Merge,
     Minus,
@@ -32,9 +34,16 @@ from slow_commands import (
     refuse_if,
 )
 
+# No longer span is looked at, since each of its thousandths would have to be.
+LONGEST_SPAN = 2_000_000
+
 MOST_COLUMNS = 12
 MOST_NODES = 256
 DEEPEST = 32
+
+
+class TooLong(Exception):
+    """The answer would come of more thousandths than are looked at."""
 
 
 class View(NamedTuple):
@@ -85,6 +94,8 @@ def node(machine, query):
             return WindowNode(machine, *operands, route, ends)
         case Transform(_, alignment):
             return TransformNode(*operands, machine.alignments[alignment])
+        case Gaps():
+            return GapsNode(machine, *operands)
         case Overlay():
             return OverlayNode(*operands)
         case Cover():
@@ -229,6 +240,10 @@ class WindowNode(OneOperand):
         self.route = route
         self.within = machine.route(route).within(ends)
 
+    def places(self, route):
+        places = self.operand.places(route) if route == self.route else set()
+        return places.inside(self.within) if isinstance(places, Places) else places
+
     def rows_at(self, route, place):
         if route == self.route and place in self.within:
             return self.operand.rows_at(route, place)
@@ -259,6 +274,53 @@ class TransformNode(OneOperand):
 
     def rows_at(self, route, place):
         return self.rows.get(route, {}).get(place, set())
+
+
+class GapsNode:
+    """The row without columns wherever, between the ends of a route, the operand has none: refused 32 unless of lines."""
+
+    def __init__(self, machine, operand):
+        refuse_if(not operand.is_line, 32)
+        self.is_line = True
+        self.columns = []
+        self.routes = machine.routes
+        self.operand = operand
+
+    def places(self, route):
+        return Places(self.within(route))
+
+    def rows_at(self, route, place):
+        return set() if self.operand.rows_at(route, place) or place not in self.within(route) else {()}
+
+    def within(self, route):
+        return range(self.routes[route].start, self.routes[route].finish)
+
+
+class Places(Set):
+    """The thousandths of a span, of which only a part may be asked for."""
+
+    _from_iterable = set
+
+    def __init__(self, span):
+        self.span = span
+
+    def __contains__(self, place):
+        return place in self.span
+
+    def __iter__(self):
+        keep_short(len(self.span))
+        return iter(self.span)
+
+    def __len__(self):
+        return len(self.span)
+
+    def inside(self, span):
+        return Places(range(max(self.span.start, span.start), min(self.span.stop, span.stop)))
+
+
+def keep_short(length):
+    if length > LONGEST_SPAN:
+        raise TooLong("a span of %d thousandths is too long for the slow machine" % length)
 
 
 # Operators on the rows of two operands.

@@ -35,6 +35,7 @@ from slow_commands import (
     DropView,
     Explain,
     Fetch,
+    Gaps,
     Insert,
     Interpolative,
     IsNull,
@@ -323,7 +324,14 @@ class Reader:
                 query = read_rest(operand)
                 self.take(b")")
                 return query
-        return Named(self.name())
+        return self.gaps() if self.takes(b"GAPS") else Named(self.name())
+
+    def gaps(self):
+        """The operator with nothing after its operand."""
+        self.take(b"(")
+        operand = self.query()
+        self.take(b")")
+        return Gaps(operand)
 
     def operators(self):
         """The words of the operators, and what reads each from its first comma on."""

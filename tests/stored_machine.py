@@ -2,14 +2,14 @@
 
 It shares nothing with the crates. This machine is asked and never changed, unless it is a `ChangingMachine`: a command that
 it would carry out as a change is `Changing`. Of a table with a span too long for a set of rows at each of its thousandths it knows the runs
-that were read, and no more: a command whose answer comes of such thousandths is `TooLong`.
+that were read, and no more: a command whose answer comes of such thousandths, or of the gaps of a route that is longer still, is `TooLong`.
 """
 
 from harness import Wrong, bytes_at, expect
 from slow_commands import DefineIndex, Named, Piece, parts_of, refuse_if
 from slow_file import query_of, read
 from slow_machine import MOST_CHANGES, Machine
-from slow_queries import View, size_of
+from slow_queries import TooLong, View, size_of
 from slow_tables import Route, Table
 
 LONGEST_SPAN = 100_000  # thousandths
@@ -21,10 +21,6 @@ class Unanswered(Exception):
 
 class Changing(Unanswered):
     """The command is accepted, and would change the state."""
-
-
-class TooLong(Unanswered):
-    """The answer comes of the thousandths of a long table."""
 
 
 class LongTable(Table):

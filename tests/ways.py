@@ -32,6 +32,10 @@ MOST_CURSORS = 4
 SESSION, FETCHED, OPENED = re.compile(rb"\s*(\d+)"), re.compile(rb" *\d+ *FETCH\b"), re.compile(rb" *\d+ *OPEN +\w+ +FOR(.*)\n")
 
 
+# The commands that are changes, each of which clears what no cursor sees.
+CHANGES = (b"DEFINE", b"DROP", b"MOVE", b"INSERT", b"REMOVE")
+
+
 class Roadseg(NamedTuple):
     """The commands that answer lines and that create a file. Over a file both are given `--file` and its path."""
 
@@ -74,7 +78,7 @@ def answer_in(way, program, lines, replies, longest=LONGEST_RUN):
         answers = [answer_of(program.create + over, b"", longest)]
         answers += [answer_of(program.run + over, part, longest) for part in parts]
         complaint = next((answer.complaint for answer in answers if answer.complaint), None)
-        complaint = complaint or complaint_of(file, ends_without_cursors(lines, replies))
+        complaint = complaint or complaint_of(file, is_cleared(lines, replies))
     return Answer(b"".join(answer.out for answer in answers), complaint)
 
 
@@ -118,9 +122,25 @@ def cuts_of(lines, replies):
     return sorted({places[bisect_right(places, place) - 1] for place in chosen} - {0})
 
 
-def ends_without_cursors(lines, replies):
-    """Whether no cursor is open after the last line."""
-    return places_without_cursors([*lines, b""], [*replies, b"", b""])[-1] == len(lines)
+def is_cleared(lines, replies):
+    """Whether no cursor is open after the last line, and what cursors saw was cleared: by the CLOSE of the last one or by an accepted
+    change. REOPEN ends cursors and clears nothing."""
+    cursors, is_left = set(), False
+    for line, reply in zip(lines, replies):
+        words = line.split()
+        if reply.split()[1:2] != [b"OK"] or len(words) < 2:
+            continue
+        if words[1] == b"OPEN":
+            cursors.add((int(words[0]), words[2]))
+        elif words[1] == b"CLOSE":
+            cursors.discard((int(words[0]), words[2]))
+            is_left = False
+        elif words[1] == b"REOPEN":
+            is_left = is_left or bool(cursors)
+            cursors.clear()
+        elif words[1] in CHANGES:
+            is_left = False
+    return not cursors and not is_left
 
 
 def places_without_cursors(lines, replies):

@@ -73,6 +73,7 @@ def various():
             View(b"b", b"WHERE(pave,  surf = 'AC' OR NOT (surf IS NULL))"),
             View(b"c", b"WINDOW(TRANSFORM(crash, re), B FROM @K0 TO 100%)"),
             View(b"d", b"OVERLAY(DISSOLVE(crash, (num)), RENAME(pave, surf TO s2))"),
+            View(b"e", b"WINDOW(GAPS(b), A)"),
         ],
         alignments=[
             Alignment(b"re", [(0, 0, 1_000, 0, 5_000), (0, 500, 503, 1, 1_000), (5, 0, 999_999_999, 5, 0)]),
@@ -379,7 +380,8 @@ WRONG = {
     "a view with an open quote": add_views(b"WHERE(pave, surf = 'AC)"),
     "a view of two queries": add_views(b"pave pave"),
     "a view of a command": add_views(b"SELECT pave"),
-    "a view of an operator to come": add_views(b"GAPS(pave)"),
+    "a view of gaps of two operands": add_views(b"GAPS(pave, pave)"),
+    "a view of gaps of points": add_views(b"GAPS(crash)"),
     "a view of 33 brackets": add_views(b"WHERE(pave, %bsurf = 'AC'%b)" % (b"(" * 32, b")" * 32)),
     "a view of a measure too long": add_views(b"WINDOW(pave, A FROM 0.0001 TO 1)"),
     "a view of a number too great": add_views(b"WHERE(crash, num = 1000000000001)"),

@@ -8,7 +8,7 @@ from collections.abc import Iterable, Sequence
 from .lines import METHODS, RESERVED
 from .schema import Schema
 
-OPERATORS = ("WHERE", "DISSOLVE", "RENAME", "OVERLAY", "COVER", "MERGE", "MINUS", "WINDOW", "TRANSFORM")
+OPERATORS = ("WHERE", "DISSOLVE", "RENAME", "OVERLAY", "COVER", "MERGE", "MINUS", "WINDOW", "TRANSFORM", "GAPS")
 DELIMITERS = " \t(),=<>+-;'%"
 
 
@@ -37,7 +37,7 @@ def language_words(before: Sequence[str]) -> list[str]:
     if not before:
         firsts = "DEFINE DROP MOVE INSERT REMOVE TRANSLATE SELECT TOTAL EXPLAIN OPEN FETCH CLOSE SAVE REOPEN"
         return [word + " " for word in firsts.split()]
-    return [word + "(" if word in OPERATORS else word + " " for word in sorted(RESERVED - {"GAPS"})]
+    return [word + "(" if word in OPERATORS else word + " " for word in sorted(RESERVED)]
 
 
 def matching(word: str, candidates: Iterable[str]) -> list[str]:

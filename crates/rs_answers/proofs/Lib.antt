@@ -2,6 +2,7 @@ mod States
 mod QueryRuns
 mod Counting
 mod CanPlan
+mod RouteEnds
 mod PlannedRows
 mod LineTexts
 pub mod NamedRoutes

@@ -28,7 +28,7 @@ use Rattle.rs_catalog.specs.Definitions as catalog
 use Rattle.rs_catalog.specs.Names.{map_values}
 use Rattle.rs_catalog.specs.Referents.{HeldReferents, referents_on}
 use Rattle.rs_catalog.proofs.Names.{get-map_values}
-use Rattle.rs_catalog.proofs.StateLaws.{get-tables_from}
+use Rattle.rs_catalog.proofs.StateLaws.{get-routes_of, get-tables_from}
 use Rattle.rs_catalog_laws.proofs.Numbers.{false_true}
 use Rattle.rs_catalog_laws.proofs.States.{no_facts_of}
 use Rattle.rs_checker.specs.declared.checked.Checked.{Checked}
@@ -42,12 +42,13 @@ use Rattle.rs_plan.specs.declared.counts.Index.{Index}
 use Rattle.rs_plan.specs.declared.plan.Plan.{Plan}
 use Rattle.rs_exec.specs.Snapshot.{Snapshot}
 use Rattle.rs_exec.specs.Meaning.{rows_in, kind_in, is_well_formed}
-use Rattle.rs_exec.specs.Agreement.{IsNumberedTable, AgreesOn, AreDistinct, PlansAreTheSame}
+use Rattle.rs_exec.specs.Agreement.{IsNumberedTable, AgreesOn, AreDistinct, HasItsEnds, PlansAreTheSame}
 use Rattle.rs_answers.specs.Counts.{HasIndexes, AreCounted}
 use Rattle.rs_answers.specs.Plans.{CanBePlanned, HasRowsOfQuery, IsPlanFor}
 use Rattle.rs_answers.specs.Present.{IsDefinedBy, by_number, IsPresent}
+use Rattle.rs_answers.proofs.RouteEnds.{ends_by, ends-there}
 use Rattle.rs_answers.proofs.Counting.{IsBasisOf, all-counted}
-use Rattle.rs_answers.proofs.States.{mapped-some, indexes-are, world-is, table-at}
+use Rattle.rs_answers.proofs.States.{mapped-some, indexes-are, world-is, route-at, table-at}
 
 -- ---- the numbers of routes
 
@@ -70,9 +71,11 @@ module _ (definitions : Definitions) (are : AreDefinitions definitions) where
 
 -- ---- a world and a snapshot that have the same tables
 
--- each table of the definitions has in the world the rows that it has, by its number, in the snapshot; the query is well formed there
+-- each table of the definitions has in the world the rows that it has, by its number, in the snapshot, and so each route its ends; the
+-- query is well formed there
 pub record IsSeenIn (definitions : Definitions) (are : AreDefinitions definitions) (query : Query) (world : World) (snapshot : Snapshot) : Type 0 where
   pub tables : (name : Name) (item : TableItem) → names.get definitions.tables name ≡ Some item → IsNumberedTable world snapshot (route_numbers definitions are) name (by_number item)
+  pub ends : HasItsEnds world snapshot (route_numbers definitions are)
   pub wide : RowsHaveTheirWidth world
   pub formed : IsWellFormed world query
   pub named : NamesItsColumns world query
@@ -150,7 +153,7 @@ module _ (mean : PlansMeanTheirQueries) (form : PlansAreWellFormed) (same : Plan
     plan-in : IsPlanIn world snapshot
     plan-in =
         let means = mean basis query is.wide is.formed is.named in
-        let alike = same world snapshot (route_numbers definitions are) plan (routes-distinct definitions are) plan-agrees in
+        let alike = same world snapshot (route_numbers definitions are) plan (routes-distinct definitions are) is.ends plan-agrees in
         record {
           formed = alike.formed (subst (IsWellFormedPlan world) (sym tree-is) (form basis query is.formed is.named));
           kind = alike.kind ∙ ap (plan_kind world) tree-is ∙ means.kind;
@@ -169,7 +172,7 @@ module _ (mean : PlansMeanTheirQueries) (form : PlansAreWellFormed) (same : Plan
   empty_world = world_from definitions no_spans
 
   abbrev empty_snapshot : Snapshot
-  empty_snapshot = record { rows = λ table route k. none }
+  empty_snapshot = record { rows = λ table route k. none; ends = ends_by (names.entries definitions.routes) }
 
   no-facts : facts_from definitions.routes (λ route. []) ≡ no_facts
   no-facts = no_facts_of definitions.routes (λ route. []) (λ route. refl)
@@ -183,6 +186,14 @@ module _ (mean : PlansMeanTheirQueries) (form : PlansAreWellFormed) (same : Plan
       let held = ap (λ (t : Table). contains (t.facts route k) row) found.2 ∙ holding in
       false_true (sym (contains-none row) ∙ ap (λ rows. contains rows row) (sym (no-rows route k)) ∙ held)
 
+  ends-nowhere : HasItsEnds empty_world empty_snapshot (route_numbers definitions are)
+  ends-nowhere route number numbered =
+      let on = route-of definitions are route number numbered in
+      get-routes_of definitions route
+      ∙ ap (option_map (λ (item : RouteItem). item.ends)) on.1
+      ∙ sym (ends-there definitions.routes are.route_numbers route on.0 on.1)
+      ∙ ap (ends_by (names.entries definitions.routes)) on.2
+
   seen-nowhere : IsSeenIn definitions are query empty_world empty_snapshot
   seen-nowhere = record {
     tables = λ name item there. record {
@@ -192,6 +203,7 @@ module _ (mean : PlansMeanTheirQueries) (form : PlansAreWellFormed) (same : Plan
       width = refl;
       facts = λ route number numbered k. no-rows route k;
     };
+    ends = ends-nowhere;
     wide = wide-nowhere;
     formed = can.well_formed no_spans;
     named = can.named no_spans;
@@ -230,6 +242,11 @@ module _ (mean : PlansMeanTheirQueries) (form : PlansAreWellFormed) (same : Plan
         ∙ sym (present.rows.rows name item there route on.0 on.1 k)
         ∙ ap (λ (n : ℕ). snapshot.rows (by_number item) n k) on.2
 
+    ends-present : HasItsEnds (world_of state) snapshot (route_numbers definitions are)
+    ends-present route number numbered =
+        let on = route-of definitions are route number numbered in
+        route-at definitions (referents_on referents) state is route on.0 on.1 ∙ sym (present.ends route on.0 on.1) ∙ ap snapshot.ends on.2
+
     seen-there : IsSeenIn definitions are query (world_of state) snapshot
     seen-there = record {
       tables = λ name item there. record {
@@ -239,6 +256,7 @@ module _ (mean : PlansMeanTheirQueries) (form : PlansAreWellFormed) (same : Plan
         width = refl;
         facts = facts-there name item there;
       };
+      ends = ends-present;
       wide = rows-wide state present.lawful;
       formed = subst (λ (w : World). IsWellFormed w query) (sym (world-is definitions (referents_on referents) state is)) (can.well_formed is.spans);
       named = subst (λ (w : World). NamesItsColumns w query) (sym (world-is definitions (referents_on referents) state is)) (can.named is.spans);

@@ -1,4 +1,4 @@
--- A state as it is known by numbers: the definitions, the referents, and the rows of a snapshot.
+-- A state as it is known by numbers: the definitions, the referents, and the rows and the ends of a snapshot.
 use Rattle.std.specs.Prelude.{◌≡◌, ℕ, List, length, Some}
 use Rattle.std.specs.FinMap as names
 use Rattle.rs_facts.specs.Fact.{Name, Names}
@@ -25,8 +25,13 @@ pub record HasRowsOf (definitions : Definitions) (state : State) (snapshot : Sna
       → (route : Name) (on : RouteItem) → names.get definitions.routes route ≡ Some on
       → (k : ℕ) → snapshot.rows (by_number table) on.number k ≡ facts_of (names.get state.tables name) route k
 
--- A lawful state that has these definitions, these referents, and the rows of the snapshot.
+-- each route has its ends, by its number
+abbrev pub HasEndsOf : Definitions → Snapshot → Type 0
+HasEndsOf definitions snapshot = (route : Name) (on : RouteItem) → names.get definitions.routes route ≡ Some on → snapshot.ends on.number ≡ Some on.ends
+
+-- A lawful state that has these definitions, these referents, and the rows and the ends of the snapshot.
 pub record IsPresent (definitions : Definitions) (referents : Numbered HeldReferents) (state : State) (snapshot : Snapshot) : Type 0 where
   pub defined : IsDefinedBy definitions (referents_on referents) state
   pub rows : HasRowsOf definitions state snapshot
+  pub ends : HasEndsOf definitions snapshot
   pub lawful : IsLawful state

@@ -13,7 +13,7 @@ use Rattle.rs_methods.specs.Position.{expression_at, expression_text}
 use Rattle.rs_methods.specs.declared.position.Method.{Method}
 use Rattle.rs_plan.specs.declared.plan.Plan.{Plan}
 
--- its routes by name, the referents of each route by the route's number, and the rows of its tables
+-- its routes by name, the referents of each route by the route's number, and the rows of its tables with the ends of routes by number
 pub record SeenVersion : Type 0 where
   pub routes : Names RouteItem
   pub referents : ℕ → Names ℕ

@@ -90,7 +90,8 @@ pub fn names_query(query: &Query, name: &Name) -> bool
         | Query::Dissolve(query, _)
         | Query::Rename(query, _, _)
         | Query::Window(query, _)
-        | Query::Transform(query, _) => names_query(query, name),
+        | Query::Transform(query, _)
+        | Query::Gaps(query) => names_query(query, name),
         Query::Overlay(left, right)
         | Query::Cover(left, right)
         | Query::Merge(left, right)
@@ -107,7 +108,8 @@ pub fn names_alignment(query: &Query, name: &Name) -> bool
         Query::Where(query, _)
         | Query::Dissolve(query, _)
         | Query::Rename(query, _, _)
-        | Query::Window(query, _) => names_alignment(query, name),
+        | Query::Window(query, _)
+        | Query::Gaps(query) => names_alignment(query, name),
         Query::Overlay(left, right)
         | Query::Cover(left, right)
         | Query::Merge(left, right)
@@ -145,7 +147,8 @@ fn names_route(query: &Query, route: &Name) -> bool
         Query::Where(query, _)
         | Query::Dissolve(query, _)
         | Query::Rename(query, _, _)
-        | Query::Transform(query, _) => names_route(query, route),
+        | Query::Transform(query, _)
+        | Query::Gaps(query) => names_route(query, route),
         Query::Overlay(left, right)
         | Query::Cover(left, right)
         | Query::Merge(left, right)
@@ -163,7 +166,8 @@ fn names_referent(query: &Query, route: &Name, name: &Name) -> bool
         Query::Where(query, _)
         | Query::Dissolve(query, _)
         | Query::Rename(query, _, _)
-        | Query::Transform(query, _) => names_referent(query, route, name),
+        | Query::Transform(query, _)
+        | Query::Gaps(query) => names_referent(query, route, name),
         Query::Overlay(left, right)
         | Query::Cover(left, right)
         | Query::Merge(left, right)

@@ -24,7 +24,7 @@ use Rattle.rs_checker.specs.declared.node.BinaryOperator.{BinaryOperator}
 use Rattle.rs_checker.specs.declared.node.BinaryOperator.TheVariants as binary
 use Rattle.rs_checker.specs.CheckedView.{query_of}
 use Rattle.rs_checker.specs.NodeView.{unary_tree, binary_tree}
-use Rattle.rs_checker.specs.Steps.{IsStep, Stands, seen_columns, filter_step, dissolve_step, rename_step, overlay_step, cover_step, merge_step, minus_step, binary_step}
+use Rattle.rs_checker.specs.Steps.{IsStep, Stands, seen_columns, filter_step, dissolve_step, rename_step, gaps_step, overlay_step, cover_step, merge_step, minus_step, binary_step}
 use Rattle.rs_checker.specs.Nodes.{names_there, located_window, unary_step, StandsAmong, AreNodes, AreRefused}
 
 -- ---- names
@@ -84,6 +84,7 @@ module _ (definitions : Definitions) (on : ℕ → Names ℕ) where
   asks_one state (unary.Rename from to) query = machine.rename_checked state query from.now.bytes to.now.bytes
   asks_one state (unary.Window window) query = machine.window_checked state (window_tree window.now) >>= (λ located. Ok (window_rows query located))
   asks_one state (unary.Transform name) query = alignment_named state name.now.bytes >>= (λ pieces. Ok (transform_rows query name.now.bytes pieces))
+  asks_one state unary.Gaps query = machine.gaps_checked state query
 
   one_checked : (state : State) (operator : UnaryOperator) (a : QueryTree) → nodes_checked state (unary_tree operator a) ≡ (nodes_checked state a >>= asks_one state operator)
   one_checked state (unary.Where condition) a = refl
@@ -91,14 +92,16 @@ module _ (definitions : Definitions) (on : ℕ → Names ℕ) where
   one_checked state (unary.Rename from to) a = refl
   one_checked state (unary.Window window) a = refl
   one_checked state (unary.Transform name) a = refl
+  one_checked state unary.Gaps a = refl
 
   one_asked : (spans_on : ℕ → ℕ → List Stretch) (rest : Rest) (operator : UnaryOperator) (operand : Checked) → Stands (world_of (state_from definitions on spans_on rest)) operand
-      → asks_one (state_from definitions on spans_on rest) operator (query_of operand.query) ≡ unary_step definitions on operator (seen_columns operand) (query_of operand.query)
+      → asks_one (state_from definitions on spans_on rest) operator (query_of operand.query) ≡ unary_step definitions on operator operand.kind (seen_columns operand) (query_of operand.query)
   one_asked s c (unary.Where condition) operand h = ap (λ columns. filter_step columns (query_of operand.query) (condition_tree condition.now)) (sym h.columns)
   one_asked s c (unary.Dissolve names) operand h = ap (λ columns. dissolve_step columns (query_of operand.query) (map (λ name. name.bytes) names.now)) (sym h.columns)
   one_asked s c (unary.Rename from to) operand h = ap (λ columns. rename_step columns (query_of operand.query) from.now.bytes to.now.bytes) (sym h.columns)
   one_asked s c (unary.Window window) operand h = ap (λ r. r >>= (λ located. Ok (window_rows (query_of operand.query) located))) (window_same definitions on s c (window_tree window.now))
   one_asked s c (unary.Transform name) operand h = refl
+  one_asked s c unary.Gaps operand h = ap (λ kind. gaps_step kind (query_of operand.query)) (sym h.kind)
 
   module _ (node a : QueryTree) (operator : UnaryOperator) (is : node ≡ unary_tree operator a) where
     pub unary_inside : (refusal : Refusal) → AreRefused definitions on a refusal → AreRefused definitions on node refusal
@@ -110,7 +113,7 @@ module _ (definitions : Definitions) (on : ℕ → Names ℕ) where
 
     module _ (operand : Checked) (at : AreNodes definitions on a operand) where
       abbrev expected : Result Query Refusal
-      expected = unary_step definitions on operator (seen_columns operand) (query_of operand.query)
+      expected = unary_step definitions on operator operand.kind (seen_columns operand) (query_of operand.query)
 
       asked : (spans_on : ℕ → ℕ → List Stretch) (rest : Rest) → nodes_checked (state_from definitions on spans_on rest) node ≡ expected
       asked s c =

@@ -18,7 +18,7 @@ use Rattle.rs_checker.specs.declared.checked.LocatedWindow.{LocatedWindow}
 use Rattle.rs_checker.specs.declared.checked.LocatedPiece.{LocatedPiece}
 use Rattle.rs_checker.specs.declared.checked.CheckedQuery as code
 use Rattle.rs_checker.specs.declared.checked.CheckedQuery.{fold-roll-CheckedQuery}
-use Rattle.rs_checker.specs.declared.checked.CheckedQuery.TheVariants.{rolls-Table, rolls-Where, rolls-Dissolve, rolls-Rename, rolls-Overlay, rolls-Cover, rolls-Merge, rolls-Minus, rolls-Window, rolls-Transform}
+use Rattle.rs_checker.specs.declared.checked.CheckedQuery.TheVariants.{rolls-Table, rolls-Where, rolls-Dissolve, rolls-Rename, rolls-Overlay, rolls-Cover, rolls-Merge, rolls-Minus, rolls-Window, rolls-Transform, rolls-Gaps}
 use Rattle.rs_checker.specs.declared.checked.CheckedQuery.TheOpen.{CheckedQuery-F}
 use Rattle.rs_checker.specs.declared.operand.CheckedOperand.{CheckedOperand}
 use Rattle.rs_checker.specs.CheckedView.{located_piece, located_pieces, named_step, named_in, named_table, named_by_window, named_by_piece}
@@ -43,6 +43,9 @@ module _ (operand : CheckedOperand) where
 
   pub rename-names : (place : ℕ) (name : ArrayString) → named_in (code.Rename operand.query place name) ≡ named_in operand.query.value
   rename-names place name = ap named_in (sym (rolls-Rename operand.query place name)) ∙ fold-roll-CheckedQuery (List Numbered) named_step (CheckedQuery-F.Rename operand.query place name)
+
+  pub gaps-names : named_in (code.Gaps operand.query) ≡ named_in operand.query.value
+  gaps-names = ap named_in (sym (rolls-Gaps operand.query)) ∙ fold-roll-CheckedQuery (List Numbered) named_step (CheckedQuery-F.Gaps operand.query)
 
   window-names : (window : LocatedWindow) → named_in (code.Window operand.query window) ≡ named_in operand.query.value ++ named_by_window window ∷ []
   window-names window = ap named_in (sym (rolls-Window operand.query window)) ∙ fold-roll-CheckedQuery (List Numbered) named_step (CheckedQuery-F.Window operand.query window)

@@ -24,6 +24,7 @@ names_unary (unary.Dissolve columns) a = refl
 names_unary (unary.Rename from to) a = refl
 names_unary (unary.Window window) a = refl
 names_unary (unary.Transform name) a = refl
+names_unary unary.Gaps a = refl
 
 pub names_binary : (operator : BinaryOperator) (a b : QueryTree) → names_in (binary_tree operator a b) ≡ names_in a ++ names_in b
 names_binary binary.Overlay a b = refl
@@ -43,6 +44,7 @@ nodes_unary (unary.Dissolve columns) a = refl
 nodes_unary (unary.Rename from to) a = refl
 nodes_unary (unary.Window window) a = refl
 nodes_unary (unary.Transform name) a = refl
+nodes_unary unary.Gaps a = refl
 
 pub nodes_binary : (operator : BinaryOperator) (a b : QueryTree) → nodes (binary_tree operator a b) ≡ nodes a + nodes b + 1
 nodes_binary binary.Overlay a b = refl
@@ -56,6 +58,7 @@ depth_unary (unary.Dissolve columns) a = refl
 depth_unary (unary.Rename from to) a = refl
 depth_unary (unary.Window window) a = refl
 depth_unary (unary.Transform name) a = refl
+depth_unary unary.Gaps a = refl
 
 pub depth_binary : (operator : BinaryOperator) (a b : QueryTree) → depth (binary_tree operator a b) ≡ max (depth a) (depth b) + 1
 depth_binary binary.Overlay a b = refl
@@ -72,6 +75,7 @@ opened_unary (suc n) views (unary.Dissolve columns) a = opened_unary n views (un
 opened_unary (suc n) views (unary.Rename from to) a = opened_unary n views (unary.Rename from to) (opened_once views a)
 opened_unary (suc n) views (unary.Window window) a = opened_unary n views (unary.Window window) (opened_once views a)
 opened_unary (suc n) views (unary.Transform name) a = opened_unary n views (unary.Transform name) (opened_once views a)
+opened_unary (suc n) views unary.Gaps a = opened_unary n views unary.Gaps (opened_once views a)
 
 pub opened_binary : (n : ℕ) (views : Names QueryTree) (operator : BinaryOperator) (a b : QueryTree) → opened_times n views (binary_tree operator a b) ≡ binary_tree operator (opened_times n views a) (opened_times n views b)
 opened_binary zero views operator a b = refl

@@ -2,7 +2,7 @@
 use Rattle.std.proofs.Common.{◌≡◌, ℕ, ◌+◌, ◌-◌, ◌<◌, ◌⊎◌, inl, inr, Some, None, arith}
 use Rattle.std.specs.Prelude.{is_some, nat_le, true, false, ◌&&◌, if◌then◌else◌, refl}
 use Rattle.std.proofs.lemmas.Bool.Decides.{nat_tests}
-use Rattle.rs_syntax.specs.Tree.{QueryTree, named, filtered, dissolved, renamed, overlaid, covered, merged, subtracted, windowed, transformed}
+use Rattle.rs_syntax.specs.Tree.{QueryTree, named, filtered, dissolved, renamed, overlaid, covered, merged, subtracted, windowed, transformed, gapped}
 use Rattle.rs_machine.specs.Opening.{nodes, depth}
 use Rattle.rs_checker.specs.Sizes.{left_after}
 
@@ -17,6 +17,7 @@ some_nodes (merged a b) = omega arith
 some_nodes (subtracted a b) = omega arith
 some_nodes (windowed a x) = omega arith
 some_nodes (transformed a x) = omega arith
+some_nodes (gapped a) = omega arith
 
 pub some_depth : (tree : QueryTree) → 0 < depth tree
 some_depth (named name) = omega arith
@@ -29,6 +30,7 @@ some_depth (merged a b) = omega arith
 some_depth (subtracted a b) = omega arith
 some_depth (windowed a x) = omega arith
 some_depth (transformed a x) = omega arith
+some_depth (gapped a) = omega arith
 
 -- one node more, one level deeper
 pub one_more : (n d size deep more deeper : ℕ) → (n ≡ 0 → ⊥) → (d ≡ 0 → ⊥) → more ≡ size + 1 → deeper ≡ deep + 1 → left_after (n - 1) (d - 1) size deep ≡ left_after n d more deeper

@@ -11,7 +11,7 @@ use Rattle.rs_value.specs.declared.column.TheConstants.{COLUMNS}
 use Rattle.rs_facts.specs.ConditionView.{condition_of}
 use Rattle.rs_facts.specs.declared.condition.Condition.{Condition}
 use Rattle.rs_facts.specs.Fact.{Name}
-use Rattle.rs_facts.specs.Query.{Column, World, Query, Window, where_rows, dissolve_rows, rename_column, overlay_rows, cover_rows, merge_rows, minus_rows, window_rows, column_at, renamed_at, overlaid_kind, kind_of, columns_of}
+use Rattle.rs_facts.specs.Query.{Column, World, Query, Window, where_rows, dissolve_rows, rename_column, overlay_rows, cover_rows, merge_rows, minus_rows, window_rows, gaps_rows, column_at, renamed_at, overlaid_kind, kind_of, columns_of}
 use Rattle.rs_facts.specs.WellFormed.{IsWellFormed, width_of}
 use Rattle.rs_syntax.specs.Tree.{ConditionTree}
 use Rattle.rs_syntax.specs.declared.commands.ColumnDefinition.{ColumnDefinition}
@@ -20,12 +20,12 @@ use Rattle.rs_machine.specs.Checks.{◌>>=◌, unless, some_name_twice}
 use Rattle.rs_machine.specs.Checking.{condition_checked, column_place, column_places, may_stand_together, same_columns}
 use Rattle.rs_checker.specs.declared.checked.LocatedWindow.{LocatedWindow}
 use Rattle.rs_checker.specs.declared.checked.CheckedQuery as code
-use Rattle.rs_checker.specs.declared.checked.CheckedQuery.{Where, Dissolve, Rename, Overlay, Cover, Merge, Minus, fold-roll-CheckedQuery}
-use Rattle.rs_checker.specs.declared.checked.CheckedQuery.TheVariants.{rolls-Where, rolls-Dissolve, rolls-Rename, rolls-Overlay, rolls-Cover, rolls-Merge, rolls-Minus, rolls-Window}
+use Rattle.rs_checker.specs.declared.checked.CheckedQuery.{Where, Dissolve, Rename, Overlay, Cover, Merge, Minus, Gaps, fold-roll-CheckedQuery}
+use Rattle.rs_checker.specs.declared.checked.CheckedQuery.TheVariants.{rolls-Where, rolls-Dissolve, rolls-Rename, rolls-Overlay, rolls-Cover, rolls-Merge, rolls-Minus, rolls-Window, rolls-Gaps}
 use Rattle.rs_checker.specs.declared.checked.CheckedQuery.TheOpen.{CheckedQuery-F}
 use Rattle.rs_checker.specs.declared.operand.CheckedOperand.{CheckedOperand}
 use Rattle.rs_checker.specs.CheckedView.{window_of, query_of, query_step}
-use Rattle.rs_checker.specs.Steps.{IsStep, Stands, checked_of, seen_columns, kinds_agree, may_cover, alike, may_rename, filter_step, dissolve_step, rename_step, overlay_step, cover_step, merge_step, minus_step}
+use Rattle.rs_checker.specs.Steps.{IsStep, Stands, checked_of, seen_columns, kinds_agree, may_cover, alike, are_lines, may_rename, filter_step, dissolve_step, rename_step, overlay_step, cover_step, merge_step, minus_step, gaps_step}
 
 -- a test that passed
 pub passed : {A : Type 0} (test : Bool) (refusal : Refusal) (next : Result A Refusal) (made : A) → (unless test refusal >>= (λ _. next)) ≡ Ok made → (test ≡ true) × (next ≡ Ok made)
@@ -118,6 +118,20 @@ window_made operand window found lies =
         well_formed = subst (IsWellFormed world) (sym is) h.well_formed;
         kind = h.kind ∙ ap (kind_of world) (sym is);
         columns = h.columns ∙ ap (columns_of world) (sym is);
+      };
+    }
+
+pub gaps_made : (operand : CheckedOperand) (columns : ArrayVec ColumnDefinition) → columns.items ≡ [] → are_lines operand.kind ≡ Ok tt
+    → IsStep (gaps_step operand.kind (query_of operand.query.value)) (λ world. Stands world (checked_of operand)) (record { query = Gaps operand.query; kind = Line; columns = columns })
+gaps_made operand columns none passes =
+    let is : query_of (Gaps operand.query) ≡ gaps_rows (query_of operand.query.value) =
+    ap query_of (sym (rolls-Gaps operand.query)) ∙ fold-roll-CheckedQuery Query query_step (CheckedQuery-F.Gaps operand.query) in
+    record {
+      query = ap (λ r. r >>= (λ _. Ok (gaps_rows (query_of operand.query.value)))) passes ∙ ap Ok (sym is);
+      stands = λ world h. record {
+        well_formed = subst (IsWellFormed world) (sym is) h.well_formed;
+        kind = ap (kind_of world) (sym is);
+        columns = ap (map column_tree) none ∙ ap (columns_of world) (sym is);
       };
     }
 

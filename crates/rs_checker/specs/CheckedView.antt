@@ -34,6 +34,7 @@ query_step (CheckedQuery-F.Merge left right) = queries.merge_rows left.value rig
 query_step (CheckedQuery-F.Minus left right) = queries.minus_rows left.value right.value
 query_step (CheckedQuery-F.Window query window) = queries.window_rows query.value (window_of window)
 query_step (CheckedQuery-F.Transform query name pieces) = queries.transform_rows query.value name.bytes (located_pieces pieces.items)
+query_step (CheckedQuery-F.Gaps query) = queries.gaps_rows query.value
 
 abbrev pub query_of : CheckedQuery → queries.Query
 query_of = fold-CheckedQuery queries.Query query_step
@@ -62,6 +63,7 @@ named_step (CheckedQuery-F.Merge left right) = left.value ++ right.value
 named_step (CheckedQuery-F.Minus left right) = left.value ++ right.value
 named_step (CheckedQuery-F.Window query window) = query.value ++ named_by_window window ∷ []
 named_step (CheckedQuery-F.Transform query name pieces) = query.value ++ flat_map named_by_piece pieces.items
+named_step (CheckedQuery-F.Gaps query) = query.value
 
 -- the tables and routes that the query names
 abbrev pub named_in : CheckedQuery → List Numbered

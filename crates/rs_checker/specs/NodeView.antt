@@ -1,7 +1,7 @@
 -- A query by its topmost node.
 use Rattle.std.specs.Prelude.{map}
 use Rattle.rs_syntax.specs.QueryView.{condition_tree, window_tree, query_tree}
-use Rattle.rs_syntax.specs.Tree.{QueryTree, named, filtered, dissolved, renamed, overlaid, covered, merged, subtracted, windowed, transformed}
+use Rattle.rs_syntax.specs.Tree.{QueryTree, named, filtered, dissolved, renamed, overlaid, covered, merged, subtracted, windowed, transformed, gapped}
 use Rattle.rs_checker.specs.declared.node.UnaryOperator.{UnaryOperator}
 use Rattle.rs_checker.specs.declared.node.UnaryOperator.TheVariants as unary
 use Rattle.rs_checker.specs.declared.node.BinaryOperator.{BinaryOperator}
@@ -15,6 +15,7 @@ unary_tree (unary.Dissolve names) operand = dissolved operand (map (λ name. nam
 unary_tree (unary.Rename from to) operand = renamed operand from.now.bytes to.now.bytes
 unary_tree (unary.Window window) operand = windowed operand (window_tree window.now)
 unary_tree (unary.Transform name) operand = transformed operand name.now.bytes
+unary_tree unary.Gaps operand = gapped operand
 
 abbrev pub binary_tree : BinaryOperator → QueryTree → QueryTree → QueryTree
 binary_tree binary.Overlay left right = overlaid left right

@@ -4,6 +4,7 @@ use Rattle.std.specs.FinMap as names
 use Rattle.rs_refusal.specs.declared.refusal.Refusal.{Refusal}
 use Rattle.rs_refusal.specs.declared.refusal.Refusal.TheVariants.{NoSuchRoute, NoSuchName, EmptySpan}
 use Rattle.rs_methods.specs.Position.{located}
+use Rattle.rs_value.specs.declared.column.Kind.{Kind}
 use Rattle.rs_facts.specs.Fact.{Name, Names}
 use Rattle.rs_facts.specs.Query.{Column, World, Window, on_route, between, Query, window_rows, transform_rows}
 use Rattle.rs_facts.specs.Runs.{Stretch}
@@ -16,7 +17,7 @@ use Rattle.rs_catalog.specs.Definitions.{Definitions, routes_of, state_from, Res
 use Rattle.rs_checker.specs.declared.checked.Checked.{Checked}
 use Rattle.rs_checker.specs.declared.node.UnaryOperator.{UnaryOperator}
 use Rattle.rs_checker.specs.declared.node.UnaryOperator.TheVariants as unary
-use Rattle.rs_checker.specs.Steps.{IsNode, Stands, filter_step, dissolve_step, rename_step}
+use Rattle.rs_checker.specs.Steps.{IsNode, Stands, filter_step, dissolve_step, rename_step, gaps_step}
 
 -- each is the name of a table or a view
 abbrev pub names_there : Definitions → List Name → Result (Unit {0}) Refusal
@@ -59,13 +60,14 @@ pub record StandsAmong (definitions : Definitions) (world : World) (checked : Ch
   pub routes : world.routes ≡ routes_of definitions
   pub stands : Stands world checked
 
--- any operator over one operand of these columns
-abbrev pub unary_step : Definitions → (ℕ → Names ℕ) → UnaryOperator → List Column → Query → Result Query Refusal
-unary_step definitions on (unary.Where condition) columns query = filter_step columns query (condition_tree condition.now)
-unary_step definitions on (unary.Dissolve names) columns query = dissolve_step columns query (map (λ name. name.bytes) names.now)
-unary_step definitions on (unary.Rename from to) columns query = rename_step columns query from.now.bytes to.now.bytes
-unary_step definitions on (unary.Window window) columns query = window_step definitions on query (window_tree window.now)
-unary_step definitions on (unary.Transform name) columns query = transform_step definitions query name.now.bytes
+-- any operator over one operand of this kind and these columns
+abbrev pub unary_step : Definitions → (ℕ → Names ℕ) → UnaryOperator → Kind → List Column → Query → Result Query Refusal
+unary_step definitions on (unary.Where condition) kind columns query = filter_step columns query (condition_tree condition.now)
+unary_step definitions on (unary.Dissolve names) kind columns query = dissolve_step columns query (map (λ name. name.bytes) names.now)
+unary_step definitions on (unary.Rename from to) kind columns query = rename_step columns query from.now.bytes to.now.bytes
+unary_step definitions on (unary.Window window) kind columns query = window_step definitions on query (window_tree window.now)
+unary_step definitions on (unary.Transform name) kind columns query = transform_step definitions query name.now.bytes
+unary_step definitions on unary.Gaps kind columns query = gaps_step kind query
 
 -- in every such state it is what the machine makes of the query, its views opened
 pub record AreNodes (definitions : Definitions) (on : ℕ → Names ℕ) (query : QueryTree) (made : Checked) : Type 0 where

@@ -2,11 +2,12 @@
 use Rattle.std.specs.Prelude.{◌≡◌, Bool, not, ◌||◌, List, length, map, Result, Ok}
 use Rattle.std.specs.List.{list_any}
 use Rattle.rs_refusal.specs.declared.refusal.Refusal.{Refusal}
-use Rattle.rs_refusal.specs.declared.refusal.Refusal.TheVariants.{ColumnsDiffer, ColumnTwice, KindsDiffer}
+use Rattle.rs_refusal.specs.declared.refusal.Refusal.TheVariants.{PointOrLineWanted, ColumnsDiffer, ColumnTwice, KindsDiffer}
 use Rattle.rs_value.specs.declared.column.Kind.{Kind}
+use Rattle.rs_value.specs.declared.column.Kind.TheVariants as kinds
 use Rattle.rs_facts.specs.Fact.{Name}
 use Rattle.rs_facts.specs.Insert.{same_name}
-use Rattle.rs_facts.specs.Query.{Column, World, Query, where_rows, dissolve_rows, rename_column, overlay_rows, cover_rows, merge_rows, minus_rows, kind_of, columns_of}
+use Rattle.rs_facts.specs.Query.{Column, World, Query, where_rows, dissolve_rows, rename_column, overlay_rows, cover_rows, merge_rows, minus_rows, gaps_rows, kind_of, columns_of}
 use Rattle.rs_facts.specs.WellFormed.{IsWellFormed}
 use Rattle.rs_syntax.specs.Tree.{ConditionTree, QueryTree}
 use Rattle.rs_syntax.specs.View.{column_tree}
@@ -96,6 +97,14 @@ abbrev pub minus_step : Kind → Kind → List Column → List Column → Query 
 minus_step one other left right a b = do
   _ ← alike one other left right
   Ok (minus_rows a b)
+
+abbrev pub are_lines : Kind → Result (Unit {0}) Refusal
+are_lines kind = unless (same_kind kind kinds.Line) PointOrLineWanted
+
+abbrev pub gaps_step : Kind → Query → Result Query Refusal
+gaps_step kind query = do
+  _ ← are_lines kind
+  Ok (gaps_rows query)
 
 -- ---- any operator over two operands
 

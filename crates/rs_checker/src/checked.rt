@@ -76,6 +76,8 @@ pub enum CheckedQuery {
     Window(Box<CheckedQuery>, LocatedWindow),
     /// The rows carried by the pieces of the alignment of this name.
     Transform(Box<CheckedQuery>, Name, Vec<LocatedPiece>),
+    /// The row without columns wherever, between the ends of a route, there is no row.
+    Gaps(Box<CheckedQuery>),
 }
 
 /// The columns of a query, from the left.

@@ -23,7 +23,7 @@ use crate::checked::{Checked, CheckedQuery, CheckedTable, Columns};
 use crate::columns::joined;
 use crate::node::{BinaryOperator, Node, UnaryOperator, top_node};
 use crate::operand::{CheckedOperand, boxed};
-use crate::operators::{cover, dissolve, filter, merge, minus, overlay, rename};
+use crate::operators::{cover, dissolve, filter, gaps, merge, minus, overlay, rename};
 use crate::size::fits_limits;
 use crate::views::opened_query;
 use crate::windows::window;
@@ -164,11 +164,11 @@ fn apply_unary(
     operator: UnaryOperator<'_>,
     operand: CheckedOperand,
 ) -> Result<Checked, Refusal>
-    ensures ok { IfOk result (λ made. IsStep (unary_step catalog.now (referents_on referents.now) operator.entry (seen_columns (checked_of operand)) (query_of operand.query.value))
+    ensures ok { IfOk result (λ made. IsStep (unary_step catalog.now (referents_on referents.now) operator.entry operand.kind (seen_columns (checked_of operand)) (query_of operand.query.value))
         (λ world. StandsAmong catalog.now world (checked_of operand)) made) }
     ensures numbers { IfOk result (λ made. AreNumberedIn catalog.now (named_in operand.query.value) → AreNumberedIn catalog.now (named_in made.query)) }
     ensures refused { IfErr result (λ refusal. (refusal ≡ Refusal.OutOfMemory)
-        ⊎ (unary_step catalog.now (referents_on referents.now) operator.entry (seen_columns (checked_of operand)) (query_of operand.query.value) ≡ Err refusal)) }
+        ⊎ (unary_step catalog.now (referents_on referents.now) operator.entry operand.kind (seen_columns (checked_of operand)) (query_of operand.query.value) ≡ Err refusal)) }
 {
     match operator {
         UnaryOperator::Where(condition) => filter(alloc, operand, condition),
@@ -176,6 +176,7 @@ fn apply_unary(
         UnaryOperator::Rename(from, to) => rename(operand, from, to),
         UnaryOperator::Window(part) => window(catalog, referents, operand, part),
         UnaryOperator::Transform(name) => transform(alloc, catalog, operand, name),
+        UnaryOperator::Gaps => gaps(operand),
     }
 }
 

@@ -19,6 +19,8 @@ pub enum UnaryOperator<'a> {
     Window(&'a Window),
     /// The rows carried by the pieces of the alignment of this name.
     Transform(&'a Name),
+    /// The row without columns where there is no row.
+    Gaps,
 }
 
 /// An operator over two operands.
@@ -62,6 +64,7 @@ pub fn top_node(query: &Query) -> Node<'_>
         Query::Rename(operand, from, to) => Node::Unary(UnaryOperator::Rename(from, to), operand),
         Query::Window(operand, window) => Node::Unary(UnaryOperator::Window(window), operand),
         Query::Transform(operand, name) => Node::Unary(UnaryOperator::Transform(name), operand),
+        Query::Gaps(operand) => Node::Unary(UnaryOperator::Gaps, operand),
         Query::Overlay(left, right) => Node::Binary(BinaryOperator::Overlay, left, right),
         Query::Cover(left, right) => Node::Binary(BinaryOperator::Cover, left, right),
         Query::Merge(left, right) => Node::Binary(BinaryOperator::Merge, left, right),

@@ -9,7 +9,7 @@ ghost use Rattle.rs_machine.specs.Checking.{may_stand_together, column_place, co
 ghost use Rattle.rs_checker.specs.CheckedView.{query_of, named_in};
 ghost use Rattle.rs_checker.specs.Inner.{AllBelow};
 ghost use Rattle.rs_checker.specs.Steps as steps;
-ghost use Rattle.rs_checker.specs.Steps.{IsStep, Stands, checked_of, seen_columns, may_rename, filter_step, dissolve_step, rename_step, overlay_step, cover_step, merge_step, minus_step};
+ghost use Rattle.rs_checker.specs.Steps.{IsStep, Stands, checked_of, seen_columns, may_rename, filter_step, dissolve_step, rename_step, overlay_step, cover_step, merge_step, minus_step, gaps_step};
 
 use crate::checked::{Checked, CheckedQuery, Columns};
 use crate::columns;
@@ -141,6 +141,21 @@ pub fn minus(left: CheckedOperand, right: CheckedOperand) -> Result<Checked, Ref
     })
 }
 
+/// GAPS: the row without columns wherever, between the ends of a route, there is no row. Points are refused 32.
+pub fn gaps(operand: CheckedOperand) -> Result<Checked, Refusal>
+    ensures ok { IfOk result (λ made. IsStep (gaps_step operand.kind (query_of operand.query.value))
+        (λ world. Stands world (checked_of operand)) made) }
+    ensures names { IfOk result (λ made. named_in made.query ≡ named_in operand.query.value) }
+    ensures refused { IfErr result (λ refusal. gaps_step operand.kind (query_of operand.query.value) ≡ Err refusal) }
+{
+    are_lines(operand.kind)?;
+    Ok(Checked {
+        query: CheckedQuery::Gaps(operand.query),
+        kind: Kind::Line,
+        columns: Columns::new(),
+    })
+}
+
 // The places of columns named once each (22, and then 41).
 fn places_apart(alloc: Global, columns: &Columns, names: &[Name]) -> Result<Vec<u8>, Refusal>
     ensures places { IfOk result (λ places. column_places (map column_tree columns.now.items) (map (λ name. name.bytes) names.now) ≡ Ok places.items) }
@@ -224,4 +239,14 @@ fn alike(left: &CheckedOperand, right: &CheckedOperand) -> Result<(), Refusal>
         return Err(Refusal::ColumnsDiffer);
     }
     kinds_agree(left.kind, right.kind)
+}
+
+// Lines, and not points.
+fn are_lines(kind: Kind) -> Result<(), Refusal>
+    ensures { result ≡ steps.are_lines kind }
+{
+    match kind {
+        Kind::Line => Ok(()),
+        Kind::Point => Err(Refusal::PointOrLineWanted),
+    }
 }

@@ -5,7 +5,7 @@ use Rattle.std.specs.Borrow.{Bor}
 use Rattle.rs_grammar.specs.declared.kind.TokenKind.{TokenKind}
 use Rattle.rs_grammar.specs.declared.kind.TokenKind.TheVariants as kinds
 use Rattle.rs_lexer.specs.declared.token.Token.{Token}
-use Rattle.rs_syntax.specs.Written.{Lexeme, mark, operator_lexemes, lexemes_of, QuerySyntax, query_lexemes}
+use Rattle.rs_syntax.specs.Written.{Lexeme, mark, operator_lexemes, lexemes_of, QuerySyntax, written_gaps, query_lexemes}
 use Rattle.rs_syntax.specs.declared.written.WrittenQuery.{WrittenQuery}
 use Rattle.rs_syntax.specs.WrittenView.{query_syntax}
 use Rattle.rs_descent.specs.declared.front.Stop.{Stop}
@@ -34,6 +34,17 @@ operator-closed kind tokens behind rest operand others query syntax (Ok found) f
     subst (λ q. mark kind ∷ lexemes_of tokens ≡ query_lexemes (query_syntax q) ++ lexemes_of found.1.now) (sym {A = WrittenQuery} same)
     (operator-spelled kind tokens behind rest found.1.now operand others query syntax first second last written spelled)
 operator-closed kind tokens behind rest operand others query syntax (Err stop) first second written spelled same last = tt
+
+-- GAPS and a query in brackets, where a function looks for the one that closes
+pub gaps-closed : (tokens inside rest : List Token) (operand : QuerySyntax) (query : WrittenQuery) (answer : Result (WrittenQuery × Bor (List Token)) Stop)
+    → lexemes_of tokens ≡ mark kinds.LeftParen ∷ lexemes_of inside → lexemes_of inside ≡ query_lexemes operand ++ lexemes_of rest → query_syntax query ≡ written_gaps operand
+    → IfOk answer (λ found. found.0 ≡ query) → IfOk answer (λ found. lexemes_of rest ≡ mark kinds.RightParen ∷ lexemes_of found.1.now)
+    → IfOk answer (λ found. mark kinds.Gaps ∷ lexemes_of tokens ≡ query_lexemes (query_syntax found.0) ++ lexemes_of found.1.now)
+gaps-closed tokens inside rest operand query (Ok found) first second written same last =
+    let closing = second ∙ ap (λ ps. query_lexemes operand ++ ps) last ∙ sym (append_assoc (query_lexemes operand) (mark kinds.RightParen ∷ []) (lexemes_of found.1.now)) in
+    ap (λ ps. mark kinds.Gaps ∷ ps) (first ∙ ap (λ ps. mark kinds.LeftParen ∷ ps) closing)
+    ∙ ap (λ q. query_lexemes q ++ lexemes_of found.1.now) (sym (ap query_syntax same ∙ written))
+gaps-closed tokens inside rest operand query (Err stop) first second written same last = tt
 
 -- a query in brackets, and the comma after it
 pub operand-spelled : (tokens inside behind end : List Token) (query : WrittenQuery) → lexemes_of tokens ≡ mark kinds.LeftParen ∷ lexemes_of inside

@@ -5,7 +5,7 @@
 
 ghost use Rattle.std.specs.Prelude.{◌≡◌, ◌<◌, ◌∷◌, ◌++◌, length, IfOk, MatchResult};
 ghost use Rattle.rs_grammar.specs.declared.kind.TokenKind.TheVariants as kinds;
-ghost use Rattle.rs_grammar.specs.Grammar.{query_form, operand_query_form, where_form, dissolve_form, rename_form, pair_form, window_query_form, transform_form};
+ghost use Rattle.rs_grammar.specs.Grammar.{query_form, operand_query_form, where_form, dissolve_form, rename_form, pair_form, window_query_form, transform_form, gaps_form};
 ghost use Rattle.rs_syntax.specs.Written.{mark, told, pair_kind, query_lexemes, lexemes_of};
 ghost use Rattle.rs_syntax.specs.WrittenView.{query_syntax};
 ghost use Rattle.rs_descent.specs.Reading.{RunsTo, Begins, renaming_form, closing_form};
@@ -157,6 +157,19 @@ fn transform_query(alloc: Global, tokens: &[Token]) -> Result<(WrittenQuery, &[T
     }
 }
 
+// after GAPS: "(" query ")"
+#[cycle(reading)]
+fn gaps_query(alloc: Global, tokens: &[Token]) -> Result<(WrittenQuery, &[Token]), Stop<'_>>
+    ensures runs { RunsTo gaps_form tokens.now result }
+    ensures spelled { IfOk result (λ found. mark kinds.Gaps ∷ lexemes_of tokens.now
+        ≡ query_lexemes (query_syntax found.0) ++ lexemes_of found.1.now) }
+    ensures shorter { IfOk result (λ found. length found.1.now < length tokens.now) }
+{
+    let rest = need_mark(tokens, TokenKind::LeftParen)?;
+    let (query, rest) = boxed_query(alloc, rest)?;
+    closed(WrittenQuery::Gaps(query), rest)
+}
+
 /// Reads the syntax of a query from the front, and returns the tokens after it.
 #[cycle(reading)]
 pub fn query(alloc: Global, tokens: &[Token]) -> Result<(WrittenQuery, &[Token]), Stop<'_>>
@@ -191,6 +204,9 @@ pub fn query(alloc: Global, tokens: &[Token]) -> Result<(WrittenQuery, &[Token])
     }
     if let Some(rest) = mark(tokens, TokenKind::Transform) {
         return transform_query(alloc, rest);
+    }
+    if let Some(rest) = mark(tokens, TokenKind::Gaps) {
+        return gaps_query(alloc, rest);
     }
     match text(tokens, TokenKind::Name) {
         Some((name, rest)) => Ok((WrittenQuery::Named(name), rest)),

@@ -8,10 +8,10 @@ use Rattle.rs_refusal.specs.declared.refusal.Refusal.{Refusal}
 use Rattle.rs_refusal.specs.declared.refusal.Refusal.TheVariants.{Limit, NoSuchName}
 use Rattle.rs_facts.specs.Fact.{Name, Names}
 use Rattle.rs_facts.specs.Query.{Query, merge_rows, minus_rows, transform_rows, window_rows}
-use Rattle.rs_syntax.specs.Tree.{QueryTree, covered, dissolved, filtered, merged, named, overlaid, part_of_route, renamed, subtracted, transformed, whole_route, windowed}
+use Rattle.rs_syntax.specs.Tree.{QueryTree, covered, dissolved, filtered, gapped, merged, named, overlaid, part_of_route, renamed, subtracted, transformed, whole_route, windowed}
 use Rattle.rs_machine.specs.State.{State, has}
 use Rattle.rs_machine.specs.Checks.{◌>>=◌, found, has_table_or_view, unless}
-use Rattle.rs_machine.specs.Checking.{alike, alignments_known, checked, cover_checked, dissolve_checked, filter_checked, fits_limits, names_known, nodes_checked, overlay_checked, rename_checked, window_checked}
+use Rattle.rs_machine.specs.Checking.{alike, alignments_known, checked, cover_checked, dissolve_checked, filter_checked, fits_limits, gaps_checked, names_known, nodes_checked, overlay_checked, rename_checked, window_checked}
 use Rattle.rs_machine.specs.Lawful.{AreAlignments, AreKnown, IsLawful, IsViewMeant, widened}
 use Rattle.rs_machine.specs.Opening.{alignments_in, depth, names_in, nodes, opened, opened_once, opened_times}
 use Rattle.rs_machine.specs.declared.limits.TheConstants.{DEPTH, NODES}
@@ -81,6 +81,7 @@ module _ (IsGoodName IsGoodAlignment : Name → Type 0) where
     good_once (filtered query condition) good = let rest = good_once query (record { names = good.names; alignments = good.alignments }) in record { names = rest.names; alignments = rest.alignments }
     good_once (dissolved query columns) good = let rest = good_once query (record { names = good.names; alignments = good.alignments }) in record { names = rest.names; alignments = rest.alignments }
     good_once (renamed query from to) good = let rest = good_once query (record { names = good.names; alignments = good.alignments }) in record { names = rest.names; alignments = rest.alignments }
+    good_once (gapped query) good = let rest = good_once query (record { names = good.names; alignments = good.alignments }) in record { names = rest.names; alignments = rest.alignments }
     good_once (windowed query window) good = let rest = good_once query (record { names = good.names; alignments = good.alignments }) in record { names = rest.names; alignments = rest.alignments }
     good_once (transformed query alignment) good =
         let rest = good_once query (record { names = good.names; alignments = all_front IsGoodAlignment (alignments_in query) (alignment ∷ []) good.alignments }) in
@@ -117,6 +118,7 @@ alignments_wide (merged a b) = λ i. alignments_wide a i ++ alignments_wide b i
 alignments_wide (subtracted a b) = λ i. alignments_wide a i ++ alignments_wide b i
 alignments_wide (windowed query window) = alignments_wide query
 alignments_wide (transformed query alignment) = ap (λ l. l ++ alignment ∷ []) (alignments_wide query)
+alignments_wide (gapped query) = alignments_wide query
 
 -- ---- the state without those that are left out
 
@@ -139,6 +141,7 @@ module _ (state : State) (keeping : Keeping) where
   nodes_kept (filtered a condition) all = ap (λ (r : Result Query Refusal). r >>= (λ q. filter_checked state q condition)) (nodes_kept a all)
   nodes_kept (dissolved a columns) all = ap (λ (r : Result Query Refusal). r >>= (λ q. dissolve_checked state q columns)) (nodes_kept a all)
   nodes_kept (renamed a from to) all = ap (λ (r : Result Query Refusal). r >>= (λ q. rename_checked state q from to)) (nodes_kept a all)
+  nodes_kept (gapped a) all = ap (λ (r : Result Query Refusal). r >>= (λ q. gaps_checked state q)) (nodes_kept a all)
   nodes_kept (overlaid a b) all = λ i. nodes_kept a (left_of a b all) i >>= (λ x. nodes_kept b (right_of a b all) i >>= (λ y. overlay_checked state x y))
   nodes_kept (covered a b) all = λ i. nodes_kept a (left_of a b all) i >>= (λ x. nodes_kept b (right_of a b all) i >>= (λ y. cover_checked state x y))
   nodes_kept (merged a b) all = λ i. nodes_kept a (left_of a b all) i >>= (λ x. nodes_kept b (right_of a b all) i >>= (λ y. alike state x y >>= (λ _. Ok (merge_rows x y))))

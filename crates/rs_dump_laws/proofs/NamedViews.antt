@@ -8,10 +8,10 @@ use Rattle.rs_refusal.specs.declared.refusal.Refusal.{Refusal}
 use Rattle.rs_refusal.specs.declared.refusal.Refusal.TheVariants.{Limit}
 use Rattle.rs_facts.specs.Fact.{Name, Names}
 use Rattle.rs_facts.specs.Query.{Query, merge_rows, minus_rows, transform_rows, window_rows}
-use Rattle.rs_syntax.specs.Tree.{ConditionTree, QueryTree, WindowTree, covered, dissolved, filtered, merged, named, overlaid, renamed, subtracted, transformed, windowed}
+use Rattle.rs_syntax.specs.Tree.{ConditionTree, QueryTree, WindowTree, covered, dissolved, filtered, gapped, merged, named, overlaid, renamed, subtracted, transformed, windowed}
 use Rattle.rs_machine.specs.State.{State}
 use Rattle.rs_machine.specs.Checks.{◌>>=◌, alignment_named, unless}
-use Rattle.rs_machine.specs.Checking.{alike, alignments_known, checked, cover_checked, dissolve_checked, filter_checked, fits_limits, names_known, nodes_checked, overlay_checked, rename_checked, window_checked}
+use Rattle.rs_machine.specs.Checking.{alike, alignments_known, checked, cover_checked, dissolve_checked, filter_checked, fits_limits, gaps_checked, names_known, nodes_checked, overlay_checked, rename_checked, window_checked}
 use Rattle.rs_machine.specs.Lawful.{IsLawful}
 use Rattle.rs_machine.specs.Opening.{alignments_in, depth, names_in, nodes, opened, opened_times}
 use Rattle.rs_machine.specs.declared.limits.TheConstants.{DEPTH, NODES}
@@ -62,6 +62,10 @@ module _ (views : Names QueryTree) where
   transformed_at zero a n = refl
   transformed_at (suc times) a n = transformed_at times _ n
 
+  gapped_at : (times : ℕ) (a : QueryTree) → after times (gapped a) ≡ gapped (after times a)
+  gapped_at zero a = refl
+  gapped_at (suc times) a = gapped_at times _
+
 -- ---- what a query names passes where it does
 
 -- the first check passed
@@ -95,6 +99,8 @@ module _ (state : State) (times : ℕ) (other : Name) where
       named_passes a (first_ok (nodes_checked state (in_full a)) (λ q. window_checked state w >>= (λ located. Ok (window_rows q located))) passes.0 (sym (ap (nodes_checked state) (windowed_at state.views times a w)) ∙ passes.1)) among
   named_passes (transformed a n) passes among =
       named_passes a (first_ok (nodes_checked state (in_full a)) (λ q. alignment_named state n >>= (λ pieces. Ok (transform_rows q n pieces))) passes.0 (sym (ap (nodes_checked state) (transformed_at state.views times a n)) ∙ passes.1)) among
+  named_passes (gapped a) passes among =
+      named_passes a (first_ok (nodes_checked state (in_full a)) (λ q. gaps_checked state q) passes.0 (sym (ap (nodes_checked state) (gapped_at state.views times a)) ∙ passes.1)) among
   named_passes (overlaid a b) passes among =
       let both = two_ok (nodes_checked state (in_full a)) (nodes_checked state (in_full b)) (λ x y. overlay_checked state x y) passes.0 (sym (ap (nodes_checked state) (overlaid_at state.views times a b)) ∙ passes.1) in
       elim (Contains-append_cases (names_in a) (names_in b) other among) [ inl one ↦ named_passes a both.0 one | inr two ↦ named_passes b both.1 two ]

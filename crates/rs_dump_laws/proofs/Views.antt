@@ -8,10 +8,10 @@ use Rattle.rs_refusal.specs.declared.refusal.Refusal.TheVariants.{Limit, NameTak
 use Rattle.rs_facts.specs.Fact.{Name, Names}
 use Rattle.rs_facts.specs.Insert.{same_name}
 use Rattle.rs_facts.specs.Query.{Query, transform_rows, window_rows}
-use Rattle.rs_syntax.specs.Tree.{QueryTree, covered, dissolved, filtered, merged, named, overlaid, part_of_route, renamed, subtracted, transformed, whole_route, windowed}
+use Rattle.rs_syntax.specs.Tree.{QueryTree, covered, dissolved, filtered, gapped, merged, named, overlaid, part_of_route, renamed, subtracted, transformed, whole_route, windowed}
 use Rattle.rs_machine.specs.State.{State, has, no_cursors}
 use Rattle.rs_machine.specs.Checks.{◌>>=◌, alignment_named, has_table_or_view, unless}
-use Rattle.rs_machine.specs.Checking.{alike, alignments_known, checked, cover_checked, dissolve_checked, filter_checked, fits_limits, names_known, nodes_checked, overlay_checked, rename_checked, window_checked}
+use Rattle.rs_machine.specs.Checking.{alike, alignments_known, checked, cover_checked, dissolve_checked, filter_checked, fits_limits, gaps_checked, names_known, nodes_checked, overlay_checked, rename_checked, window_checked}
 use Rattle.rs_facts.specs.Query.{merge_rows, minus_rows}
 use Rattle.rs_machine.specs.Lawful.{Each, IsView}
 use Rattle.rs_machine.specs.Opening.{alignments_in, names_in, opened}
@@ -44,6 +44,7 @@ nodes_look state (named name) = refl
 nodes_look state (filtered a condition) = ap (λ (r : Result Query Refusal). r >>= (λ q. filter_checked state q condition)) (nodes_look state a)
 nodes_look state (dissolved a columns) = ap (λ (r : Result Query Refusal). r >>= (λ q. dissolve_checked state q columns)) (nodes_look state a)
 nodes_look state (renamed a from to) = ap (λ (r : Result Query Refusal). r >>= (λ q. rename_checked state q from to)) (nodes_look state a)
+nodes_look state (gapped a) = ap (λ (r : Result Query Refusal). r >>= (λ q. gaps_checked state q)) (nodes_look state a)
 nodes_look state (overlaid a b) = λ i. nodes_look state a i >>= (λ x. nodes_look state b i >>= (λ y. overlay_checked state x y))
 nodes_look state (covered a b) = λ i. nodes_look state a i >>= (λ x. nodes_look state b i >>= (λ y. cover_checked state x y))
 nodes_look state (merged a b) = λ i. nodes_look state a i >>= (λ x. nodes_look state b i >>= (λ y. alike state x y >>= (λ _. Ok (merge_rows x y))))

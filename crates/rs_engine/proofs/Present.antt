@@ -39,6 +39,10 @@ module _ {D : Type 0} (d : disk.Ghosts D) where
       → (route : Name) (on : RouteItem) → names.get store.catalog.routes route ≡ Some on → (k : ℕ)
       → (snapshots store.file.accepted).rows (numbered_as item) on.number k ≡ facts_of (names.get shows.state.tables name) route k
 
+  abbrev pub ShowsEnds : Type 0
+  ShowsEnds = (oldest : ℕ) (store : StoreState D) (snapshots : Snapshots) → Shows d oldest store snapshots
+      → (route : Name) (on : RouteItem) → names.get store.catalog.routes route ≡ Some on → (snapshots store.file.accepted).ends on.number ≡ Some on.ends
+
   abbrev pub CountsRuns : Type 0
   CountsRuns = (oldest : ℕ) (store : StoreState D) (state : State) → StandsIn d oldest store state
       → (name : Name) (item : TableItem) → names.get store.catalog.tables name ≡ Some item → (indexes : Names IndexedColumn)
@@ -54,9 +58,9 @@ module _ {D : Type 0} (d : disk.Ghosts D) where
     }
 
     -- what is shown at the version that was accepted last is the present of the state
-    pub present_at : StandsOnce → ShowsState → ShowsFacts
+    pub present_at : StandsOnce → ShowsState → ShowsFacts → ShowsEnds
         → IsPresent engine.store.catalog engine.store.referents machine.state (shown_from engine.store.catalog is.stands.contents engine.oldest engine.store.file.accepted engine.store.file.accepted)
-    present_at once shown facts =
+    present_at once shown facts ends =
         let snapshots = shown_from engine.store.catalog is.stands.contents engine.oldest engine.store.file.accepted in
         let shows = shown engine.oldest engine.store is.state is.stands in
         record {
@@ -67,20 +71,21 @@ module _ {D : Type 0} (d : disk.Ghosts D) where
                 ∙ ap (λ (state : State). facts_of (names.get state.tables name) route k) (once engine.oldest engine.oldest engine.store shows.state is.state shows.stands is.stands)
                 ∙ sym (ap (λ (state : State). facts_of (names.get state.tables name) route k) is.is);
           };
+          ends = ends engine.oldest engine.store snapshots shows;
           lawful = is.lawful;
         }
 
     -- the engine stands for it there
-    pub stands_at : StandsOnce → ShowsState → ShowsFacts → StandsNow d engine machine.state
-    stands_at once shown facts = record {
+    pub stands_at : StandsOnce → ShowsState → ShowsFacts → ShowsEnds → StandsNow d engine machine.state
+    stands_at once shown facts ends = record {
       snapshots = shown_from engine.store.catalog is.stands.contents engine.oldest engine.store.file.accepted;
       shows = shown engine.oldest engine.store is.state is.stands;
-      present = present_at once shown facts;
+      present = present_at once shown facts ends;
     }
 
     -- and so it is seen by that version
-    pub seen_now : StandsOnce → ShowsState → ShowsFacts → IsSeenNow engine machine.state (seen_at is.stands.contents engine.store.file.accepted)
-    seen_now once shown facts =
+    pub seen_now : StandsOnce → ShowsState → ShowsFacts → ShowsEnds → IsSeenNow engine machine.state (seen_at is.stands.contents engine.store.file.accepted)
+    seen_now once shown facts ends =
         let contents = is.stands.contents in
         let accepted = engine.store.file.accepted in
         let memory = is.stands.keeps.memory in
@@ -93,7 +98,7 @@ module _ {D : Type 0} (d : disk.Ghosts D) where
           present = subst (IsPresent engine.store.catalog engine.store.referents machine.state)
               (shown_live engine.store.catalog contents engine.oldest accepted accepted (omega (arith, is.stands.live, same)) (omega arith)
               ∙ tables_same engine.store.catalog contents memory.catalog.tables accepted)
-              (present_at once shown facts);
+              (present_at once shown facts ends);
         }
 
     -- its plans are chosen by the runs of its tables

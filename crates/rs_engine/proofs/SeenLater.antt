@@ -29,7 +29,7 @@ use Rattle.rs_page_owners.specs.Counts.{times}
 use Rattle.rs_file_meaning.proofs.Named.{first_there, get_there, item_of, later_there}
 use Rattle.rs_file_meaning.proofs.Picked.{same_numbered}
 use Rattle.rs_store_source.specs.Kept.{StandsIn, StoreState}
-use Rattle.rs_store_source.specs.Shown.{is_table, table_there}
+use Rattle.rs_store_source.specs.Shown.{ends_with, is_table, table_there}
 use Rattle.rs_versioned.specs.Events.{Event, spans_at}
 use Rattle.rs_versioned.specs.Referents.{referents_at}
 
@@ -180,7 +180,7 @@ module _ (facts : FactsStay) (called : NamesStay) (version : ℕ) (old now : Con
   seen_stays = λ i. record {
     routes = routes_named (sees.routes i);
     referents = fun_ext (λ route. called version route old now sees (distinct route)) i;
-    snapshot = record { rows = fun_ext (λ table. fun_ext (λ route. rows_stay table route)) i };
+    snapshot = record { rows = fun_ext (λ table. fun_ext (λ route. rows_stay table route)) i; ends = ends_with (names.entries (routes_named (sees.routes i))) };
   }
 
 -- ---- after a change of a store

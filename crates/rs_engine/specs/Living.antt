@@ -21,7 +21,7 @@ use Rattle.rs_file_meaning.proofs.Named.{len_by, order_kept}
 use Rattle.rs_store_source.specs.Kept.{StandsIn, StoreState}
 use Rattle.rs_store_source.proofs.Passing.{stands_on}
 use Rattle.rs_store_source.proofs.States.{stands_shown}
-use Rattle.rs_store_source.specs.Shown.{Shows, no_snapshot, places_seen, shown_from, snapshot_at, table_there}
+use Rattle.rs_store_source.specs.Shown.{Shows, ends_seen, no_snapshot, places_seen, shown_from, snapshot_at, table_there}
 
 -- ---- snapshots
 
@@ -30,6 +30,7 @@ pub tables_same : (definitions : Definitions) (contents : Contents) → definiti
     → snapshot_at definitions contents version ≡ snapshot_at (tables_in contents) contents version
 tables_same definitions contents are version = λ i. record {
   rows = λ table route. if table_there (record no_definitions { tables = are i }) table then places_seen contents version table.number route else no_places;
+  ends = ends_seen contents version;
 }
 
 -- a live version is shown

@@ -22,7 +22,7 @@ use Rattle.rs_machine.specs.Served.{Machine}
 use Rattle.rs_machine.specs.State.{State, no_cursors}
 use Rattle.rs_pager.specs.Maps.{committed}
 use Rattle.rs_store_source.specs.Kept.{StoreState}
-use Rattle.rs_store_source.specs.Shown.{table_there}
+use Rattle.rs_store_source.specs.Shown.{ends_with, table_there}
 use Rattle.rs_versioned.specs.Events.{Event, spans_at}
 use Rattle.rs_versioned.specs.Referents.{referents_at}
 
@@ -54,6 +54,7 @@ seen_alike one other same = fun_ext (λ version. λ i. record {
   referents = λ route. names.from_entries (referents_at version route (same.referents i));
   snapshot = record {
     rows = λ table route. if table_there (record no_definitions { tables = tables_named (same.definitions i).tables }) table then places_of (spans_alike one other same version i table.number route) else no_places;
+    ends = ends_with (names.entries (routes_named (born_by version (same.definitions i).routes)));
   };
 })
 

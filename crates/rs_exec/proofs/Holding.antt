@@ -11,22 +11,24 @@ use Rattle.rs_value.specs.declared.column.TheConstants.{COLUMNS}
 use Rattle.rs_facts.specs.declared.fact.Span.{Span}
 use Rattle.rs_facts.specs.Fact.{RowSet}
 use Rattle.rs_facts.specs.Operators.{overlaid, dissolved, mapped, chosen}
-use Rattle.rs_facts.specs.Query.{overlaid_kind}
+use Rattle.rs_facts.specs.Query.{gapped_on, overlaid_kind}
 use Rattle.rs_facts.specs.Runs.{Stretch}
 use Rattle.rs_facts.specs.Spans.{seen, places_of, ArePlaced}
 use Rattle.rs_sweep.specs.Lists.{AreSorted, AreWide}
 use Rattle.rs_plan.specs.declared.plan.PlannedWindow.{PlannedWindow}
 use Rattle.rs_planning.proofs.Operands.{unit_right, overlaid_assoc, line_last, kind_assoc}
 use Rattle.rs_exec.specs.Snapshot.{Snapshots}
-use Rattle.rs_exec.specs.Meaning.{PlanMeaning, rows_together, kinds_together, widths_together, overlay_meaning, window_meaning, seen_through_each}
+use Rattle.rs_exec.specs.Meaning.{PlanMeaning, rows_together, kinds_together, widths_together, overlay_meaning, window_meaning, gaps_meaning, seen_through_each}
 use Rattle.rs_exec.specs.Operand.{changed_meaning, paired_meaning, together_meaning}
 use Rattle.rs_exec.specs.declared.changes.Change.{Change}
 use Rattle.rs_exec.specs.declared.changes.Change.TheVariants as changes
+use Rattle.rs_exec.specs.declared.pairs.Kinds.{Kinds}
 use Rattle.rs_exec.specs.declared.pairs.Pairing.{Pairing}
 use Rattle.rs_exec.specs.declared.pairs.Pairing.TheVariants as pairings
 use Rattle.rs_exec.specs.declared.source.Part.{Part}
 use Rattle.rs_exec.specs.Given.{inside}
 use Rattle.rs_exec.specs.Changes.{IsChanged, AreFrom}
+use Rattle.rs_exec.specs.Gaps.{HasShape, HaveShapes, HaveGaps}
 use Rattle.rs_exec.specs.Pairs.{FitTogether, CanPair, IsPaired, ArePaired}
 use Rattle.rs_exec.specs.Routes.{IsInOrder, HasNone, AreNone, AllAreNone, IsShaped}
 use Rattle.rs_exec.specs.Windows.{AreOff, IsSeenOn, IsSpread}
@@ -50,27 +52,26 @@ earlier was is version plan numbers rows stands held =
     zip-weaker (HoldsRows is version plan) (HoldsRows was version plan) numbers rows
     (λ number each holds. earlier-one was is version number plan each stands holds) held
 
-pub laid-earlier : (was is : Snapshots → Type 0) (version : ℕ) (plans : List PlanMeaning) (numbers : List ℕ) (old new : List (Vec Span Global)) → ((snapshots : Snapshots) → was snapshots → is snapshots) → AreLaidOver is version plans numbers old new → AreLaidOver was version plans numbers old new
-laid-earlier was is version plans numbers old new stands laid =
-    zip-weaker (IsLaidOver is version plans) (IsLaidOver was version plans) (zip numbers old) new
+pub laid-earlier : (was is : Snapshots → Type 0) (version : ℕ) (kind : Kind) (plans : List PlanMeaning) (numbers : List ℕ) (old new : List (Vec Span Global)) → ((snapshots : Snapshots) → was snapshots → is snapshots) → AreLaidOver is version kind plans numbers old new → AreLaidOver was version kind plans numbers old new
+laid-earlier was is version kind plans numbers old new stands laid =
+    zip-weaker (IsLaidOver is version kind plans) (IsLaidOver was version kind plans) (zip numbers old) new
     (λ pair each holds. record { means = λ snapshots there k. holds.means snapshots (stands snapshots there) k; shaped = holds.shaped }) laid
-
-pub beside-earlier : (was is : Snapshots → Type 0) (version : ℕ) (next : PlanMeaning) (numbers : List ℕ) (old new : List (Vec Span Global)) → ((snapshots : Snapshots) → was snapshots → is snapshots) → AreBeside is version next numbers old new → AreBeside was version next numbers old new
-beside-earlier was is version next numbers old new stands beside =
-    zip-weaker (IsBeside is version next) (IsBeside was version next) (zip numbers old) new
-    (λ pair each holds. record { means = λ snapshots there k. holds.means snapshots (stands snapshots there) k; shaped = holds.shaped }) beside
 
 pub shaped-length : (kind : Kind) (width : ℕ) (numbers : List ℕ) (rows : List (Vec Span Global)) → EachIsShaped kind width numbers rows → length rows ≡ length numbers
 shaped-length kind width numbers rows shaped = sym (zip-length (λ (number : ℕ) each. IsShaped kind width each) numbers rows shaped)
 
-pub can-pair : (pairing : Pairing) (p q : Kind) (m n : ℕ) (numbers : List ℕ) (lefts rights : List (Vec Span Global)) → FitTogether pairing m n → EachIsShaped p m numbers lefts → EachIsShaped q n numbers rights → AllZip (CanPair pairing) lefts rights
+-- what is so of two kinds is so of kinds that are the same
+pub as-kinds : (P : Kinds → Type 0) (p q a b : Kind) → p ≡ a → q ≡ b → P (record { left = p; right = q }) → P (record { left = a; right = b })
+as-kinds P p q a b one other so = subst (λ kind. P (record { left = a; right = kind })) other (subst (λ kind. P (record { left = kind; right = q })) one so)
+
+pub can-pair : (pairing : Pairing) (p q : Kind) (m n : ℕ) (numbers : List ℕ) (lefts rights : List (Vec Span Global)) → FitTogether pairing m n → EachIsShaped p m numbers lefts → EachIsShaped q n numbers rights → AllZip (CanPair pairing (record { left = p; right = q })) lefts rights
 can-pair pairing p q m n [] [] [] fit first second = tt
 can-pair pairing p q m n [] [] (r ∷ rights) fit first second = absurd second
 can-pair pairing p q m n [] (l ∷ lefts) rights fit first second = absurd first
 can-pair pairing p q m n (number ∷ numbers) [] rights fit first second = absurd first
 can-pair pairing p q m n (number ∷ numbers) (l ∷ lefts) [] fit first second = absurd second
 can-pair pairing p q m n (number ∷ numbers) (l ∷ lefts) (r ∷ rights) fit first second = (
-  record { left_kind = p; right_kind = q; left_width = m; right_width = n; left_shaped = first.0; right_shaped = second.0; fit = fit },
+  record { left_width = m; right_width = n; left_shaped = first.0; right_shaped = second.0; fit = fit },
   can-pair pairing p q m n numbers lefts rights fit first.1 second.1,
 )
 
@@ -94,9 +95,14 @@ module _ (stands : Snapshots → Type 0) (version : ℕ) where
   changed-held change plan (number ∷ numbers) (o ∷ old) [] all held = absurd all
   changed-held change plan (number ∷ numbers) (o ∷ old) (n ∷ new) all held = (changed-step stands version number change plan o n held.0 all.0, changed-held change plan numbers old new all.1 held.1)
 
+  pub have-shapes : (plan : PlanMeaning) (numbers : List ℕ) (rows : List (Vec Span Global)) → AreHeld stands version plan numbers rows → HaveShapes numbers rows
+  have-shapes plan numbers rows held =
+      zip-weaker (HoldsRows stands version plan) (λ number each. HasShape (map seen each.items)) numbers rows
+      (λ number each holds. record { kind = plan.kind; width = plan.width; shaped = holds.shaped }) held
+
   -- ---- operators of two
 
-  pub paired-held : (pairing : Pairing) (a b : PlanMeaning) (numbers : List ℕ) (lefts rights made : List (Vec Span Global)) → (paired_meaning pairing a b).is_well_formed ≡ true → AllZip (IsPaired pairing) (zip lefts rights) made → AreHeld stands version a numbers lefts → AreHeld stands version b numbers rights → AreHeld stands version (paired_meaning pairing a b) numbers made
+  pub paired-held : (pairing : Pairing) (a b : PlanMeaning) (numbers : List ℕ) (lefts rights made : List (Vec Span Global)) → (paired_meaning pairing a b).is_well_formed ≡ true → AllZip (IsPaired pairing (record { left = a.kind; right = b.kind })) (zip lefts rights) made → AreHeld stands version a numbers lefts → AreHeld stands version b numbers rights → AreHeld stands version (paired_meaning pairing a b) numbers made
   paired-held pairing a b [] [] [] [] formed all first second = tt
   paired-held pairing a b [] [] [] (m ∷ made) formed all first second = absurd all
   paired-held pairing a b [] [] (r ∷ rights) made formed all first second = absurd second
@@ -108,79 +114,79 @@ module _ (stands : Snapshots → Type 0) (version : ℕ) where
 
   -- ---- operands of an OVERLAY, one after another
 
-  laid_none-one : (number : ℕ) (rows : Vec Span Global) → IsLaidOver stands version [] (number, rows) rows
-  laid_none-one number rows = record {
+  laid_none-one : (kind : Kind) (number : ℕ) (rows : Vec Span Global) → IsLaidOver stands version kind [] (number, rows) rows
+  laid_none-one kind number rows = record {
     means = λ snapshots there k. sym (unit_right (places_of (map seen rows.items) k));
-    shaped = λ kind width shape.
+    shaped = λ width shape.
         let same : width ≡ width + 0 = omega arith in
         subst (λ w. IsShaped (overlaid_kind kind kinds.Line) w rows) same (subst (λ p. IsShaped p width rows) (sym (line_last kind)) shape);
   }
 
   -- no further operand
-  pub laid-none : (p : Kind) (m : ℕ) (numbers : List ℕ) (rows : List (Vec Span Global)) → EachIsShaped p m numbers rows → AreLaidOver stands version [] numbers rows rows
+  pub laid-none : (p : Kind) (m : ℕ) (numbers : List ℕ) (rows : List (Vec Span Global)) → EachIsShaped p m numbers rows → AreLaidOver stands version p [] numbers rows rows
   laid-none p m [] [] shaped = tt
   laid-none p m [] (r ∷ rows) shaped = absurd shaped
   laid-none p m (number ∷ numbers) [] shaped = absurd shaped
-  laid-none p m (number ∷ numbers) (r ∷ rows) shaped = (laid_none-one number r, laid-none p m numbers rows shaped.1)
+  laid-none p m (number ∷ numbers) (r ∷ rows) shaped = (laid_none-one p number r, laid-none p m numbers rows shaped.1)
 
-  laid_bare-one : (plans : List PlanMeaning) (number : ℕ) (rows : Vec Span Global) → HasNone rows → IsLaidOver stands version plans (number, rows) rows
-  laid_bare-one plans number rows bare = record {
+  laid_bare-one : (kind : Kind) (plans : List PlanMeaning) (number : ℕ) (rows : Vec Span Global) → HasNone rows → IsLaidOver stands version kind plans (number, rows) rows
+  laid_bare-one kind plans number rows bare = record {
     means = λ snapshots there k.
         none-means rows k bare
         ∙ sym (ap (λ x. overlaid x (rows_together plans (snapshots version) number k)) (none-means rows k bare) ∙ overlaid-nothing (rows_together plans (snapshots version) number k));
-    shaped = λ kind width shape. none-shaped (overlaid_kind kind (kinds_together plans)) (width + widths_together plans) rows bare;
+    shaped = λ width shape. none-shaped (overlaid_kind kind (kinds_together plans)) (width + widths_together plans) rows bare;
   }
 
   -- no rows are left
-  pub laid-bare : (plans : List PlanMeaning) (p : Kind) (m : ℕ) (numbers : List ℕ) (rows : List (Vec Span Global)) → AllAreNone rows → EachIsShaped p m numbers rows → AreLaidOver stands version plans numbers rows rows
+  pub laid-bare : (plans : List PlanMeaning) (p : Kind) (m : ℕ) (numbers : List ℕ) (rows : List (Vec Span Global)) → AllAreNone rows → EachIsShaped p m numbers rows → AreLaidOver stands version p plans numbers rows rows
   laid-bare plans p m [] [] bare shaped = tt
   laid-bare plans p m [] (r ∷ rows) bare shaped = absurd shaped
   laid-bare plans p m (number ∷ numbers) [] bare shaped = absurd shaped
-  laid-bare plans p m (number ∷ numbers) (r ∷ rows) bare shaped = (laid_bare-one plans number r bare.0, laid-bare plans p m numbers rows bare.1 shaped.1)
+  laid-bare plans p m (number ∷ numbers) (r ∷ rows) bare shaped = (laid_bare-one p plans number r bare.0, laid-bare plans p m numbers rows bare.1 shaped.1)
 
-  laid_next-one : (next : PlanMeaning) (others : List PlanMeaning) (number : ℕ) (old laid new : Vec Span Global) → IsBeside stands version next (number, old) laid
-      → IsLaidOver stands version others (number, laid) new → IsLaidOver stands version (next ∷ others) (number, old) new
-  laid_next-one next others number old laid new is later = record {
+  laid_next-one : (kind : Kind) (next : PlanMeaning) (others : List PlanMeaning) (number : ℕ) (old laid new : Vec Span Global) → IsBeside stands version kind next (number, old) laid
+      → IsLaidOver stands version (overlaid_kind kind next.kind) others (number, laid) new → IsLaidOver stands version kind (next ∷ others) (number, old) new
+  laid_next-one kind next others number old laid new is later = record {
     means = λ snapshots there k.
         later.means snapshots there k
         ∙ ap (λ x. overlaid x (rows_together others (snapshots version) number k)) (is.means snapshots there k)
         ∙ overlaid_assoc (places_of (map seen old.items) k) (next.rows (snapshots version) number k) (rows_together others (snapshots version) number k);
-    shaped = λ kind width shape.
-        let all = later.shaped (overlaid_kind kind next.kind) (width + next.width) (is.shaped kind width shape) in
+    shaped = λ width shape.
+        let all = later.shaped (width + next.width) (is.shaped width shape) in
         let same : (width + next.width) + widths_together others ≡ width + (next.width + widths_together others) = omega arith in
         subst (λ w. IsShaped (overlaid_kind kind (overlaid_kind next.kind (kinds_together others))) w new) same
         (subst (λ p. IsShaped p ((width + next.width) + widths_together others) new) (kind_assoc kind next.kind (kinds_together others)) all);
   }
 
   -- one operand more
-  pub laid-next : (next : PlanMeaning) (others : List PlanMeaning) (p : Kind) (m : ℕ) (numbers : List ℕ) (old laid new : List (Vec Span Global)) → EachIsShaped p m numbers old → AreBeside stands version next numbers old laid
-      → AreLaidOver stands version others numbers laid new → AreLaidOver stands version (next ∷ others) numbers old new
+  pub laid-next : (next : PlanMeaning) (others : List PlanMeaning) (p : Kind) (m : ℕ) (numbers : List ℕ) (old laid new : List (Vec Span Global)) → EachIsShaped p m numbers old → AreBeside stands version p next numbers old laid
+      → AreLaidOver stands version (overlaid_kind p next.kind) others numbers laid new → AreLaidOver stands version p (next ∷ others) numbers old new
   laid-next next others p m [] old laid [] shaped is later = tt
   laid-next next others p m [] old laid (n ∷ new) shaped is later = absurd later
   laid-next next others p m (number ∷ numbers) [] laid new shaped is later = absurd shaped
   laid-next next others p m (number ∷ numbers) (o ∷ old) [] new shaped is later = absurd is
   laid-next next others p m (number ∷ numbers) (o ∷ old) (q ∷ laid) [] shaped is later = absurd later
   laid-next next others p m (number ∷ numbers) (o ∷ old) (q ∷ laid) (n ∷ new) shaped is later =
-      (laid_next-one next others number o q n is.0 later.0, laid-next next others p m numbers old laid new shaped.1 is.1 later.1)
+      (laid_next-one p next others number o q n is.0 later.0, laid-next next others p m numbers old laid new shaped.1 is.1 later.1)
 
-  pub beside-one : (next : PlanMeaning) (number : ℕ) (old : Vec Span Global) (upper : List Stretch) (new : Vec Span Global) → AreRowsOf stands version next number upper → ArePaired pairings.Overlay (map seen old.items, upper) (map seen new.items) → IsBeside stands version next (number, old) new
-  beside-one next number old upper new held is = record {
+  pub beside-one : (kind : Kind) (next : PlanMeaning) (number : ℕ) (old : Vec Span Global) (upper : List Stretch) (new : Vec Span Global) → AreRowsOf stands version next number upper → ArePaired pairings.Overlay (record { left = kind; right = next.kind }) (map seen old.items, upper) (map seen new.items) → IsBeside stands version kind next (number, old) new
+  beside-one kind next number old upper new held is = record {
     means = λ snapshots there k. is.means k ∙ ap (overlaid (places_of (map seen old.items) k)) (held.means snapshots there k);
-    shaped = λ kind width shape. record { sorted = is.sorted; placed = is.placed kind next.kind tt shape.placed held.shaped.placed; wide = is.wide width next.width tt shape.wide held.shaped.wide };
+    shaped = λ width shape. record { sorted = is.sorted; placed = is.placed tt shape.placed held.shaped.placed; wide = is.wide width next.width tt shape.wide held.shaped.wide };
   }
 
-  pub beside-held : (next : PlanMeaning) (numbers : List ℕ) (old rights new : List (Vec Span Global)) → AreHeld stands version next numbers rights → AllZip (IsPaired pairings.Overlay) (zip old rights) new → length old ≡ length numbers → AreBeside stands version next numbers old new
-  beside-held next [] [] [] [] held all same = tt
-  beside-held next [] [] [] (n ∷ new) held all same = absurd all
-  beside-held next [] (o ∷ old) [] new held all same = absurd (omega (arith, same))
-  beside-held next [] old (r ∷ rights) new held all same = absurd held
-  beside-held next (number ∷ numbers) old [] new held all same = absurd held
-  beside-held next (number ∷ numbers) [] (r ∷ rights) new held all same = absurd (omega (arith, same))
-  beside-held next (number ∷ numbers) (o ∷ old) (r ∷ rights) [] held all same = absurd all
-  beside-held next (number ∷ numbers) (o ∷ old) (r ∷ rights) (n ∷ new) held all same = (beside-one next number o (map seen r.items) n held.0 all.0, beside-held next numbers old rights new held.1 all.1 (omega (arith, same)))
+  pub beside-held : (kind : Kind) (next : PlanMeaning) (numbers : List ℕ) (old rights new : List (Vec Span Global)) → AreHeld stands version next numbers rights → AllZip (IsPaired pairings.Overlay (record { left = kind; right = next.kind })) (zip old rights) new → length old ≡ length numbers → AreBeside stands version kind next numbers old new
+  beside-held kind next [] [] [] [] held all same = tt
+  beside-held kind next [] [] [] (n ∷ new) held all same = absurd all
+  beside-held kind next [] (o ∷ old) [] new held all same = absurd (omega (arith, same))
+  beside-held kind next [] old (r ∷ rights) new held all same = absurd held
+  beside-held kind next (number ∷ numbers) old [] new held all same = absurd held
+  beside-held kind next (number ∷ numbers) [] (r ∷ rights) new held all same = absurd (omega (arith, same))
+  beside-held kind next (number ∷ numbers) (o ∷ old) (r ∷ rights) [] held all same = absurd all
+  beside-held kind next (number ∷ numbers) (o ∷ old) (r ∷ rights) (n ∷ new) held all same = (beside-one kind next number o (map seen r.items) n held.0 all.0, beside-held kind next numbers old rights new held.1 all.1 (omega (arith, same)))
 
   -- the first operand, and those laid over it
-  pub together-laid : (first : PlanMeaning) (others : List PlanMeaning) (numbers : List ℕ) (old new : List (Vec Span Global)) → AreHeld stands version first numbers old → AreLaidOver stands version others numbers old new → AreHeld stands version (together_meaning (first ∷ others)) numbers new
+  pub together-laid : (first : PlanMeaning) (others : List PlanMeaning) (numbers : List ℕ) (old new : List (Vec Span Global)) → AreHeld stands version first numbers old → AreLaidOver stands version first.kind others numbers old new → AreHeld stands version (together_meaning (first ∷ others)) numbers new
   together-laid first others [] [] [] held laid = tt
   together-laid first others [] [] (n ∷ new) held laid = absurd laid
   together-laid first others [] (o ∷ old) new held laid = absurd held
@@ -189,7 +195,7 @@ module _ (stands : Snapshots → Type 0) (version : ℕ) where
   together-laid first others (number ∷ numbers) (o ∷ old) (n ∷ new) held laid = (
     record {
       means = λ snapshots there k. laid.0.means snapshots there k ∙ ap (λ x. overlaid x (rows_together others (snapshots version) number k)) (held.0.means snapshots there k);
-      shaped = laid.0.shaped first.kind first.width held.0.shaped;
+      shaped = laid.0.shaped first.width held.0.shaped;
     },
     together-laid first others numbers old new held.1 laid.1,
   )
@@ -259,15 +265,31 @@ module _ (stands : Snapshots → Type 0) (version : ℕ) where
         shaped = none-shaped plan.kind plan.width each bare;
       }) off all
 
+-- ---- gaps between rows, for snapshots after the rows were made
+
+pub gaps-held : (was is : Snapshots → Type 0) (version : ℕ) (plan : PlanMeaning) (numbers : List ℕ) (old new : List (Vec Span Global)) → ((snapshots : Snapshots) → was snapshots → is snapshots) → HaveGaps is version numbers old new → AreHeld was version plan numbers old → AreHeld was version (gaps_meaning plan) numbers new
+gaps-held was is version plan [] [] [] stands all held = tt
+gaps-held was is version plan [] [] (n ∷ new) stands all held = absurd all
+gaps-held was is version plan [] (o ∷ old) new stands all held = absurd held
+gaps-held was is version plan (number ∷ numbers) [] new stands all held = absurd held
+gaps-held was is version plan (number ∷ numbers) (o ∷ old) [] stands all held = absurd all
+gaps-held was is version plan (number ∷ numbers) (o ∷ old) (n ∷ new) stands all held = (
+  record {
+    means = λ snapshots there k. all.0.means snapshots (stands snapshots there) k ∙ ap (gapped_on ((snapshots version).ends number) k) (held.0.means snapshots there k);
+    shaped = all.0.shaped;
+  },
+  gaps-held was is version plan numbers old new stands all.1 held.1,
+)
+
 -- ---- the operands of an OVERLAY that is well-formed
 
-pub beside-shaped : (stands : Snapshots → Type 0) (version : ℕ) (next : PlanMeaning) (p : Kind) (m : ℕ) (numbers : List ℕ) (old new : List (Vec Span Global)) → AreBeside stands version next numbers old new → EachIsShaped p m numbers old → EachIsShaped (overlaid_kind p next.kind) (m + next.width) numbers new
+pub beside-shaped : (stands : Snapshots → Type 0) (version : ℕ) (next : PlanMeaning) (p : Kind) (m : ℕ) (numbers : List ℕ) (old new : List (Vec Span Global)) → AreBeside stands version p next numbers old new → EachIsShaped p m numbers old → EachIsShaped (overlaid_kind p next.kind) (m + next.width) numbers new
 beside-shaped stands version next p m [] [] [] all shaped = tt
 beside-shaped stands version next p m [] [] (n ∷ new) all shaped = absurd all
 beside-shaped stands version next p m [] (o ∷ old) new all shaped = absurd shaped
 beside-shaped stands version next p m (number ∷ numbers) [] new all shaped = absurd shaped
 beside-shaped stands version next p m (number ∷ numbers) (o ∷ old) [] all shaped = absurd all
-beside-shaped stands version next p m (number ∷ numbers) (o ∷ old) (n ∷ new) all shaped = (all.0.shaped p m shaped.0, beside-shaped stands version next p m numbers old new all.1 shaped.1)
+beside-shaped stands version next p m (number ∷ numbers) (o ∷ old) (n ∷ new) all shaped = (all.0.shaped m shaped.0, beside-shaped stands version next p m numbers old new all.1 shaped.1)
 
 -- the first operand, and the rest of them
 pub record FormedOverlay (back : List ℕ) (plans : List PlanMeaning) : Type 0 where
@@ -310,35 +332,32 @@ together plans e =
     let parts = and_parts (list_all (λ (plan : PlanMeaning). plan.is_well_formed) plans) (nat_le (widths_together plans) COLUMNS) e in
     record { each = parts.0; few = at-most (widths_together plans) COLUMNS parts.1 }
 
-pub can-begin : (stands : Snapshots → Type 0) (version : ℕ) (first : PlanMeaning) (others : List PlanMeaning) (numbers : List ℕ) (rows : List (Vec Span Global)) → Together (first ∷ others) → AreHeld stands version first numbers rows → CanOverlay others numbers rows
+pub can-begin : (stands : Snapshots → Type 0) (version : ℕ) (first : PlanMeaning) (others : List PlanMeaning) (numbers : List ℕ) (rows : List (Vec Span Global)) → Together (first ∷ others) → AreHeld stands version first numbers rows → CanOverlay first.kind others numbers rows
 can-begin stands version first others numbers rows formed held = record {
-  kind = first.kind;
   width = first.width;
   shaped = shaped-of stands version first numbers rows held;
   fit = formed.few;
   formed = (and_parts first.is_well_formed (list_all (λ (plan : PlanMeaning). plan.is_well_formed) others) formed.each).1;
 }
 
-pub can-lay-next : (plans : List PlanMeaning) (next : PlanMeaning) (others : List PlanMeaning) (numbers : List ℕ) (rows : List (Vec Span Global)) → plans ≡ next ∷ others → CanOverlay plans numbers rows → CanOverlay (next ∷ []) numbers rows
-can-lay-next plans next others numbers rows are can = record {
-  kind = can.kind;
+pub can-lay-next : (kind : Kind) (plans : List PlanMeaning) (next : PlanMeaning) (others : List PlanMeaning) (numbers : List ℕ) (rows : List (Vec Span Global)) → plans ≡ next ∷ others → CanOverlay kind plans numbers rows → CanOverlay kind (next ∷ []) numbers rows
+can-lay-next kind plans next others numbers rows are can = record {
   width = can.width;
   shaped = can.shaped;
   fit = let e = ap widths_together are in let f = can.fit in omega (arith, e, f);
   formed = let first = (first-formed plans next others are can.formed).0 in ap (λ t. t && true) first;
 }
 
-pub can-pair-next : (stands : Snapshots → Type 0) (version : ℕ) (next : PlanMeaning) (numbers : List ℕ) (rows rights : List (Vec Span Global)) → CanOverlay (next ∷ []) numbers rows → AreHeld stands version next numbers rights → AllZip (CanPair pairings.Overlay) rows rights
-can-pair-next stands version next numbers rows rights can held =
+pub can-pair-next : (stands : Snapshots → Type 0) (version : ℕ) (kind : Kind) (next : PlanMeaning) (numbers : List ℕ) (rows rights : List (Vec Span Global)) → CanOverlay kind (next ∷ []) numbers rows → AreHeld stands version next numbers rights → AllZip (CanPair pairings.Overlay (record { left = kind; right = next.kind })) rows rights
+can-pair-next stands version kind next numbers rows rights can held =
     let f = can.fit in
-    can-pair pairings.Overlay can.kind next.kind can.width next.width numbers rows rights (omega (arith, f)) can.shaped (shaped-of stands version next numbers rights held)
+    can-pair pairings.Overlay kind next.kind can.width next.width numbers rows rights (omega (arith, f)) can.shaped (shaped-of stands version next numbers rights held)
 
-pub can-go-on : (stands : Snapshots → Type 0) (version : ℕ) (plans : List PlanMeaning) (next : PlanMeaning) (others : List PlanMeaning) (numbers : List ℕ) (rows laid : List (Vec Span Global)) → plans ≡ next ∷ others → CanOverlay plans numbers rows → AreBeside stands version next numbers rows laid
-    → CanOverlay others numbers laid
-can-go-on stands version plans next others numbers rows laid are can all = record {
-  kind = overlaid_kind can.kind next.kind;
+pub can-go-on : (stands : Snapshots → Type 0) (version : ℕ) (kind : Kind) (plans : List PlanMeaning) (next : PlanMeaning) (others : List PlanMeaning) (numbers : List ℕ) (rows laid : List (Vec Span Global)) → plans ≡ next ∷ others → CanOverlay kind plans numbers rows → AreBeside stands version kind next numbers rows laid
+    → CanOverlay (overlaid_kind kind next.kind) others numbers laid
+can-go-on stands version kind plans next others numbers rows laid are can all = record {
   width = can.width + next.width;
-  shaped = beside-shaped stands version next can.kind can.width numbers rows laid all can.shaped;
+  shaped = beside-shaped stands version next kind can.width numbers rows laid all can.shaped;
   fit = let e = ap widths_together are in let f = can.fit in omega (arith, e, f);
   formed = (first-formed plans next others are can.formed).1;
 }

@@ -1,7 +1,8 @@
 -- Lists that are made one by one beside another list, and what is so of each element of a list.
-use Rattle.std.proofs.Common.{◌≡◌, ◌<◌, ◌≤◌, ℕ, ◌+◌, Bool, true, false, ◌||◌, List, [], ◌∷◌, ◌++◌, length, drop, get_or, refl, sym, ap, ◌∙◌, subst, append_assoc, append-nil, arith}
+use Rattle.std.proofs.Common.{◌≡◌, ◌<◌, ◌≤◌, ℕ, ◌+◌, Bool, true, false, ◌||◌, List, [], ◌∷◌, ◌++◌, Option, Some, length, drop, get_or, refl, sym, ap, ◌∙◌, subst, append_assoc, append-nil, arith}
 use Rattle.std.proofs.lemmas.List.{drop_more, drop_all}
 use Rattle.std.specs.List.{AllZip, AllByRecursion, list_any}
+use Rattle.std.specs.Option.{option_to_list}
 
 -- ---- elements made one by one
 
@@ -37,6 +38,21 @@ more-numbers xs i below = drop_more xs i 0 below
 
 pub end : {A : Type 0} (xs : List A) (i : ℕ) → length xs ≤ i → drop i xs ≡ []
 end xs i done = drop_all i xs done
+
+-- ---- two lists, of which an element comes at a time
+
+-- there is a second where there is a first
+pub some-second : {A B : Type 0} (R : A → B → Type 0) (xs : List A) (ys : List B) (later : List A) (x : A) → AllZip R xs ys → xs ≡ x ∷ later → 0 < length ys
+some-second R [] ys later x all first = absurd (let e = ap length first in omega (arith, e))
+some-second R (z ∷ xs) [] later x all first = absurd all
+some-second R (z ∷ xs) (y ∷ ys) later x all first = omega arith
+
+pub both-firsts : {A B : Type 0} (R : A → B → Type 0) (xs more_xs : List A) (ys more_ys : List B) (x : A) (y : B) → AllZip R xs ys → xs ≡ x ∷ more_xs → ys ≡ y ∷ more_ys → R x y × AllZip R more_xs more_ys
+both-firsts R xs more_xs ys more_ys x y all e f = subst (λ zs. AllZip R (x ∷ more_xs) zs) f (subst (λ zs. AllZip R zs ys) e all)
+
+-- the element that comes is the first of those that are left
+pub first-given : {A : Type 0} (before later : List A) (given : Option A) (x : A) → before ≡ option_to_list given ++ later → given ≡ Some x → before ≡ x ∷ later
+first-given before later given x items is = items ∙ ap (λ o. option_to_list o ++ later) is
 
 -- ---- each element
 

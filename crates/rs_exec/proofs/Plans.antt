@@ -12,10 +12,10 @@ use Rattle.rs_plan.specs.declared.plan.Plan.TheOpen.{Plan-F}
 use Rattle.rs_plan.specs.PlanView.{plan_step, plan_tree, named_step, named_in, conditions_of, named_by_piece, named_by_window}
 use Rattle.rs_exec.specs.Snapshot.{Snapshot}
 use Rattle.rs_exec.specs.Meaning.{PlanMeaning, meaning_step, meaning_of}
-use Rattle.rs_exec.specs.Agreement.{AgreesOn, AreDistinct, IsTheSame, PlansAreTheSame}
-use Rattle.rs_exec.proofs.Same.{where-same, dissolve-same, cover-same, merge-same, minus-same, overlay-same, window-same, transform-same, leaf-same}
+use Rattle.rs_exec.specs.Agreement.{AgreesOn, HasItsEnds, AreDistinct, IsTheSame, PlansAreTheSame}
+use Rattle.rs_exec.proofs.Same.{where-same, dissolve-same, cover-same, merge-same, minus-same, overlay-same, window-same, transform-same, gaps-same, leaf-same}
 
-module _ (world : World) (snapshot : Snapshot) (numbers : Names ℕ) (distinct : AreDistinct numbers) where
+module _ (world : World) (snapshot : Snapshot) (numbers : Names ℕ) (distinct : AreDistinct numbers) (ends : HasItsEnds world snapshot numbers) where
   abbrev Agree : List Numbered → Type 0
   Agree named = AllByRecursion (AgreesOn world snapshot numbers) named
 
@@ -69,6 +69,7 @@ module _ (world : World) (snapshot : Snapshot) (numbers : Names ℕ) (distinct :
       transform-same world snapshot numbers distinct name.bytes pieces.items (meaning_of plan.value.0) (plan_tree plan.value.0)
       (every-left (AgreesOn world snapshot numbers) (flat_map named_by_piece pieces.items) (named_in plan.value.0) agree)
       (plan.value.1 (every-right (AgreesOn world snapshot numbers) (flat_map named_by_piece pieces.items) (named_in plan.value.0) agree))
+  layer_same (Plan-F.Gaps plan) agree = gaps-same world snapshot numbers ends (meaning_of plan.value.0) (plan_tree plan.value.0) (plan.value.1 agree)
 
   rolled : (layer : Plan-F Each) → IsSame (codes.roll-Plan (plans_in layer))
   rolled layer agree =
@@ -81,4 +82,4 @@ module _ (world : World) (snapshot : Snapshot) (numbers : Names ℕ) (distinct :
   plan_same = codes.ind-Plan IsSame (λ x y is. subst (λ layer. IsSame (codes.roll-Plan layer)) is (rolled y))
 
 pub plans-same : PlansAreTheSame
-plans-same world snapshot numbers plan distinct agree = plan_same world snapshot numbers distinct plan agree
+plans-same world snapshot numbers plan distinct ends agree = plan_same world snapshot numbers distinct ends plan agree

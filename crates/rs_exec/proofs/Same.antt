@@ -17,7 +17,7 @@ use Rattle.rs_facts.specs.Condition.{Condition}
 use Rattle.rs_facts.specs.Fact.{Name, name_cmp, Names, Places, RowSet, none}
 use Rattle.rs_facts.specs.Insert.{same_name}
 use Rattle.rs_facts.specs.Operators.{mapped, chosen, dissolved, overlaid, covered, merged, without, windowed, carried}
-use Rattle.rs_facts.specs.Query.{World, overlaid_kind}
+use Rattle.rs_facts.specs.Query.{World, gapped_on, overlaid_kind}
 use Rattle.rs_facts.specs.Query as queries
 use Rattle.rs_facts.specs.WellFormed.{ArePiecesOn}
 use Rattle.rs_facts.proofs.RowSets.{either-way}
@@ -32,8 +32,8 @@ use Rattle.rs_plan.specs.declared.plan.PlannedPiece.{PlannedPiece}
 use Rattle.rs_plan.specs.declared.plan.PlannedWindow.{PlannedWindow}
 use Rattle.rs_plan.specs.declared.plan.PlannedWindow.TheVariants as windows
 use Rattle.rs_exec.specs.Snapshot.{Snapshot}
-use Rattle.rs_exec.specs.Meaning.{PlanMeaning, same_kind, table_of, leaf_meaning, where_meaning, dissolve_meaning, overlay_meaning, cover_meaning, merge_meaning, minus_meaning, window_meaning, transform_meaning, rows_together, kinds_together, widths_together, seen_through, seen_through_each, goes_forwards, carried_by, transformed}
-use Rattle.rs_exec.specs.Agreement.{IsNumberedTable, AgreesOn, AreDistinct, IsTheSame}
+use Rattle.rs_exec.specs.Meaning.{PlanMeaning, same_kind, table_of, leaf_meaning, where_meaning, dissolve_meaning, overlay_meaning, cover_meaning, merge_meaning, minus_meaning, window_meaning, transform_meaning, gaps_meaning, rows_together, kinds_together, widths_together, seen_through, seen_through_each, goes_forwards, carried_by, transformed}
+use Rattle.rs_exec.specs.Agreement.{IsNumberedTable, AgreesOn, HasItsEnds, AreDistinct, IsTheSame}
 use Rattle.rs_exec.proofs.Tests.{same-number, is-number}
 
 at_most : (a b : ℕ) → a ≤ b → nat_le a b ≡ true
@@ -101,6 +101,15 @@ module _ (world : World) (snapshot : Snapshot) (numbers : Names ℕ) where
     kind = first.kind;
     width = first.width;
     formed = λ formed. alike a b left right first second formed.0 formed.1 formed.2 formed.3;
+  }
+
+  -- the ends of a route are those of its number
+  pub gaps-same : HasItsEnds world snapshot numbers → (plan : PlanMeaning) (tree : plans.Plan) → Same plan tree → Same (gaps_meaning plan) (plans.gaps_node tree)
+  gaps-same ends plan tree same = record {
+    rows = λ route number there k. (λ i. gapped_on (sym (ends route number there) i) k (same.rows route number there k i));
+    kind = refl;
+    width = refl;
+    formed = same.formed;
   }
 
   -- ---- OVERLAY

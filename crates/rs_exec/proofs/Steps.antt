@@ -21,6 +21,7 @@ use Rattle.rs_exec.specs.Meaning.{PlanMeaning, same_kind, window_meaning}
 use Rattle.rs_exec.specs.Operand.{changed_meaning, paired_meaning}
 use Rattle.rs_exec.specs.declared.changes.Change.{Change}
 use Rattle.rs_exec.specs.declared.changes.Change.TheVariants as changes
+use Rattle.rs_exec.specs.declared.pairs.Kinds.{Kinds}
 use Rattle.rs_exec.specs.declared.pairs.Pairing.{Pairing}
 use Rattle.rs_exec.specs.declared.pairs.Pairing.TheVariants as pairings
 use Rattle.rs_exec.specs.Changes.{IsNarrow, changed_rows, IsChanged}
@@ -112,14 +113,14 @@ module _ (stands : Snapshots → Type 0) (version route : ℕ) where
   }
 
   pub paired-step : (pairing : Pairing) (left right : PlanMeaning) (one other made : List Stretch) → (paired_meaning pairing left right).is_well_formed ≡ true
-      → AreRowsOf stands version left route one → AreRowsOf stands version right route other → ArePaired pairing (one, other) made → AreRowsOf stands version (paired_meaning pairing left right) route made
+      → AreRowsOf stands version left route one → AreRowsOf stands version right route other → ArePaired pairing (record { left = left.kind; right = right.kind }) (one, other) made → AreRowsOf stands version (paired_meaning pairing left right) route made
   paired-step pairings.Overlay left right one other made formed first second is = record {
     means = λ snapshots there k. is.means k ∙ (λ i. paired_rows pairings.Overlay (first.means snapshots there k i) (second.means snapshots there k i));
-    shaped = record { sorted = is.sorted; placed = is.placed left.kind right.kind tt first.shaped.placed second.shaped.placed; wide = is.wide left.width right.width tt first.shaped.wide second.shaped.wide };
+    shaped = record { sorted = is.sorted; placed = is.placed tt first.shaped.placed second.shaped.placed; wide = is.wide left.width right.width tt first.shaped.wide second.shaped.wide };
   }
   paired-step (pairings.Cover m n) left right one other made formed first second is = record {
     means = λ snapshots there k. is.means k ∙ (λ i. paired_rows (pairings.Cover m n) (first.means snapshots there k i) (second.means snapshots there k i));
-    shaped = record { sorted = is.sorted; placed = is.placed left.kind right.kind kinds_same first.shaped.placed second.shaped.placed; wide = is.wide left.width right.width tt first.shaped.wide second.shaped.wide };
+    shaped = record { sorted = is.sorted; placed = is.placed kinds_same first.shaped.placed second.shaped.placed; wide = is.wide left.width right.width tt first.shaped.wide second.shaped.wide };
   }
     where
       kinds_same : left.kind ≡ right.kind
@@ -128,14 +129,14 @@ module _ (stands : Snapshots → Type 0) (version route : ℕ) where
           is_kind left.kind right.kind (and_parts (nat_le (m + n) COLUMNS && (m == left.width && n == right.width)) (same_kind left.kind right.kind) parts.1).1
   paired-step pairings.Merge left right one other made formed first second is = record {
     means = λ snapshots there k. is.means k ∙ (λ i. paired_rows pairings.Merge (first.means snapshots there k i) (second.means snapshots there k i));
-    shaped = record { sorted = is.sorted; placed = is.placed left.kind right.kind (is_kind left.kind right.kind alike.0) first.shaped.placed second.shaped.placed; wide = is.wide left.width right.width (is_same left.width right.width alike.1) first.shaped.wide second.shaped.wide };
+    shaped = record { sorted = is.sorted; placed = is.placed (is_kind left.kind right.kind alike.0) first.shaped.placed second.shaped.placed; wide = is.wide left.width right.width (is_same left.width right.width alike.1) first.shaped.wide second.shaped.wide };
   }
     where
       alike : (same_kind left.kind right.kind ≡ true) × ((left.width == right.width) ≡ true)
       alike = and_parts (same_kind left.kind right.kind) (left.width == right.width) (and_parts (left.is_well_formed && right.is_well_formed) (same_kind left.kind right.kind && left.width == right.width) formed).1
   paired-step pairings.Minus left right one other made formed first second is = record {
     means = λ snapshots there k. is.means k ∙ (λ i. paired_rows pairings.Minus (first.means snapshots there k i) (second.means snapshots there k i));
-    shaped = record { sorted = is.sorted; placed = is.placed left.kind right.kind tt first.shaped.placed second.shaped.placed; wide = is.wide left.width right.width tt first.shaped.wide second.shaped.wide };
+    shaped = record { sorted = is.sorted; placed = is.placed tt first.shaped.placed second.shaped.placed; wide = is.wide left.width right.width tt first.shaped.wide second.shaped.wide };
   }
 
 -- what stood for later snapshots stood for earlier ones

@@ -26,6 +26,10 @@ AgreesOn world snapshot numbers (numbered_table name number kind width) = IsNumb
 AgreesOn world snapshot numbers (numbered_route name number) = names.get numbers name ≡ Some number
 AgreesOn world snapshot numbers (numbered_index name number) = Unit {0}
 
+-- a route that is there has in the snapshot, by its number, the ends that it has in the world
+abbrev pub HasItsEnds : World → Snapshot → Names ℕ → Type 0
+HasItsEnds world snapshot numbers = (route : Name) (number : ℕ) → names.get numbers route ≡ Some number → names.get world.routes route ≡ snapshot.ends number
+
 -- the routes that are there have numbers of their own
 abbrev pub AreDistinct : Names ℕ → Type 0
 AreDistinct numbers = (one other : Name) (number : ℕ) → names.get numbers one ≡ Some number → names.get numbers other ≡ Some number → one ≡ other
@@ -39,4 +43,4 @@ pub record IsTheSame (world : World) (snapshot : Snapshot) (numbers : Names ℕ)
 
 -- a plan is the same by number and by name, where the numbers of what it names are right
 abbrev pub PlansAreTheSame : Type 0
-PlansAreTheSame = (world : World) (snapshot : Snapshot) (numbers : Names ℕ) (plan : Plan) → AreDistinct numbers → AllByRecursion (AgreesOn world snapshot numbers) (named_in plan) → IsTheSame world snapshot numbers (meaning_of plan) (plan_tree plan)
+PlansAreTheSame = (world : World) (snapshot : Snapshot) (numbers : Names ℕ) (plan : Plan) → AreDistinct numbers → HasItsEnds world snapshot numbers → AllByRecursion (AgreesOn world snapshot numbers) (named_in plan) → IsTheSame world snapshot numbers (meaning_of plan) (plan_tree plan)

@@ -22,8 +22,8 @@ abbrev pub windows_of_first : List (List PlannedWindow) → List PlannedWindow
 windows_of_first [] = []
 windows_of_first (windows ∷ others) = windows
 
--- Rows of an OVERLAY and of a MINUS are where those of its first operand are. Of COVER, MERGE and TRANSFORM none are told,
--- since each row may come from either operand or from another route.
+-- Rows of an OVERLAY and of a MINUS are where those of its first operand are. Of COVER, MERGE, TRANSFORM and GAPS none are
+-- told, since each row may come from either operand or from another route, and gaps are where no row is.
 abbrev pub windows_step : Plan-F (List PlannedWindow) → List PlannedWindow
 windows_step (Plan-F.Leaf leaf) = leaf.windows.items
 windows_step (Plan-F.Where conditions plan) = plan.value
@@ -34,6 +34,7 @@ windows_step (Plan-F.Merge left right) = []
 windows_step (Plan-F.Minus left right) = left.value
 windows_step (Plan-F.Window windows plan) = windows.items
 windows_step (Plan-F.Transform name pieces plan) = []
+windows_step (Plan-F.Gaps plan) = []
 
 abbrev pub windows_over : Plan → List PlannedWindow
 windows_over = fold-Plan (List PlannedWindow) windows_step

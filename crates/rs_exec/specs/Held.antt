@@ -37,28 +37,29 @@ AreEvaluated source old routes plan = λ rows. AreHeld (source.is old) routes.ve
 
 -- ---- operands of an OVERLAY one after another
 
--- rows on each of the routes that are together with further operands no wider than a row may be
-pub record CanOverlay (operands : List PlanMeaning) (numbers : List ℕ) (rows : List (Vec Span Global)) : Type 0 where
-  pub kind : Kind
+-- rows of this kind on each of the routes that are together with further operands no wider than a row may be
+pub record CanOverlay (kind : Kind) (operands : List PlanMeaning) (numbers : List ℕ) (rows : List (Vec Span Global)) : Type 0 where
   pub width : ℕ
   pub shaped : AllZip (λ number each. IsShaped kind width each) numbers rows
   pub fit : width + widths_together operands ≤ COLUMNS
   pub formed : list_all (λ plan. plan.is_well_formed) operands ≡ true
 
--- In each of the snapshots the new spans mean the rows of the operands, on the route, beside those of the old spans.
-pub record IsLaidOver (stands : Snapshots → Type 0) (version : ℕ) (operands : List PlanMeaning) (laid : ℕ × Vec Span Global) (new : Vec Span Global) : Type 0 where
+-- In each of the snapshots the new spans mean the rows of the operands, on the route, beside those of the old spans, which are of
+-- this kind.
+pub record IsLaidOver (stands : Snapshots → Type 0) (version : ℕ) (kind : Kind) (operands : List PlanMeaning) (laid : ℕ × Vec Span Global) (new : Vec Span Global) : Type 0 where
   pub means : (snapshots : Snapshots) → stands snapshots → (k : ℕ) → places_of (map seen new.items) k ≡ overlaid (places_of (map seen laid.1.items) k) (rows_together operands (snapshots version) laid.0 k)
-  pub shaped : (kind : Kind) (width : ℕ) → IsShaped kind width laid.1 → IsShaped (overlaid_kind kind (kinds_together operands)) (width + widths_together operands) new
+  pub shaped : (width : ℕ) → IsShaped kind width laid.1 → IsShaped (overlaid_kind kind (kinds_together operands)) (width + widths_together operands) new
 
 -- the same on each of several routes, in turn
-abbrev pub AreLaidOver : (Snapshots → Type 0) → ℕ → List PlanMeaning → List ℕ → List (Vec Span Global) → List (Vec Span Global) → Type 0
-AreLaidOver stands version operands numbers old new = AllZip (IsLaidOver stands version operands) (zip numbers old) new
+abbrev pub AreLaidOver : (Snapshots → Type 0) → ℕ → Kind → List PlanMeaning → List ℕ → List (Vec Span Global) → List (Vec Span Global) → Type 0
+AreLaidOver stands version kind operands numbers old new = AllZip (IsLaidOver stands version kind operands) (zip numbers old) new
 
--- In each of the snapshots the new spans mean the rows of one operand more, on the route, beside those of the old spans.
-pub record IsBeside (stands : Snapshots → Type 0) (version : ℕ) (next : PlanMeaning) (laid : ℕ × Vec Span Global) (new : Vec Span Global) : Type 0 where
+-- In each of the snapshots the new spans mean the rows of one operand more, on the route, beside those of the old spans, which are
+-- of this kind.
+pub record IsBeside (stands : Snapshots → Type 0) (version : ℕ) (kind : Kind) (next : PlanMeaning) (laid : ℕ × Vec Span Global) (new : Vec Span Global) : Type 0 where
   pub means : (snapshots : Snapshots) → stands snapshots → (k : ℕ) → places_of (map seen new.items) k ≡ overlaid (places_of (map seen laid.1.items) k) (next.rows (snapshots version) laid.0 k)
-  pub shaped : (kind : Kind) (width : ℕ) → IsShaped kind width laid.1 → IsShaped (overlaid_kind kind next.kind) (width + next.width) new
+  pub shaped : (width : ℕ) → IsShaped kind width laid.1 → IsShaped (overlaid_kind kind next.kind) (width + next.width) new
 
 -- the same on each of several routes, in turn
-abbrev pub AreBeside : (Snapshots → Type 0) → ℕ → PlanMeaning → List ℕ → List (Vec Span Global) → List (Vec Span Global) → Type 0
-AreBeside stands version next numbers old new = AllZip (IsBeside stands version next) (zip numbers old) new
+abbrev pub AreBeside : (Snapshots → Type 0) → ℕ → Kind → PlanMeaning → List ℕ → List (Vec Span Global) → List (Vec Span Global) → Type 0
+AreBeside stands version kind next numbers old new = AllZip (IsBeside stands version kind next) (zip numbers old) new

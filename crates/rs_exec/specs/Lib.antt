@@ -9,6 +9,7 @@ pub mod Changes
 pub mod Pairs
 pub mod Windows
 pub mod Carried
+pub mod Gaps
 pub mod Operand
 pub mod Agreement
 pub mod Elsewhere

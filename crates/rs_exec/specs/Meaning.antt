@@ -7,7 +7,7 @@ use Rattle.rs_value.specs.declared.column.TheConstants.{COLUMNS}
 use Rattle.rs_facts.specs.Condition.{Condition}
 use Rattle.rs_facts.specs.Fact.{RowSet, none, Places}
 use Rattle.rs_facts.specs.Operators.{mapped, chosen, dissolved, overlaid, covered, merged, without, windowed, carried}
-use Rattle.rs_facts.specs.Query.{overlaid_kind}
+use Rattle.rs_facts.specs.Query.{gapped_on, overlaid_kind}
 use Rattle.rs_planning.specs.Plan.{met_by_each, no_columns}
 use Rattle.rs_plan.specs.declared.plan.Leaf.{Leaf}
 use Rattle.rs_plan.specs.declared.plan.Plan.{Plan, fold-Plan}
@@ -166,6 +166,15 @@ transform_meaning pieces plan = record {
   is_well_formed = plan.is_well_formed && list_all goes_forwards pieces;
 }
 
+-- between the ends that the snapshot has for the route, where the operand has no row
+abbrev pub gaps_meaning : PlanMeaning → PlanMeaning
+gaps_meaning plan = record {
+  rows = λ snapshot route k. gapped_on (snapshot.ends route) k (plan.rows snapshot route k);
+  kind = kinds.Line;
+  width = 0;
+  is_well_formed = plan.is_well_formed;
+}
+
 -- one level, with the meaning of each operand in its place
 abbrev pub meaning_step : Plan-F PlanMeaning → PlanMeaning
 meaning_step (Plan-F.Leaf leaf) = leaf_meaning leaf
@@ -177,6 +186,7 @@ meaning_step (Plan-F.Merge left right) = merge_meaning left.value right.value
 meaning_step (Plan-F.Minus left right) = minus_meaning left.value right.value
 meaning_step (Plan-F.Window windows plan) = window_meaning windows.items plan.value
 meaning_step (Plan-F.Transform name pieces plan) = transform_meaning pieces.items plan.value
+meaning_step (Plan-F.Gaps plan) = gaps_meaning plan.value
 
 abbrev pub meaning_of : Plan → PlanMeaning
 meaning_of = fold-Plan PlanMeaning meaning_step

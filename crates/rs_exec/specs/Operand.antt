@@ -15,7 +15,7 @@ use Rattle.rs_exec.specs.declared.operand.Node.{Node}
 use Rattle.rs_exec.specs.declared.operand.Node.TheVariants as nodes
 use Rattle.rs_exec.specs.declared.pairs.Pairing.{Pairing}
 use Rattle.rs_exec.specs.declared.pairs.Pairing.TheVariants as pairings
-use Rattle.rs_exec.specs.Meaning.{PlanMeaning, rows_together, kinds_together, widths_together, meaning_of, leaf_meaning, where_meaning, dissolve_meaning, overlay_meaning, cover_meaning, merge_meaning, minus_meaning, window_meaning, transform_meaning}
+use Rattle.rs_exec.specs.Meaning.{PlanMeaning, rows_together, kinds_together, widths_together, meaning_of, leaf_meaning, where_meaning, dissolve_meaning, overlay_meaning, cover_meaning, merge_meaning, minus_meaning, window_meaning, transform_meaning, gaps_meaning}
 
 abbrev pub operand_meaning : Operand → PlanMeaning
 operand_meaning operand = meaning_of operand.plan.now
@@ -58,6 +58,7 @@ node_meaning (nodes.Overlaid back operands) = overlay_meaning back.now (operands
 node_meaning (nodes.Paired pairing left right) = paired_meaning pairing (operand_meaning left) (operand_meaning right)
 node_meaning (nodes.Seen windows operand) = window_meaning windows.now (operand_meaning operand)
 node_meaning (nodes.Carried pieces operand) = transform_meaning pieces.now (operand_meaning operand)
+node_meaning (nodes.Gaps operand) = gaps_meaning (operand_meaning operand)
 
 -- ---- how many nodes a plan has; an operand of an OVERLAY counts for one more
 
@@ -75,6 +76,7 @@ size_step (Plan-F.Merge left right) = suc (left.value + right.value)
 size_step (Plan-F.Minus left right) = suc (left.value + right.value)
 size_step (Plan-F.Window windows plan) = suc plan.value
 size_step (Plan-F.Transform name pieces plan) = suc plan.value
+size_step (Plan-F.Gaps plan) = suc plan.value
 
 abbrev pub size_of : Plan → ℕ
 size_of = fold-Plan ℕ size_step
@@ -92,3 +94,4 @@ node_size (nodes.Overlaid back operands) = suc (operands_size operands)
 node_size (nodes.Paired pairing left right) = suc (operand_size left + operand_size right)
 node_size (nodes.Seen windows operand) = suc (operand_size operand)
 node_size (nodes.Carried pieces operand) = suc (operand_size operand)
+node_size (nodes.Gaps operand) = suc (operand_size operand)

@@ -7,10 +7,11 @@ use Rattle.rs_facts.specs.declared.fact.Span.{Span}
 use Rattle.rs_facts.specs.Fact.{RowSet}
 use Rattle.rs_facts.specs.Operators.{overlaid, covered, merged, without}
 use Rattle.rs_facts.specs.Query.{overlaid_kind}
-use Rattle.rs_facts.specs.Runs.{Stretch}
+use Rattle.rs_facts.specs.Runs.{Stretch, AreRunsOf}
 use Rattle.rs_facts.specs.Spans.{seen, places_of, ArePlaced}
 use Rattle.rs_sweep.specs.Lists.{AreSorted, AreWide}
 use Rattle.rs_exec.specs.Routes.{AreShaped}
+use Rattle.rs_exec.specs.declared.pairs.Kinds.{Kinds}
 use Rattle.rs_exec.specs.declared.pairs.Pairing.{Pairing}
 use Rattle.rs_exec.specs.declared.pairs.Pairing.TheVariants as pairings
 
@@ -55,25 +56,27 @@ WidthsSuit (pairings.Cover m n) a b = Unit {0}
 WidthsSuit pairings.Merge m n = m ≡ n
 WidthsSuit pairings.Minus m n = Unit {0}
 
--- operands of some kinds and widths that the operator can take
-pub record CanPairSpans (pairing : Pairing) (left right : List Stretch) : Type 0 where
-  pub left_kind : Kind
-  pub right_kind : Kind
+-- operands of these kinds, and of some widths that the operator can take
+pub record CanPairSpans (pairing : Pairing) (kinds : Kinds) (left right : List Stretch) : Type 0 where
   pub left_width : ℕ
   pub right_width : ℕ
-  pub left_shaped : AreShaped left_kind left_width left
-  pub right_shaped : AreShaped right_kind right_width right
+  pub left_shaped : AreShaped kinds.left left_width left
+  pub right_shaped : AreShaped kinds.right right_width right
   pub fit : FitTogether pairing left_width right_width
 
-abbrev pub CanPair : Pairing → Vec Span Global → Vec Span Global → Type 0
-CanPair pairing left right = CanPairSpans pairing (map seen left.items) (map seen right.items)
+abbrev pub CanPair : Pairing → Kinds → Vec Span Global → Vec Span Global → Type 0
+CanPair pairing kinds left right = CanPairSpans pairing kinds (map seen left.items) (map seen right.items)
 
--- what the operator makes of the two lists of spans
-pub record ArePaired (pairing : Pairing) (operands : List Stretch × List Stretch) (made : List Stretch) : Type 0 where
+-- each operand is the maximal runs of what it means
+abbrev pub AreMaximal : Kinds → List Stretch → List Stretch → Type 0
+AreMaximal kinds left right = AreRunsOf kinds.left (places_of left) left × AreRunsOf kinds.right (places_of right) right
+
+-- what the operator makes of the two lists of spans, which are of these kinds
+pub record ArePaired (pairing : Pairing) (kinds : Kinds) (operands : List Stretch × List Stretch) (made : List Stretch) : Type 0 where
   pub means : (k : ℕ) → places_of made k ≡ paired_rows pairing (places_of operands.0 k) (places_of operands.1 k)
   pub sorted : AreSorted made
-  pub placed : (a b : Kind) → KindsSuit pairing a b → ArePlaced a operands.0 → ArePlaced b operands.1 → ArePlaced (paired_kind pairing a b) made
+  pub placed : KindsSuit pairing kinds.left kinds.right → ArePlaced kinds.left operands.0 → ArePlaced kinds.right operands.1 → ArePlaced (paired_kind pairing kinds.left kinds.right) made
   pub wide : (m n : ℕ) → WidthsSuit pairing m n → AreWide m operands.0 → AreWide n operands.1 → AreWide (paired_width pairing m n) made
 
-abbrev pub IsPaired : Pairing → Vec Span Global × Vec Span Global → Vec Span Global → Type 0
-IsPaired pairing operands made = ArePaired pairing (map seen operands.0.items, map seen operands.1.items) (map seen made.items)
+abbrev pub IsPaired : Pairing → Kinds → Vec Span Global × Vec Span Global → Vec Span Global → Type 0
+IsPaired pairing kinds operands made = ArePaired pairing kinds (map seen operands.0.items, map seen operands.1.items) (map seen made.items)

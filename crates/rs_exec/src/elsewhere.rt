@@ -20,7 +20,8 @@ pub fn is_elsewhere(plan: &Plan, route: u32) -> bool
             is_elsewhere(operand, route)
         }
         Plan::Overlay(_, operands) => begins_elsewhere(operands.as_slice(), route),
-        Plan::Cover(_, _, _, _) | Plan::Merge(_, _) | Plan::Transform(_, _, _) => false,
+        Plan::Cover(_, _, _, _) | Plan::Merge(_, _) | Plan::Transform(_, _, _) | Plan::Gaps(_) =>
+            false,
     }
 }
 

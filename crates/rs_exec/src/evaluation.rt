@@ -10,7 +10,7 @@ ghost use Rattle.rs_facts.specs.Runs.{AreRunsOf};
 ghost use Rattle.rs_facts.specs.Spans.{seen, ArePlaced};
 ghost use Rattle.rs_sweep.specs.Lists.{AreWide};
 ghost use Rattle.rs_exec.specs.Snapshot.{Snapshots};
-ghost use Rattle.rs_exec.specs.Meaning.{rows_in, kind_in, width_in, is_well_formed, overlay_meaning, transform_meaning, window_meaning};
+ghost use Rattle.rs_exec.specs.Meaning.{rows_in, kind_in, width_in, is_well_formed, overlay_meaning, transform_meaning, window_meaning, gaps_meaning};
 ghost use Rattle.rs_exec.specs.Leaving.{EndsWith};
 ghost use Rattle.rs_exec.specs.Operand.{operand_meaning, operands_meaning, together_meaning, changed_meaning, paired_meaning};
 ghost use Rattle.rs_exec.specs.Held.{AreEvaluated, AreLaidOver, AreBeside, CanOverlay};
@@ -18,10 +18,11 @@ ghost use Rattle.rs_exec.specs.Routes.{numbers_of, list_of};
 
 use crate::carrying::{Sources, carried_on, sources_of};
 use crate::changes::{Change, are_in_order, changed_on};
-use crate::kinds::kind_of;
+use crate::complements::gaps_on;
+use crate::kinds::{kind_of, overlaid_kind};
 use crate::leaves::leaf_on;
 use crate::operand::{Node, Operand, Operands};
-use crate::pairs::{Pairing, paired_on};
+use crate::pairs::{Kinds, Pairing, paired_on};
 use crate::routes::{Routes, RowsOn, are_none, none_on};
 use crate::source::Source;
 use crate::windows::{cut, part_seen, spread_on};
@@ -29,6 +30,7 @@ use rs_coalesce::runs;
 use rs_facts::Span;
 use rs_plan::{Plan, PlannedPiece, PlannedWindow};
 use rs_refusal::Refusal;
+use rs_value::Kind;
 use std::alloc::Global;
 
 /// The maximal runs of a plan on the route of this number, as they were at a version, in printing order. Operands that
@@ -80,6 +82,7 @@ fn rows_on<S: Source>(
         }
         Node::Seen(windows, operand) => seen_rows(alloc, source, routes, windows, operand),
         Node::Carried(pieces, operand) => carried_rows(alloc, source, routes, pieces, operand),
+        Node::Gaps(operand) => gaps_rows(alloc, source, routes, operand),
     }
 }
 
@@ -117,9 +120,13 @@ fn paired_rows<S: Source>(
         (paired_meaning pairing (operand_meaning left.entry) (operand_meaning right.entry))) }
     ensures ends { EndsWith S.Source source.old source.new result }
 {
+    let kinds = Kinds {
+        left: left.kind(),
+        right: right.kind(),
+    };
     let left_rows = rows_on(alloc, source, routes, left)?;
     let right_rows = rows_on(alloc, source, routes, right)?;
-    let paired = paired_on(alloc, pairing, left_rows, right_rows)?;
+    let paired = paired_on(alloc, pairing, kinds, left_rows, right_rows)?;
     Ok(paired)
 }
 
@@ -163,22 +170,24 @@ fn rows_together<S: Source>(
         (together_meaning (operand_meaning first.entry ∷ operands_meaning others.entry))) }
     ensures ends { EndsWith S.Source source.old source.new result }
 {
+    let kind = first.kind();
     let rows = rows_on(alloc, source, routes, first)?;
-    overlaid_with(alloc, source, routes, rows, others)
+    overlaid_with(alloc, source, routes, kind, rows, others)
 }
 
-/// The rows, on each of the routes, with those of further operands beside them. Where no rows are left, no further
-/// operand is evaluated.
+/// The rows, which are of this kind, on each of the routes, with those of further operands beside them. Where no rows are
+/// left, no further operand is evaluated.
 #[cycle(rows)]
 fn overlaid_with<S: Source>(
     alloc: Global,
     source: &mut S,
     routes: Routes<'_>,
+    kind: Kind,
     rows: RowsOn,
     operands: Operands<'_>,
 ) -> Result<RowsOn, Refusal>
-    requires can { CanOverlay (operands_meaning operands) (numbers_of routes) (list_of rows) }
-    ensures laid { IfOk result (λ overlaid. AreLaidOver (S.is source.old) routes.entry.version (operands_meaning operands.entry)
+    requires can { CanOverlay kind (operands_meaning operands) (numbers_of routes) (list_of rows) }
+    ensures laid { IfOk result (λ overlaid. AreLaidOver (S.is source.old) routes.entry.version kind (operands_meaning operands.entry)
         (numbers_of routes.entry) (list_of rows) (list_of overlaid)) }
     ensures ends { EndsWith S.Source source.old source.new result }
 {
@@ -188,26 +197,32 @@ fn overlaid_with<S: Source>(
     let Some((next, others)) = operands.next() else {
         return Ok(rows);
     };
-    let laid = laid_with(alloc, source, routes, rows, next)?;
-    overlaid_with(alloc, source, routes, laid, others)
+    let laid_kind = overlaid_kind(kind, next.kind());
+    let laid = laid_with(alloc, source, routes, kind, rows, next)?;
+    overlaid_with(alloc, source, routes, laid_kind, laid, others)
 }
 
-/// The rows, on each of the routes, with those of one operand more beside them.
+/// The rows, which are of this kind, on each of the routes, with those of one operand more beside them.
 #[cycle(rows)]
 fn laid_with<S: Source>(
     alloc: Global,
     source: &mut S,
     routes: Routes<'_>,
+    kind: Kind,
     rows: RowsOn,
     next: Operand<'_>,
 ) -> Result<RowsOn, Refusal>
-    requires can { CanOverlay (operand_meaning next ∷ []) (numbers_of routes) (list_of rows) }
-    ensures beside { IfOk result (λ laid. AreBeside (S.is source.old) routes.entry.version (operand_meaning next.entry)
+    requires can { CanOverlay kind (operand_meaning next ∷ []) (numbers_of routes) (list_of rows) }
+    ensures beside { IfOk result (λ laid. AreBeside (S.is source.old) routes.entry.version kind (operand_meaning next.entry)
         (numbers_of routes.entry) (list_of rows) (list_of laid)) }
     ensures ends { EndsWith S.Source source.old source.new result }
 {
+    let kinds = Kinds {
+        left: kind,
+        right: next.kind(),
+    };
     let right = rows_on(alloc, source, routes, next)?;
-    let paired = paired_on(alloc, Pairing::Overlay, rows, right)?;
+    let paired = paired_on(alloc, Pairing::Overlay, kinds, rows, right)?;
     Ok(paired)
 }
 
@@ -277,4 +292,21 @@ fn carried_rows<S: Source>(
     };
     let carried = carried_on(alloc, &sources, routes)?;
     Ok(carried)
+}
+
+/// Where an operand has no row between the ends of the routes, on each of them.
+#[cycle(rows)]
+fn gaps_rows<S: Source>(
+    alloc: Global,
+    source: &mut S,
+    routes: Routes<'_>,
+    operand: Operand<'_>,
+) -> Result<RowsOn, Refusal>
+    requires well_formed { (gaps_meaning (operand_meaning operand)).is_well_formed ≡ true }
+    ensures held { IfOk result (AreEvaluated S.Source source.old routes.entry (gaps_meaning (operand_meaning operand.entry))) }
+    ensures ends { EndsWith S.Source source.old source.new result }
+{
+    let rows = rows_on(alloc, source, routes, operand)?;
+    let gaps = gaps_on(alloc, source, routes, rows)?;
+    Ok(gaps)
 }

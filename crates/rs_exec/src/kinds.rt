@@ -14,6 +14,7 @@ pub fn kind_of(plan: &Plan) -> Kind
 {
     match plan {
         Plan::Leaf(leaf) => leaf.table.kind,
+        Plan::Gaps(_) => Kind::Line,
         Plan::Overlay(_, operands) => kind_together(operands.as_slice()),
         Plan::Where(_, operand)
         | Plan::Dissolve(_, operand)
@@ -38,7 +39,7 @@ fn kind_together(operands: &[Plan]) -> Kind
 }
 
 /// The kind of what two kinds of rows have in common: lines of two lists of lines, and else points.
-fn overlaid_kind(left: Kind, right: Kind) -> Kind
+pub(crate) fn overlaid_kind(left: Kind, right: Kind) -> Kind
     ensures { result ≡ overlaid_kind left right }
 {
     match (left, right) {

@@ -6,6 +6,7 @@
 
 mod carrying;
 mod changes;
+mod complements;
 mod copies;
 pub mod elsewhere;
 pub mod evaluation;

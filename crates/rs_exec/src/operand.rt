@@ -39,6 +39,8 @@ pub(crate) enum Node<'a> {
     Seen(&'a [PlannedWindow], Operand<'a>),
     /// The rows carried by the pieces.
     Carried(&'a [PlannedPiece], Operand<'a>),
+    /// The row without columns where there is no row.
+    Gaps(Operand<'a>),
 }
 
 impl<'a> Operand<'a> {
@@ -83,6 +85,7 @@ impl<'a> Operand<'a> {
             }
             Plan::Window(windows, operand) => Node::Seen(windows, Operand::of(operand)),
             Plan::Transform(_, pieces, operand) => Node::Carried(pieces, Operand::of(operand)),
+            Plan::Gaps(operand) => Node::Gaps(Operand::of(operand)),
         }
     }
 }

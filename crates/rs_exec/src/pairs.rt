@@ -4,13 +4,15 @@ ghost use Rattle.std.specs.Prelude.{IfOk, map};
 ghost use Rattle.std.specs.List.{AllZip, zip};
 ghost use Rattle.rs_coalesce.specs.Lent.{seen_lent};
 ghost use Rattle.rs_facts.specs.Spans.{seen};
+ghost use Rattle.rs_exec.specs.declared.pairs.Kinds.{Kinds as two_kinds};
 ghost use Rattle.rs_exec.specs.Routes.{list_of};
-ghost use Rattle.rs_exec.specs.Pairs.{CanPair, CanPairSpans, IsPaired, ArePaired};
+ghost use Rattle.rs_exec.specs.Pairs.{CanPair, CanPairSpans, IsPaired, ArePaired, AreMaximal};
 
 use crate::routes::RowsOn;
-use rs_coalesce::lent;
+use rs_coalesce::{lent, runs};
 use rs_facts::Span;
 use rs_sweep::{cover, merge, minus, overlay};
+use rs_value::Kind;
 use std::alloc::{AllocError, Global};
 
 /// An operator of two operands.
@@ -26,18 +28,28 @@ pub(crate) enum Pairing {
     Minus,
 }
 
+/// Whether the rows of the operands are points or lines.
+#[derive(Clone, Copy)]
+pub(crate) struct Kinds {
+    /// Those of the first.
+    pub(crate) left: Kind,
+    /// Those of the second.
+    pub(crate) right: Kind,
+}
+
 /// On each route what the operator makes of the operands' rows there. The only refusal is for want of memory.
 pub(crate) fn paired_on(
     alloc: Global,
     pairing: Pairing,
+    kinds: Kinds,
     left: RowsOn,
     right: RowsOn,
 ) -> Result<RowsOn, AllocError>
-    requires { AllZip (CanPair pairing) (list_of left) (list_of right) }
-    ensures { IfOk result (λ made. AllZip (IsPaired pairing) (zip (list_of left) (list_of right)) (list_of made)) }
+    requires { AllZip (CanPair pairing kinds) (list_of left) (list_of right) }
+    ensures { IfOk result (λ made. AllZip (IsPaired pairing kinds) (zip (list_of left) (list_of right)) (list_of made)) }
 {
-    let first = paired(alloc, pairing, left.first, right.first)?;
-    let others = paired_each(alloc, pairing, left.others, right.others)?;
+    let first = paired(alloc, pairing, kinds, left.first, right.first)?;
+    let others = paired_each(alloc, pairing, kinds, left.others, right.others)?;
     Ok(RowsOn { first, others })
 }
 
@@ -45,41 +57,48 @@ pub(crate) fn paired_on(
 fn paired_each(
     alloc: Global,
     pairing: Pairing,
+    kinds: Kinds,
     lefts: Vec<Vec<Span>>,
     rights: Vec<Vec<Span>>,
 ) -> Result<Vec<Vec<Span>>, AllocError>
-    requires { AllZip (CanPair pairing) lefts.items rights.items }
-    ensures { IfOk result (λ made. AllZip (IsPaired pairing) (zip lefts.items rights.items) made.items) }
+    requires { AllZip (CanPair pairing kinds) lefts.items rights.items }
+    ensures { IfOk result (λ made. AllZip (IsPaired pairing kinds) (zip lefts.items rights.items) made.items) }
 {
     let mut made = Vec::new(alloc);
     let mut rights = rights.into_iter();
     for left in lefts {
         let right = rights.next().unwrap();
-        made.push(paired(alloc, pairing, left, right)?)?;
+        made.push(paired(alloc, pairing, kinds, left, right)?)?;
     }
     Ok(made)
 }
 
-/// What the operator makes of the operands' rows on one route.
+/// What the operator makes of the operands' rows on one route. Each row of one operand meets each of the other in an OVERLAY
+/// and a COVER, so these are given maximal runs, in which no row is twice at a place.
 fn paired(
     alloc: Global,
     pairing: Pairing,
+    kinds: Kinds,
     left: Vec<Span>,
     right: Vec<Span>,
 ) -> Result<Vec<Span>, AllocError>
-    requires { CanPair pairing left right }
-    ensures { IfOk result (IsPaired pairing (left, right)) }
+    requires { CanPair pairing kinds left right }
+    ensures { IfOk result (IsPaired pairing kinds (left, right)) }
 {
     match pairing {
         Pairing::Overlay => {
-            let lower = lent(alloc, &left)?;
-            let upper = lent(alloc, &right)?;
-            overlaid(alloc, &lower, &upper)
+            let left_runs = runs(kinds.left, left);
+            let right_runs = runs(kinds.right, right);
+            let lower = lent(alloc, &left_runs)?;
+            let upper = lent(alloc, &right_runs)?;
+            overlaid(alloc, kinds, &lower, &upper)
         }
         Pairing::Cover(left_width, right_width) => {
-            let lower = lent(alloc, &left)?;
-            let upper = lent(alloc, &right)?;
-            covered(alloc, left_width, right_width, &lower, &upper)
+            let left_runs = runs(kinds.left, left);
+            let right_runs = runs(kinds.right, right);
+            let lower = lent(alloc, &left_runs)?;
+            let upper = lent(alloc, &right_runs)?;
+            covered(alloc, kinds, (left_width, right_width), &lower, &upper)
         }
         Pairing::Merge => merged(left, right),
         Pairing::Minus => {
@@ -90,9 +109,15 @@ fn paired(
 }
 
 /// Each row of the left before each row of the right.
-fn overlaid(alloc: Global, lower: &[&Span], upper: &[&Span]) -> Result<Vec<Span>, AllocError>
-    requires { CanPairSpans Pairing.Overlay (map seen_lent lower.now) (map seen_lent upper.now) }
-    ensures { IfOk result (λ made. ArePaired Pairing.Overlay (map seen_lent lower.now, map seen_lent upper.now)
+fn overlaid(
+    alloc: Global,
+    kinds: Kinds,
+    lower: &[&Span],
+    upper: &[&Span],
+) -> Result<Vec<Span>, AllocError>
+    requires can { CanPairSpans Pairing.Overlay kinds (map seen_lent lower.now) (map seen_lent upper.now) }
+    requires runs { AreMaximal kinds (map seen_lent lower.now) (map seen_lent upper.now) }
+    ensures { IfOk result (λ made. ArePaired Pairing.Overlay kinds (map seen_lent lower.now, map seen_lent upper.now)
         (map seen made.items)) }
 {
     let (spans, _) = overlay(alloc, lower, upper)?;
@@ -102,24 +127,25 @@ fn overlaid(alloc: Global, lower: &[&Span], upper: &[&Span]) -> Result<Vec<Span>
 /// The same, and where one side alone has rows, these beside NULLs, for operands of these widths.
 fn covered(
     alloc: Global,
-    left_width: u8,
-    right_width: u8,
+    kinds: Kinds,
+    widths: (u8, u8),
     lower: &[&Span],
     upper: &[&Span],
 ) -> Result<Vec<Span>, AllocError>
-    requires { CanPairSpans (Pairing.Cover left_width right_width) (map seen_lent lower.now) (map seen_lent upper.now) }
-    ensures { IfOk result (λ made. ArePaired (Pairing.Cover left_width right_width)
+    requires can { CanPairSpans (Pairing.Cover widths.0 widths.1) kinds (map seen_lent lower.now) (map seen_lent upper.now) }
+    requires runs { AreMaximal kinds (map seen_lent lower.now) (map seen_lent upper.now) }
+    ensures { IfOk result (λ made. ArePaired (Pairing.Cover widths.0 widths.1) kinds
         (map seen_lent lower.now, map seen_lent upper.now) (map seen made.items)) }
 {
-    let (first_width, second_width) = (usize::from(left_width), usize::from(right_width));
+    let (first_width, second_width) = (usize::from(widths.0), usize::from(widths.1));
     let spans = cover(alloc, lower, upper, first_width, second_width)?;
     Ok(spans)
 }
 
 /// The rows of either.
 fn merged(left: Vec<Span>, right: Vec<Span>) -> Result<Vec<Span>, AllocError>
-    requires { CanPair Pairing.Merge left right }
-    ensures { IfOk result (IsPaired Pairing.Merge (left, right)) }
+    requires { (kinds : two_kinds) × CanPair Pairing.Merge kinds left right }
+    ensures { IfOk result (λ made. (kinds : two_kinds) → IsPaired Pairing.Merge kinds (left, right) made) }
 {
     let spans = merge(left, right)?;
     Ok(spans)
@@ -127,9 +153,9 @@ fn merged(left: Vec<Span>, right: Vec<Span>) -> Result<Vec<Span>, AllocError>
 
 /// The rows of the left that the right does not have.
 fn without(alloc: Global, left: Vec<Span>, upper: &[&Span]) -> Result<Vec<Span>, AllocError>
-    requires { CanPairSpans Pairing.Minus (map seen left.items) (map seen_lent upper.now) }
-    ensures { IfOk result (λ made. ArePaired Pairing.Minus (map seen left.items, map seen_lent upper.now)
-        (map seen made.items)) }
+    requires { (kinds : two_kinds) × CanPairSpans Pairing.Minus kinds (map seen left.items) (map seen_lent upper.now) }
+    ensures { IfOk result (λ made. (kinds : two_kinds) → ArePaired Pairing.Minus kinds
+        (map seen left.items, map seen_lent upper.now) (map seen made.items)) }
 {
     let spans = minus(alloc, left, upper)?;
     Ok(spans)

@@ -2,12 +2,13 @@
 //!
 //! Which snapshots it stands for is a relation, since a source may keep what no value of its own shows.
 
-ghost use Rattle.std.specs.Prelude.{IfOk, IfErr, map};
+ghost use Rattle.std.specs.Prelude.{◌≡◌, IfOk, IfErr, map};
 ghost use Rattle.rs_refusal.specs.declared.refusal.Refusal.{Refusal};
 ghost use Rattle.rs_facts.specs.Spans.{seen};
 ghost use Rattle.rs_exec.specs.Snapshot.{Snapshots};
 ghost use Rattle.rs_exec.specs.Given.{AreGiven, AreGivenOfValue};
 
+use rs_catalog::Ends;
 use rs_facts::Span;
 use rs_refusal::Refusal;
 use rs_value::{Kind, Literal};
@@ -53,7 +54,7 @@ pub struct SoughtValue<'a> {
     pub value: &'a Literal,
 }
 
-/// What gives the spans of tables.
+/// What gives the spans of tables, and the ends of routes.
 ///
 /// Whatever is asked for, the spans that are given are points or lines as the kind says, and as wide as the width. A
 /// table of another kind or width than it is asked for has no rows.
@@ -91,6 +92,10 @@ pub trait Source {
 
     /// The place of the column that the index of this number is of. It is a hint: a wrong one costs time alone.
     fn indexed_column(&self, index: u32) -> Option<u8>;
+
+    /// Where the route of this number starts and ends, at a version; none where it is not there. It takes no memory.
+    fn ends_at(&self, route: u32, version: u64) -> Option<Ends>
+        ensures { (snapshots : Snapshots) → is self.now snapshots → result ≡ (snapshots version).ends route };
 
     /// Where nothing happens, it passes.
     ghost passes_refl: { (source : Self) → passes source source };

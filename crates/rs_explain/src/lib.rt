@@ -149,8 +149,8 @@ pub fn explain(refusal: &Refusal) -> Explanation {
             mended: "0 INSERT INTO pavement ON SR12 FROM 4 TO 4.1 VALUES ('asphalt', 2011)",
         },
         Refusal::PointOrLineWanted => Explanation {
-            meaning: "A point was given where the table holds lines, or a line where it holds points.",
-            look: "AT is for a POINT TABLE, FROM and TO are for a LINE TABLE.",
+            meaning: "A point was given where the table holds lines, or a line where it holds points, or GAPS was asked of points.",
+            look: "AT is for a POINT TABLE, FROM and TO are for a LINE TABLE; GAPS takes lines.",
             refused: "0 INSERT INTO pavement ON SR12 AT 4 VALUES ('asphalt', 2011)",
             mended: "0 INSERT INTO pavement ON SR12 FROM 4 TO 5 VALUES ('asphalt', 2011)",
         },

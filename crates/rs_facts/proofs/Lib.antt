@@ -14,6 +14,7 @@ pub mod Inside
 mod KeptRuns
 pub mod RowSets
 mod OperatorRows
+pub mod Gapping
 pub mod Carrying
 pub mod Transforming
 pub mod KeptColumns

@@ -171,7 +171,7 @@ overlaid_none_right a b row e =
 mapped_none : (change : Row → Row) (a : RowSet) (row : Row) → has_none a ≡ true → contains (mapped change a) row ≡ false
 mapped_none change a row e = contains-mapped change a row ∙ any_none (λ from. same_row (change from) row) (items a) e
 
-not_any : (a : RowSet) (t : Bool) → has_none a ≡ t → not (any_row a) ≡ t
+pub not_any : (a : RowSet) (t : Bool) → has_none a ≡ t → not (any_row a) ≡ t
 not_any a t e = sym (none_any (items a)) ∙ e
 
 -- COVER is OVERLAY and what either side has alone

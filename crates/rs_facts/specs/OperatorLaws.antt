@@ -1,9 +1,9 @@
 -- What the operators make, said of single rows.
-use Rattle.std.specs.Prelude.{◌≡◌, ◌↔◌, ℕ, ◌+◌, ◌-◌, ◌<◌, ◌≤◌, not, ◌&&◌, ◌||◌, IsTrue, List, ◌++◌, Contains}
+use Rattle.std.specs.Prelude.{◌≡◌, ◌↔◌, ℕ, ◌+◌, ◌-◌, ◌<◌, ◌≤◌, not, ◌&&◌, ◌||◌, IsTrue, List, [], ◌++◌, Contains}
 use Rattle.rs_value.specs.Row.{Row}
 use Rattle.rs_facts.specs.Fact.{Name, RowSet, none, contains, Places, Facts}
 use Rattle.rs_facts.specs.Insert.{within}
-use Rattle.rs_facts.specs.Operators.{from_rows, mapped, nulls, chosen, dissolved, overlaid, covered, merged, without, windowed, carried}
+use Rattle.rs_facts.specs.Operators.{from_rows, mapped, nulls, chosen, dissolved, overlaid, covered, merged, without, windowed, carried, gapped}
 use Rattle.rs_facts.specs.Query.{Piece, transformed}
 
 -- a row of the first before a row of the second
@@ -39,6 +39,13 @@ pub record IsTransformed (pieces : List Piece) (facts : Facts) (route : Name) (j
 pub record HasRow (rows : RowSet) : Type 0 where
   pub row : Row
   pub among : IsTrue (contains rows row)
+
+-- the row without columns, at a thousandth between the ends at which the set has no row
+pub record IsGap (start finish k : ℕ) (rows : RowSet) (row : Row) : Type 0 where
+  pub from_start : start ≤ k
+  pub before_finish : k < finish
+  pub no_row : HasRow rows → ⊥
+  pub no_columns : row ≡ []
 
 -- the set of a list has its rows and no other
 abbrev pub SetsHaveTheirRows : Type 0
@@ -87,3 +94,7 @@ CarriedRowsAreThose = (from to onto : ℕ) (places : Places) (j : ℕ) (row : Ro
 -- TRANSFORM has at a thousandth of a route what some piece carries there, and no other row
 abbrev pub TransformedRowsAreThose : Type 0
 TransformedRowsAreThose = (pieces : List Piece) (facts : Facts) (route : Name) (j : ℕ) (row : Row) → IsTrue (contains (transformed pieces facts route j) row) ↔ IsTransformed pieces facts route j row
+
+-- GAPS has between the ends the row without columns wherever there is no row, and no other row
+abbrev pub GapsAreWhereNoRowIs : Type 0
+GapsAreWhereNoRowIs = (start finish k : ℕ) (rows : RowSet) (row : Row) → IsTrue (contains (gapped start finish k rows) row) ↔ IsGap start finish k rows row

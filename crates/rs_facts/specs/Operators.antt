@@ -57,6 +57,15 @@ without a b = keep (λ row. not (contains b row)) a
 unfoldable pub windowed : ℕ → ℕ → ℕ → RowSet → RowSet
 windowed lo hi k rows = if within lo hi k then rows else none
 
+-- the row without columns
+abbrev pub no_columns : RowSet
+no_columns = add none []
+
+-- GAPS between the ends of a route: the row without columns at k with start ≤ k < finish where there is no row, and
+-- nothing elsewhere
+unfoldable pub gapped : ℕ → ℕ → ℕ → RowSet → RowSet
+gapped start finish k rows = windowed start finish k (if has_none rows then no_columns else none)
+
 -- TRANSFORM, by one piece of an alignment: the thousandth `from` is carried to `onto`, and each k with from ≤ k < to as
 -- far past it. At j are the rows of every k that is carried there.
 unfoldable pub carried : ℕ → ℕ → ℕ → Places → Places

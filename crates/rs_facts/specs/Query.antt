@@ -10,7 +10,7 @@ use Rattle.rs_value.specs.declared.column.ColumnType.TheVariants as types
 use Rattle.rs_facts.specs.Fact.{Name, Names, RowSet, none, keep, Facts, no_facts}
 use Rattle.rs_facts.specs.Insert.{same_name}
 use Rattle.rs_facts.specs.Condition.{Condition, meets}
-use Rattle.rs_facts.specs.Operators.{dissolved, overlaid, covered, merged, without, windowed, carried}
+use Rattle.rs_facts.specs.Operators.{dissolved, overlaid, covered, merged, without, windowed, carried, gapped}
 
 -- where a route starts and where it ends, in thousandths
 pub record RouteEnds : Type 0 where
@@ -56,6 +56,7 @@ pub data Query : Type 0 where
   minus_rows : Query → Query → Query
   window_rows : Query → Window → Query
   transform_rows : Query → Name → List Piece → Query  -- the alignment's name, its pieces
+  gaps_rows : Query → Query
 
 abbrev pub facts_of : Option Table → Facts
 facts_of (Some table) = table.facts
@@ -83,6 +84,11 @@ abbrev pub transformed : List Piece → Facts → Facts
 transformed [] facts route j = none
 transformed (piece ∷ pieces) facts route j = merged (carried_by piece facts route j) (transformed pieces facts route j)
 
+-- GAPS on a route by its ends; nothing where there is no route
+abbrev pub gapped_on : Option RouteEnds → ℕ → RowSet → RowSet
+gapped_on (Some ends) k rows = gapped ends.start ends.finish k rows
+gapped_on None k rows = none
+
 -- which rows the query has on a route at a thousandth
 abbrev pub rows_at : World → Query → Name → ℕ → RowSet
 rows_at world (table_rows name) route k = facts_of (names.get world.tables name) route k
@@ -95,6 +101,7 @@ rows_at world (merge_rows a b) route k = merged (rows_at world a route k) (rows_
 rows_at world (minus_rows a b) route k = without (rows_at world a route k) (rows_at world b route k)
 rows_at world (window_rows query window) route k = seen_through window route k (rows_at world query route k)
 rows_at world (transform_rows query name pieces) route k = transformed pieces (rows_at world query) route k
+rows_at world (gaps_rows query) route k = gapped_on (names.get world.routes route) k (rows_at world query route k)
 
 -- lines over lines make lines; where either has points, points
 abbrev pub overlaid_kind : Kind → Kind → Kind
@@ -115,6 +122,7 @@ kind_of world (merge_rows a b) = kind_of world a
 kind_of world (minus_rows a b) = kind_of world a
 kind_of world (window_rows query window) = kind_of world query
 kind_of world (transform_rows query name pieces) = kind_of world query
+kind_of world (gaps_rows query) = kinds.Line
 
 -- the column at a place; past the end one without a name
 abbrev pub column_at : List Column → ℕ → Column
@@ -136,3 +144,4 @@ columns_of world (merge_rows a b) = columns_of world a
 columns_of world (minus_rows a b) = columns_of world a
 columns_of world (window_rows query window) = columns_of world query
 columns_of world (transform_rows query name pieces) = columns_of world query
+columns_of world (gaps_rows query) = []

@@ -4,7 +4,7 @@ use Rattle.std.specs.List.{AllByRecursion}
 use Rattle.std.specs.FinMap as names
 use Rattle.rs_value.specs.declared.column.TheConstants.{COLUMNS}
 use Rattle.rs_facts.specs.Fact.{Names}
-use Rattle.rs_facts.specs.Query.{RouteEnds, Table, World, Piece, Query, table_rows, where_rows, dissolve_rows, rename_column, overlay_rows, cover_rows, merge_rows, minus_rows, window_rows, transform_rows, kind_of, columns_of}
+use Rattle.rs_facts.specs.Query.{RouteEnds, Table, World, Piece, Query, table_rows, where_rows, dissolve_rows, rename_column, overlay_rows, cover_rows, merge_rows, minus_rows, window_rows, transform_rows, gaps_rows, kind_of, columns_of}
 
 -- how wide the query's rows are
 abbrev pub width_of : World → Query → ℕ
@@ -39,3 +39,4 @@ IsWellFormed world (merge_rows a b) = IsWellFormed world a × IsWellFormed world
 IsWellFormed world (minus_rows a b) = IsWellFormed world a × IsWellFormed world b × (kind_of world a ≡ kind_of world b) × (width_of world a ≡ width_of world b)
 IsWellFormed world (window_rows query window) = IsWellFormed world query
 IsWellFormed world (transform_rows query name pieces) = IsWellFormed world query × ArePiecesOn world.routes pieces
+IsWellFormed world (gaps_rows query) = IsWellFormed world query

@@ -15,6 +15,7 @@ ghost use Rattle.rs_facts.specs.OperatorLaws.{
   WindowedRowsAreInside,
   CarriedRowsAreThose,
   TransformedRowsAreThose,
+  GapsAreWhereNoRowIs,
 };
 
 /// The set of a list has its rows and no others.
@@ -67,4 +68,9 @@ pub fn carried_rows_are_those()
 /// TRANSFORM has at a thousandth of a route the rows that some piece carries there, and no others.
 pub fn transformed_rows_are_those()
     ensures { TransformedRowsAreThose }
+{}
+
+/// GAPS has between the ends of a route the row without columns wherever there is no row, and no other row.
+pub fn gaps_are_where_no_row_is()
+    ensures { GapsAreWhereNoRowIs }
 {}

@@ -189,11 +189,15 @@ window_query_form = operand_query_form (sub window (need kinds.RightParen done))
 abbrev pub transform_form : Form
 transform_form = operand_query_form (need kinds.Name (need kinds.RightParen done))
 
+-- a query in brackets, alone
+abbrev pub gaps_form : Form
+gaps_form = need kinds.LeftParen (sub query (need kinds.RightParen done))
+
 abbrev pub query_form : Form
 query_form =
     pick kinds.Where where_form (pick kinds.Dissolve dissolve_form (pick kinds.Rename rename_form
     (pick kinds.Overlay pair_form (pick kinds.Cover pair_form (pick kinds.Merge pair_form (pick kinds.Minus pair_form
-    (pick kinds.Window window_query_form (pick kinds.Transform transform_form (need kinds.Name done)))))))))
+    (pick kinds.Window window_query_form (pick kinds.Transform transform_form (pick kinds.Gaps gaps_form (need kinds.Name done))))))))))
 
 abbrev pub column_name_form : Form
 column_name_form = need kinds.Name done

@@ -5,16 +5,17 @@
 use Rattle.std.specs.Prelude.{ℕ, suc, ◌+◌, Bool, true, false, not, ◌&&◌, ◌||◌, nat_le, List, [], ◌∷◌, length, Option, Some, None, Result, Ok, if◌then◌else◌}
 use Rattle.std.specs.List.{list_any}
 use Rattle.rs_refusal.specs.declared.refusal.Refusal.{Refusal}
-use Rattle.rs_refusal.specs.declared.refusal.Refusal.TheVariants.{NoSuchName, NoSuchColumn, Limit, WrongValues, ColumnsDiffer, ColumnTwice, KindsDiffer}
+use Rattle.rs_refusal.specs.declared.refusal.Refusal.TheVariants.{NoSuchName, NoSuchColumn, Limit, PointOrLineWanted, WrongValues, ColumnsDiffer, ColumnTwice, KindsDiffer}
 use Rattle.rs_value.specs.declared.column.TheConstants.{COLUMNS}
+use Rattle.rs_value.specs.declared.column.Kind.TheVariants as kinds
 use Rattle.rs_value.specs.declared.column.ColumnType.{ColumnType}
 use Rattle.rs_value.specs.declared.column.ColumnType.TheVariants as types
 use Rattle.rs_value.specs.Row.{Datum, null, number, text, Row}
 use Rattle.rs_facts.specs.Fact.{Name}
 use Rattle.rs_facts.specs.Insert.{same_name}
 use Rattle.rs_facts.specs.Condition as conditions
-use Rattle.rs_facts.specs.Query.{Column, column_at, Window, on_route, between, Query, table_rows, where_rows, dissolve_rows, rename_column, overlay_rows, cover_rows, merge_rows, minus_rows, window_rows, transform_rows, kind_of, columns_of}
-use Rattle.rs_syntax.specs.Tree.{WindowTree, whole_route, part_of_route, OperandTree, column_named, written_value, ConditionTree, compare, is_null, is_not_null, negated, bracketed, both, either, QueryTree, named, filtered, dissolved, renamed, overlaid, covered, merged, subtracted, windowed, transformed}
+use Rattle.rs_facts.specs.Query.{Column, column_at, Window, on_route, between, Query, table_rows, where_rows, dissolve_rows, rename_column, overlay_rows, cover_rows, merge_rows, minus_rows, window_rows, transform_rows, gaps_rows, kind_of, columns_of}
+use Rattle.rs_syntax.specs.Tree.{WindowTree, whole_route, part_of_route, OperandTree, column_named, written_value, ConditionTree, compare, is_null, is_not_null, negated, bracketed, both, either, QueryTree, named, filtered, dissolved, renamed, overlaid, covered, merged, subtracted, windowed, transformed, gapped}
 use Rattle.rs_machine.specs.declared.limits.TheConstants.{NODES, DEPTH}
 use Rattle.rs_machine.specs.State.{State, world_of, has}
 use Rattle.rs_machine.specs.Checks.{◌>>=◌, unless, found, route_named, table_named, alignment_named, has_table_or_view, span_on, same_kind, some_name_twice, column_names}
@@ -175,6 +176,12 @@ window_checked state (part_of_route route from to) = do
   span ← span_on state route ends from to
   Ok (between route span.0 span.1)
 
+-- lines alone have gaps
+abbrev pub gaps_checked : State → Query → Result Query Refusal
+gaps_checked state query = do
+  _ ← unless (same_kind (kind_of (world_of state) query) kinds.Line) PointOrLineWanted
+  Ok (gaps_rows query)
+
 -- ---- the columns of totals
 
 -- the columns whose values make a group: 22 from the left, then 41
@@ -254,6 +261,9 @@ nodes_checked state (transformed operand alignment) = do
   query ← nodes_checked state operand
   pieces ← alignment_named state alignment
   Ok (transform_rows query alignment pieces)
+nodes_checked state (gapped operand) = do
+  query ← nodes_checked state operand
+  gaps_checked state query
 
 -- the query with its names looked up, or the first refusal
 abbrev pub checked : State → QueryTree → Result Query Refusal

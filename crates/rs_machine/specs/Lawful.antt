@@ -17,7 +17,7 @@ use Rattle.rs_facts.specs.Query.{RouteEnds, Column, Table, Piece, Query}
 use Rattle.rs_planning.specs.Basis.{IndexedColumn}
 use Rattle.rs_facts.specs.WellFormed.{ArePiecesOn}
 use Rattle.rs_syntax.specs.Sound.{IsName, AreColumns, IsQuery}
-use Rattle.rs_syntax.specs.Tree.{WindowTree, whole_route, part_of_route, QueryTree, named, filtered, dissolved, renamed, overlaid, covered, merged, subtracted, windowed, transformed}
+use Rattle.rs_syntax.specs.Tree.{WindowTree, whole_route, part_of_route, QueryTree, named, filtered, dissolved, renamed, overlaid, covered, merged, subtracted, windowed, transformed, gapped}
 use Rattle.rs_machine.specs.declared.limits.TheConstants.{ROUTES, REFERENTS, TABLES, INDEXES, VIEWS, ALIGNMENTS, PIECES, NODES, DEPTH, CHANGES, SESSIONS, CURSORS}
 use Rattle.rs_machine.specs.State.{Cursors, State, has}
 use Rattle.rs_machine.specs.Checks.{has_table_or_view, has_referent, column_names, column_types, window_route}
@@ -124,6 +124,7 @@ widened (merged a b) = merged (widened a) (widened b)
 widened (subtracted a b) = subtracted (widened a) (widened b)
 widened (windowed query window) = windowed (widened query) (whole_route (window_route window))
 widened (transformed query alignment) = transformed (widened query) alignment
+widened (gapped query) = gapped (widened query)
 
 -- A view that passes the checks of its DEFINE line, but that its windows lie on their routes: referents may have moved since.
 pub record IsViewMeant (state : State) (name : Name) (query : QueryTree) : Type 0 where

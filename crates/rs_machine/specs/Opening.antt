@@ -6,7 +6,7 @@ use Rattle.rs_methods.specs.Position.{PositionExpression, absolute, beyond, befo
 use Rattle.rs_facts.specs.Fact.{Name, Names}
 use Rattle.rs_facts.specs.Insert.{same_name}
 use Rattle.rs_facts.specs.Query.{Piece}
-use Rattle.rs_syntax.specs.Tree.{WindowTree, whole_route, part_of_route, QueryTree, named, filtered, dissolved, renamed, overlaid, covered, merged, subtracted, windowed, transformed}
+use Rattle.rs_syntax.specs.Tree.{WindowTree, whole_route, part_of_route, QueryTree, named, filtered, dissolved, renamed, overlaid, covered, merged, subtracted, windowed, transformed, gapped}
 use Rattle.rs_machine.specs.State.{State}
 
 -- ---- what a query names
@@ -23,6 +23,7 @@ names_in (merged a b) = names_in a ++ names_in b
 names_in (subtracted a b) = names_in a ++ names_in b
 names_in (windowed query window) = names_in query
 names_in (transformed query alignment) = names_in query
+names_in (gapped query) = names_in query
 
 -- the alignments, from the left, those inside first
 abbrev pub alignments_in : QueryTree → List Name
@@ -36,6 +37,7 @@ alignments_in (merged a b) = alignments_in a ++ alignments_in b
 alignments_in (subtracted a b) = alignments_in a ++ alignments_in b
 alignments_in (windowed query window) = alignments_in query
 alignments_in (transformed query alignment) = alignments_in query ++ alignment ∷ []
+alignments_in (gapped query) = alignments_in query
 
 -- the windows, from the left, those inside first
 abbrev pub windows_in : QueryTree → List WindowTree
@@ -49,6 +51,7 @@ windows_in (merged a b) = windows_in a ++ windows_in b
 windows_in (subtracted a b) = windows_in a ++ windows_in b
 windows_in (windowed query window) = windows_in query ++ window ∷ []
 windows_in (transformed query alignment) = windows_in query
+windows_in (gapped query) = windows_in query
 
 -- ---- opening
 
@@ -64,6 +67,7 @@ opened_once views (merged a b) = merged (opened_once views a) (opened_once views
 opened_once views (subtracted a b) = subtracted (opened_once views a) (opened_once views b)
 opened_once views (windowed query window) = windowed (opened_once views query) window
 opened_once views (transformed query alignment) = transformed (opened_once views query) alignment
+opened_once views (gapped query) = gapped (opened_once views query)
 
 abbrev pub opened_times : ℕ → Names QueryTree → QueryTree → QueryTree
 opened_times zero views query = query
@@ -95,6 +99,7 @@ nodes (merged a b) = nodes a + nodes b + 1
 nodes (subtracted a b) = nodes a + nodes b + 1
 nodes (windowed query window) = nodes query + 1
 nodes (transformed query alignment) = nodes query + 1
+nodes (gapped query) = nodes query + 1
 
 -- a table has depth 1, an operator one more than its deepest operand
 abbrev pub depth : QueryTree → ℕ
@@ -108,6 +113,7 @@ depth (merged a b) = max (depth a) (depth b) + 1
 depth (subtracted a b) = max (depth a) (depth b) + 1
 depth (windowed query window) = depth query + 1
 depth (transformed query alignment) = depth query + 1
+depth (gapped query) = depth query + 1
 
 -- ---- what views and alignments name
 

@@ -10,7 +10,7 @@ use Rattle.rs_machine.specs.Checks.{window_route}
 use Rattle.rs_machine.specs.Lawful.{Each, IsLawful}
 use Rattle.rs_machine.specs.Opening.{alignments_in, names_in, opened, windows_in}
 use Rattle.rs_machine.specs.State.{State}
-use Rattle.rs_syntax.specs.Tree.{QueryTree, WindowTree, covered, dissolved, filtered, merged, named, overlaid, renamed, subtracted, transformed, windowed}
+use Rattle.rs_syntax.specs.Tree.{QueryTree, WindowTree, covered, dissolved, filtered, gapped, merged, named, overlaid, renamed, subtracted, transformed, windowed}
 use Rattle.rs_machine.proofs.NameOrder.{name_cmp-total}
 use Rattle.rs_machine_laws.proofs.Names.{either_false, inserted_other, same_name-true, some_same}
 use Rattle.rs_machine_laws.proofs.Passing.{AlignmentKept, IsStill, Kept, Passing, RouteKept, TableKept, pass_on}
@@ -102,6 +102,7 @@ module _ (gone_table : Name → Bool) (gone_window : WindowTree → Bool) (gone_
     kept_but (transformed query alignment) none =
         let parts = none_split gone_alignment (alignments_in query) (alignment ∷ []) none.alignment in
         (kept_but query (record { table = none.table; window = none.window; alignment = parts.0 }), alignments alignment (either_false (gone_alignment alignment) false parts.1).0)
+    kept_but (gapped query) none = kept_but query none
 
     -- views that name nothing that is gone still pass
     pub pass_but : IsLawful old → Each old.views (λ name query. Spares query) → Each old.views (λ name query. Passing new (opened old.views query))

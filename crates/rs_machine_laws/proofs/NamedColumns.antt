@@ -2,14 +2,15 @@
 use Rattle.std.proofs.Common.{◌≡◌, ℕ, ◌<◌, not, ◌||◌, List, [], ◌∷◌, ◌++◌, length, Ok, refl, sym, subst, ◌∙◌, arith}
 use Rattle.std.proofs.lemmas.List.{length-map}
 use Rattle.std.specs.List.{AllByRecursion, list_any}
-use Rattle.rs_refusal.specs.declared.refusal.Refusal.TheVariants.{WrongValues, ColumnTwice}
+use Rattle.rs_refusal.specs.declared.refusal.Refusal.TheVariants.{PointOrLineWanted, WrongValues, ColumnTwice}
 use Rattle.rs_value.specs.declared.column.ColumnType.{ColumnType}
+use Rattle.rs_value.specs.declared.column.Kind.TheVariants.{Line}
 use Rattle.rs_value.specs.Row.{Row}
 use Rattle.rs_value.specs.Values.{IsRowOf}
 use Rattle.rs_facts.specs.Condition as conditions
 use Rattle.rs_facts.specs.Fact.{Name}
 use Rattle.rs_facts.specs.Insert.{same_name}
-use Rattle.rs_facts.specs.Query.{Column, Query, table_rows, where_rows, dissolve_rows, rename_column, overlay_rows, cover_rows, merge_rows, minus_rows, window_rows, transform_rows}
+use Rattle.rs_facts.specs.Query.{Column, Query, table_rows, where_rows, dissolve_rows, rename_column, overlay_rows, cover_rows, merge_rows, minus_rows, window_rows, transform_rows, gaps_rows, kind_of}
 use Rattle.rs_facts.specs.WellFormed.{IsWellFormed}
 use Rattle.rs_planning.specs.Basis.{Basis}
 use Rattle.rs_planning.specs.Checked.{AreBelow, NamesItsColumns, RowsHaveTheirWidth}
@@ -17,9 +18,9 @@ use Rattle.rs_planning.specs.Conjuncts.{column_of_term, columns_read}
 use Rattle.rs_planning.specs.Laws.{Means, PlansMeanTheirQueries, PlansAreWellFormed}
 use Rattle.rs_planning.specs.Rule.{plan_of}
 use Rattle.rs_planning.specs.WellFormedPlan.{IsWellFormedPlan}
-use Rattle.rs_syntax.specs.Tree.{OperandTree, column_named, written_value, ConditionTree, compare, is_null, is_not_null, negated, bracketed, both, either, QueryTree, named, filtered, dissolved, renamed, overlaid, covered, merged, subtracted, windowed, transformed}
+use Rattle.rs_syntax.specs.Tree.{OperandTree, column_named, written_value, ConditionTree, compare, is_null, is_not_null, negated, bracketed, both, either, QueryTree, named, filtered, dissolved, renamed, overlaid, covered, merged, subtracted, windowed, transformed, gapped}
 use Rattle.rs_machine.specs.State.{State, world_of}
-use Rattle.rs_machine.specs.Checks.{unless, table_named, alignment_named, some_name_twice, column_names, column_types}
+use Rattle.rs_machine.specs.Checks.{unless, table_named, alignment_named, same_kind, some_name_twice, column_names, column_types}
 use Rattle.rs_machine.specs.Opening.{opened}
 use Rattle.rs_machine.specs.Checking.{column_place, column_places, same_class, suits_class, column_type, operand_checked, condition_checked, columns_in, may_stand_together, kinds_agree, alike, window_checked, nodes_checked, checked}
 use Rattle.rs_machine.specs.Lawful.{IsLawful}
@@ -140,6 +141,10 @@ nodes-named state (transformed a name) query e =
     let x = then_ok (nodes_checked state a) _ query e in
     let pieces = then_ok (alignment_named state name) _ query x.2 in
     subst (Named state) (ok_same (transform_rows x.0 name pieces.0) query pieces.2) (nodes-named state a x.0 x.1)
+nodes-named state (gapped a) query e =
+    let x = then_ok (nodes_checked state a) _ query e in
+    let line = then_ok (unless (same_kind (kind_of (world_of state) x.0) Line) PointOrLineWanted) _ query x.2 in
+    subst (Named state) (ok_same (gaps_rows x.0) query line.2) (nodes-named state a x.0 x.1)
 
 pub checked-named : (state : State) (tree : QueryTree) (query : Query) → checked state tree ≡ Ok query → NamesItsColumns (world_of state) query
 checked-named state tree query e = nodes-named state (opened state.views tree) query (checks-passed state tree query e).passes

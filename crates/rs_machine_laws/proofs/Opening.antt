@@ -5,7 +5,7 @@ use Rattle.std.specs.List.{AllByRecursion}
 use Rattle.std.specs.FinMap as names
 use Rattle.rs_facts.specs.Fact.{Name, Names}
 use Rattle.rs_facts.specs.Insert.{same_name}
-use Rattle.rs_syntax.specs.Tree.{WindowTree, QueryTree, named, filtered, dissolved, renamed, overlaid, covered, merged, subtracted, windowed, transformed}
+use Rattle.rs_syntax.specs.Tree.{WindowTree, QueryTree, named, filtered, dissolved, renamed, overlaid, covered, merged, subtracted, windowed, transformed, gapped}
 use Rattle.rs_machine.specs.Opening.{names_in, windows_in, opened_once, opened_times, AreInOrder}
 use Rattle.rs_machine_laws.proofs.Names.{none_some}
 use Rattle.rs_machine_laws.proofs.Lists.{all_append, all_front, all_back, from_each}
@@ -42,6 +42,7 @@ module _ (views : Names QueryTree) (place : Name → ℕ) where
   stays (subtracted a b) below = λ i. subtracted (stays a (left 0 a b below) i) (stays b (right 0 a b below) i)
   stays (windowed query window) below = ap (λ q. windowed q window) (stays query below)
   stays (transformed query alignment) below = ap (λ q. transformed q alignment) (stays query below)
+  stays (gapped query) below = ap gapped (stays query below)
 
   -- each view names only views before it
   abbrev NamesBefore : Type 0
@@ -68,6 +69,7 @@ module _ (views : Names QueryTree) (place : Name → ℕ) where
     lower k (subtracted a b) below = both k (opened_once views a) (opened_once views b) (lower k a (left (suc k) a b below)) (lower k b (right (suc k) a b below))
     lower k (windowed query window) below = lower k query below
     lower k (transformed query alignment) below = lower k query below
+    lower k (gapped query) below = lower k query below
 
     settled_below : (k : ℕ) (query : QueryTree) → AreBelow k query → opened_times (suc k) views query ≡ opened_times k views query
     settled_below zero query below = stays query below
@@ -106,6 +108,7 @@ module _ (one other : Names QueryTree) (name : Name)
   alike (subtracted a b) apart = λ i. subtracted (alike a (front a b apart) i) (alike b (back a b apart) i)
   alike (windowed query window) apart = ap (λ q. windowed q window) (alike query apart)
   alike (transformed query alignment) apart = ap (λ q. transformed q alignment) (alike query apart)
+  alike (gapped query) apart = ap gapped (alike query apart)
 
   name_apart : (n : Name) (found : Option QueryTree) → names.get one n ≡ found → same_name name n ≡ false → Avoids name (unwrap_or found (named n))
   name_apart n None there apart = (apart, tt)
@@ -125,6 +128,7 @@ module _ (one other : Names QueryTree) (name : Name)
   still_apart (subtracted a b) apart = joined (opened_once one a) (opened_once one b) (still_apart a (front a b apart)) (still_apart b (back a b apart))
   still_apart (windowed query window) apart = still_apart query apart
   still_apart (transformed query alignment) apart = still_apart query apart
+  still_apart (gapped query) apart = still_apart query apart
 
   pub opened_alike : (times : ℕ) (query : QueryTree) → Avoids name query → opened_times times one query ≡ opened_times times other query
   opened_alike zero query apart = refl
@@ -151,6 +155,7 @@ module _ (P : WindowTree → Type 0) (views : Names QueryTree) where
   once_windows (merged a b) all = pair_windows a b (once_windows a) (once_windows b) all
   once_windows (subtracted a b) all = pair_windows a b (once_windows a) (once_windows b) all
   once_windows (transformed query alignment) all = once_windows query all
+  once_windows (gapped query) all = once_windows query all
   once_windows (windowed query window) all =
       all_append P (windows_in query) (window ∷ [])
       (once_windows query (all_front P (windows_in (opened_once views query)) (window ∷ []) all))

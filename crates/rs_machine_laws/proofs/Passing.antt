@@ -5,16 +5,17 @@ use Rattle.std.specs.FinMap as names
 use Rattle.std.specs.List.{list_any}
 use Rattle.rs_facts.specs.Fact.{Name, Names}
 use Rattle.rs_facts.specs.Insert.{same_name}
-use Rattle.rs_facts.specs.Query.{Column, Piece, Query, RouteEnds, Table, Window, between, column_at, columns_of, cover_rows, dissolve_rows, kind_of, merge_rows, minus_rows, on_route, overlaid_kind, overlay_rows, rename_column, renamed_at, table_columns, table_kind, table_rows, transform_rows, where_rows, window_rows}
-use Rattle.rs_machine.specs.Checking.{alike, column_place, column_places, condition_checked, cover_checked, dissolve_checked, filter_checked, may_stand_together, nodes_checked, overlay_checked, rename_checked, same_columns, window_checked}
+use Rattle.rs_facts.specs.Query.{Column, Piece, Query, RouteEnds, Table, Window, between, column_at, columns_of, cover_rows, dissolve_rows, gaps_rows, kind_of, merge_rows, minus_rows, on_route, overlaid_kind, overlay_rows, rename_column, renamed_at, table_columns, table_kind, table_rows, transform_rows, where_rows, window_rows}
+use Rattle.rs_machine.specs.Checking.{alike, column_place, column_places, condition_checked, cover_checked, dissolve_checked, filter_checked, gaps_checked, may_stand_together, nodes_checked, overlay_checked, rename_checked, same_columns, window_checked}
 use Rattle.rs_machine.specs.Checks.{◌>>=◌, alignment_named, column_names, found, route_named, same_kind, some_name_twice, span_on, table_named, unless, window_route}
 use Rattle.rs_machine.specs.Lawful.{Each, IsLawful, widened}
 use Rattle.rs_machine.specs.Opening.{opened, opened_once, opened_times}
 use Rattle.rs_machine.specs.State.{State, world_of}
 use Rattle.rs_refusal.specs.declared.refusal.Refusal.{Refusal}
-use Rattle.rs_refusal.specs.declared.refusal.Refusal.TheVariants.{ColumnTwice, ColumnsDiffer, KindsDiffer, NoSuchName, NoSuchRoute}
-use Rattle.rs_syntax.specs.Tree.{QueryTree, WindowTree, covered, dissolved, filtered, merged, named, overlaid, part_of_route, renamed, subtracted, transformed, whole_route, windowed}
+use Rattle.rs_refusal.specs.declared.refusal.Refusal.TheVariants.{ColumnTwice, ColumnsDiffer, KindsDiffer, NoSuchName, NoSuchRoute, PointOrLineWanted}
+use Rattle.rs_syntax.specs.Tree.{QueryTree, WindowTree, covered, dissolved, filtered, gapped, merged, named, overlaid, part_of_route, renamed, subtracted, transformed, whole_route, windowed}
 use Rattle.rs_value.specs.declared.column.Kind.{Kind}
+use Rattle.rs_value.specs.declared.column.Kind.TheVariants.{Line}
 use Rattle.rs_machine_laws.proofs.Checked.{ok_same, then_ok, was_found}
 
 -- ---- windows
@@ -30,6 +31,7 @@ widened_twice (merged a b) = λ i. merged (widened_twice a i) (widened_twice b i
 widened_twice (subtracted a b) = λ i. subtracted (widened_twice a i) (widened_twice b i)
 widened_twice (windowed query window) = ap (λ q. windowed q (whole_route (window_route window))) (widened_twice query)
 widened_twice (transformed query alignment) = ap (λ q. transformed q alignment) (widened_twice query)
+widened_twice (gapped query) = ap gapped (widened_twice query)
 
 abbrev pub HasRoute : State → Name → Type 0
 HasRoute state route = (ends : RouteEnds) × (names.get state.routes route ≡ Some ends)
@@ -72,6 +74,7 @@ module _ (old new : State) where
   Kept (subtracted a b) = Kept a × Kept b
   Kept (windowed query window) = Kept query × RouteKept (window_route window)
   Kept (transformed query alignment) = Kept query × AlignmentKept alignment
+  Kept (gapped query) = Kept query
 
   kept_widened : (query : QueryTree) → Kept query → Kept (widened query)
   kept_widened (named name) kept = kept
@@ -84,6 +87,7 @@ module _ (old new : State) where
   kept_widened (subtracted a b) kept = (kept_widened a kept.0, kept_widened b kept.1)
   kept_widened (windowed query window) kept = (kept_widened query kept.0, kept.1)
   kept_widened (transformed query alignment) kept = (kept_widened query kept.0, kept.1)
+  kept_widened (gapped query) kept = kept_widened query kept
 
   -- where each view's query is kept, an opened one is
   kept_name : (name : Name) (at : Option QueryTree) → names.get old.views name ≡ at → Each old.views (λ n q. Kept q) → Kept (named name) → Kept (unwrap_or at (named name))
@@ -101,6 +105,7 @@ module _ (old new : State) where
   kept_once each (subtracted a b) kept = (kept_once each a kept.0, kept_once each b kept.1)
   kept_once each (windowed query window) kept = (kept_once each query kept.0, kept.1)
   kept_once each (transformed query alignment) kept = (kept_once each query kept.0, kept.1)
+  kept_once each (gapped query) kept = kept_once each query kept
 
   kept_times : Each old.views (λ n q. Kept q) → (times : ℕ) (query : QueryTree) → Kept query → Kept (opened_times times old.views query)
   kept_times each zero query kept = kept
@@ -298,6 +303,19 @@ module _ (old new : State) where
             ∙ ap (λ (o : Option (List Piece)). found o NoSuchName >>= (λ pieces. Ok (transform_rows rest.made alignment pieces))) still;
         columns = rest.columns ∙ ap Columns same;
         kind = rest.kind ∙ ap KindOf same;
+      }
+  passes (gapped query) kept was e =
+      let inner = then_ok (nodes_checked old query) (λ q. gaps_checked old q) was e in
+      let line = then_ok (unless (same_kind (KindOf inner.0) Line) PointOrLineWanted) (λ _. Ok (gaps_rows inner.0)) was inner.2 in
+      let rest = passes query kept inner.0 inner.1 in
+      let same : gaps_rows inner.0 ≡ was = ok_same (gaps_rows inner.0) was line.2 in
+      record {
+        made = gaps_rows rest.made;
+        is = ap (λ (r : Result Query Refusal). r >>= (λ q. gaps_checked new q)) rest.is
+            ∙ ap (λ (k : Kind). unless (same_kind k Line) PointOrLineWanted >>= (λ _. Ok (gaps_rows rest.made))) rest.kind
+            ∙ ap (λ r. r >>= (λ _. Ok (gaps_rows rest.made))) line.1;
+        columns = ap Columns same;
+        kind = ap KindOf same;
       }
 
   -- with windows that are wide already

@@ -1,13 +1,14 @@
 -- A query that is checked has as many nodes as it is written with, its views opened.
 use Rattle.std.proofs.Common.{◌≡◌, ◌+◌, not, ◌||◌, length, Ok, refl, ap, subst}
 use Rattle.std.specs.List.{list_any}
-use Rattle.rs_refusal.specs.declared.refusal.Refusal.TheVariants.{ColumnTwice}
+use Rattle.rs_refusal.specs.declared.refusal.Refusal.TheVariants.{PointOrLineWanted, ColumnTwice}
+use Rattle.rs_value.specs.declared.column.Kind.TheVariants.{Line}
 use Rattle.rs_facts.specs.Insert.{same_name}
-use Rattle.rs_facts.specs.Query.{Query, table_rows, where_rows, dissolve_rows, rename_column, overlay_rows, cover_rows, merge_rows, minus_rows, window_rows, transform_rows}
+use Rattle.rs_facts.specs.Query.{Query, table_rows, where_rows, dissolve_rows, rename_column, overlay_rows, cover_rows, merge_rows, minus_rows, window_rows, transform_rows, gaps_rows, kind_of}
 use Rattle.rs_planning.specs.Checked.{nodes_of}
-use Rattle.rs_syntax.specs.Tree.{QueryTree, named, filtered, dissolved, renamed, overlaid, covered, merged, subtracted, windowed, transformed}
-use Rattle.rs_machine.specs.State.{State}
-use Rattle.rs_machine.specs.Checks.{unless, table_named, alignment_named, some_name_twice, column_names}
+use Rattle.rs_syntax.specs.Tree.{QueryTree, named, filtered, dissolved, renamed, overlaid, covered, merged, subtracted, windowed, transformed, gapped}
+use Rattle.rs_machine.specs.State.{State, world_of}
+use Rattle.rs_machine.specs.Checks.{unless, table_named, alignment_named, same_kind, some_name_twice, column_names}
 use Rattle.rs_machine.specs.Opening.{nodes}
 use Rattle.rs_machine.specs.Checking.{column_place, column_places, condition_checked, columns_in, may_stand_together, kinds_agree, alike, window_checked, nodes_checked}
 use Rattle.rs_machine_laws.proofs.Checked.{ok_same, then_ok}
@@ -63,3 +64,7 @@ as-many state (transformed a name) query e =
     let x = then_ok (nodes_checked state a) _ query e in
     let pieces = then_ok (alignment_named state name) _ query x.2 in
     subst (HasAsMany (transformed a name)) (ok_same (transform_rows x.0 name pieces.0) query pieces.2) (ap (λ n. n + 1) (as-many state a x.0 x.1))
+as-many state (gapped a) query e =
+    let x = then_ok (nodes_checked state a) _ query e in
+    let line = then_ok (unless (same_kind (kind_of (world_of state) x.0) Line) PointOrLineWanted) _ query x.2 in
+    subst (HasAsMany (gapped a)) (ok_same (gaps_rows x.0) query line.2) (ap (λ n. n + 1) (as-many state a x.0 x.1))

@@ -11,8 +11,9 @@ use Rattle.rs_facts.specs.Fact.{Name, Names, RowSet, none, contains, items}
 use Rattle.rs_facts.specs.Insert.{same_name, within}
 use Rattle.rs_facts.specs.Condition.{meets}
 use Rattle.rs_facts.specs.Operators as operators
-use Rattle.rs_facts.specs.Query.{RouteEnds, Table, Window, on_route, between, Query, table_rows, where_rows, dissolve_rows, rename_column, overlay_rows, cover_rows, merge_rows, minus_rows, window_rows, transform_rows, facts_of, table_kind, seen_through, overlaid_kind, rows_at, kind_of}
+use Rattle.rs_facts.specs.Query.{RouteEnds, Table, Window, on_route, between, Query, table_rows, where_rows, dissolve_rows, rename_column, overlay_rows, cover_rows, merge_rows, minus_rows, window_rows, transform_rows, gaps_rows, facts_of, table_kind, seen_through, gapped_on, overlaid_kind, rows_at, kind_of}
 use Rattle.rs_facts.specs.WellFormed.{IsPieceOn, IsWellFormed}
+use Rattle.rs_facts.proofs.Gapping.{gaps-rows}
 use Rattle.rs_facts.proofs.Transforming.{transformed-rows}
 use Rattle.rs_facts.specs.Runs.{AreRunsOf}
 use Rattle.rs_facts.specs.Laws.{GoingAlongGivesTheRuns}
@@ -89,6 +90,12 @@ table_rows-lie : (state : State) (name : Name) (found : Option Table) → names.
 table_rows-lie state name (Some table) there lawful route k row held = ((lawful.tables name table there).facts route k row held).lies
 table_rows-lie state name None there lawful route k row held = false_true (sym (contains-none row) ∙ held)
 
+gap-lies : (routes : Names RouteEnds) (route : Name) (k : ℕ) (rows : RowSet) (row : Row) (found : Option RouteEnds) → names.get routes route ≡ found
+    → contains (gapped_on found k rows) row ≡ true → OnRoute routes route (MayHoldAt Line k)
+gap-lies routes route k rows row (Some ends) there held =
+    let gap = (gaps-rows ends.start ends.finish k rows row).0 held in record { ends = ends; there = there; is_so = (gap.from_start, gap.before_finish) }
+gap-lies routes route k rows row None there held = false_true (sym (contains-none row) ∙ held)
+
 module _ (state : State) (lawful : IsLawful state) (route : Name) (k : ℕ) where
   abbrev Lies : Query → Type 0
   Lies query = OnRoute state.routes route (MayHoldAt (kind_of (world_of state) query) k)
@@ -126,6 +133,7 @@ module _ (state : State) (lawful : IsLawful state) (route : Name) (k : ℕ) wher
         there = ap (names.get state.routes) (sym one.onto_route) ∙ on.second_there;
         is_so = inside_place (kind_of (world_of state) a) k on.second (omega arith) (omega arith);
       }
+  lie (gaps_rows a) row is held = gap-lies state.routes route k (here a) row (names.get state.routes route) refl held
 
 pub rows-lie : (state : State) (query : Query) (route : Name) (k : ℕ) (row : Row) → IsLawful state → IsWellFormed (world_of state) query → contains (rows_at (world_of state) query route k) row ≡ true
     → OnRoute state.routes route (MayHoldAt (kind_of (world_of state) query) k)

@@ -9,7 +9,7 @@ use Rattle.std.proofs.lemmas.Bool.Decides.{nat_tests}
 use Rattle.std.proofs.lemmas.List.Folds.{list_any-append}
 use Rattle.rs_facts.specs.Fact.{Name, Names, name_cmp}
 use Rattle.rs_facts.specs.Insert.{same_name}
-use Rattle.rs_syntax.specs.Tree.{QueryTree, covered, dissolved, filtered, merged, named, overlaid, renamed, subtracted, transformed, windowed}
+use Rattle.rs_syntax.specs.Tree.{QueryTree, covered, dissolved, filtered, gapped, merged, named, overlaid, renamed, subtracted, transformed, windowed}
 use Rattle.rs_machine.specs.Lawful.{Each}
 use Rattle.rs_machine.specs.Opening.{AreInOrder, names_in, opened, opened_once, opened_times}
 use Rattle.rs_machine.specs.State.{has}
@@ -147,6 +147,7 @@ module _ (views : Names QueryTree) where
   any_opened test (subtracted a b) = any_pair test a b (any_opened test a) (any_opened test b)
   any_opened test (windowed query window) = any_opened test query
   any_opened test (transformed query alignment) = any_opened test query
+  any_opened test (gapped query) = any_opened test query
 
   -- the one names nothing that the other doesn't
   abbrev IsWithin : QueryTree → QueryTree → Type 0

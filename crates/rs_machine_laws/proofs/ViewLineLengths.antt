@@ -22,7 +22,7 @@ use Rattle.rs_refusal.specs.declared.refusal.Refusal.TheVariants.{LineTooLong}
 use Rattle.rs_facts.specs.Fact.{name_cmp}
 use Rattle.rs_syntax.specs.Tree.{QueryTree, define_view}
 use Rattle.rs_syntax.specs.Verdict.{Reads, has_tokens, is_command}
-use Rattle.rs_syntax.specs.Written.{Lexeme, QuerySyntax, Says, Written, end_of, has_text, lexeme_of, mark, pair_kind, query_lexemes, spelling, text_of_tokens, told, view_text, written_alignment, written_close, written_dissolve, written_drop_alignment, written_drop_index, written_drop_referent, written_drop_route, written_drop_table, written_drop_view, written_explain, written_fetch, written_index, written_insert, written_move, written_name, written_open, written_pair, written_referent, written_remove, written_rename, written_reopen, written_route, written_save, written_select, written_table, written_total, written_transform, written_translate, written_view, written_where, written_window}
+use Rattle.rs_syntax.specs.Written.{Lexeme, QuerySyntax, Says, Written, end_of, has_text, lexeme_of, mark, pair_kind, query_lexemes, spelling, text_of_tokens, told, view_text, written_alignment, written_close, written_dissolve, written_drop_alignment, written_drop_index, written_drop_referent, written_drop_route, written_drop_table, written_drop_view, written_explain, written_fetch, written_gaps, written_index, written_insert, written_move, written_name, written_open, written_pair, written_referent, written_remove, written_rename, written_reopen, written_route, written_save, written_select, written_table, written_total, written_transform, written_translate, written_view, written_where, written_window}
 use Rattle.rs_syntax.specs.declared.written.PairOperator.{PairOperator}
 use Rattle.rs_syntax.specs.declared.written.PairOperator.TheVariants as pair_operators
 use Rattle.rs_syntax_laws.proofs.Cuts.{first_inside}
@@ -55,6 +55,7 @@ is_word_kind kinds.Merge = true
 is_word_kind kinds.Minus = true
 is_word_kind kinds.Window = true
 is_word_kind kinds.Transform = true
+is_word_kind kinds.Gaps = true
 is_word_kind _ = false
 
 pub record IsLike (text : List ℕ) (kind : TokenKind) : Type 0 where
@@ -268,6 +269,7 @@ query_word (written_rename query from to) = refl
 query_word (written_pair operator left right) = pair_word operator
 query_word (written_window query window) = refl
 query_word (written_transform query alignment) = refl
+query_word (written_gaps query) = refl
 
 length-most : (n : ℕ) (bytes : List ℕ) → length (take n bytes) ≤ length bytes
 length-most zero bytes = omega arith

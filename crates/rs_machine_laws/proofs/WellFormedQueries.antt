@@ -5,13 +5,14 @@ use Rattle.std.specs.List.{list_any}
 use Rattle.std.specs.FinMap as names
 use Rattle.std.proofs.lemmas.Bool.{leb-true}
 use Rattle.std.proofs.lemmas.List.{length-map, length-set, map-append}
-use Rattle.rs_refusal.specs.declared.refusal.Refusal.TheVariants.{NoSuchName, Limit, ColumnsDiffer, ColumnTwice, KindsDiffer}
+use Rattle.rs_refusal.specs.declared.refusal.Refusal.TheVariants.{NoSuchName, Limit, PointOrLineWanted, ColumnsDiffer, ColumnTwice, KindsDiffer}
+use Rattle.rs_value.specs.declared.column.Kind.TheVariants.{Line}
 use Rattle.rs_value.specs.declared.column.TheConstants.{COLUMNS}
 use Rattle.rs_facts.specs.Fact.{Name}
 use Rattle.rs_facts.specs.Insert.{same_name}
-use Rattle.rs_facts.specs.Query.{Column, Table, column_at, World, Query, table_rows, where_rows, dissolve_rows, rename_column, overlay_rows, cover_rows, merge_rows, minus_rows, window_rows, transform_rows, table_columns, kind_of, columns_of}
+use Rattle.rs_facts.specs.Query.{Column, Table, column_at, World, Query, table_rows, where_rows, dissolve_rows, rename_column, overlay_rows, cover_rows, merge_rows, minus_rows, window_rows, transform_rows, gaps_rows, table_columns, kind_of, columns_of}
 use Rattle.rs_facts.specs.WellFormed.{width_of, IsWellFormed}
-use Rattle.rs_syntax.specs.Tree.{QueryTree, named, filtered, dissolved, renamed, overlaid, covered, merged, subtracted, windowed, transformed}
+use Rattle.rs_syntax.specs.Tree.{QueryTree, named, filtered, dissolved, renamed, overlaid, covered, merged, subtracted, windowed, transformed, gapped}
 use Rattle.rs_machine.specs.State.{State, world_of}
 use Rattle.rs_machine.specs.Checks.{unless, table_named, alignment_named, same_kind, some_name_twice, column_names}
 use Rattle.rs_machine.specs.Opening.{opened}
@@ -35,6 +36,7 @@ few_columns world (merge_rows a b) is = few_columns world a is.0
 few_columns world (minus_rows a b) is = few_columns world a is.0
 few_columns world (window_rows a window) is = few_columns world a is
 few_columns world (transform_rows a name pieces) is = few_columns world a is.0
+few_columns world (gaps_rows a) is = omega arith
 
 -- ---- what a checked query keeps to
 
@@ -180,6 +182,11 @@ nodes-sound state (transformed a name) query lawful e =
     let pieces = then_ok (alignment_named state name) _ query x.2 in
     let lie = (lawful.alignments name pieces.0 (was_found (names.get state.alignments name) NoSuchName pieces.0 pieces.1)).lie in
     subst (IsSoundQuery state) (ok_same (transform_rows x.0 name pieces.0) query pieces.2) (record { well_formed = (is.well_formed, lie); distinct = is.distinct })
+nodes-sound state (gapped a) query lawful e =
+    let x = then_ok (nodes_checked state a) _ query e in
+    let is = nodes-sound state a x.0 lawful x.1 in
+    let line = then_ok (unless (same_kind (kind_of (world_of state) x.0) Line) PointOrLineWanted) _ query x.2 in
+    subst (IsSoundQuery state) (ok_same (gaps_rows x.0) query line.2) (record { well_formed = is.well_formed; distinct = tt })
 
 pub checked-sound : (state : State) (tree : QueryTree) (query : Query) → IsLawful state → checked state tree ≡ Ok query → IsSoundQuery state query
 checked-sound state tree query lawful e = nodes-sound state (opened state.views tree) query lawful (checks-passed state tree query e).passes

@@ -8,7 +8,7 @@ use Rattle.std.proofs.lemmas.Bool.{and_from, le-leb}
 use Rattle.rs_facts.specs.Fact.{Name, Names}
 use Rattle.rs_facts.specs.Query.{Query}
 use Rattle.rs_refusal.specs.declared.refusal.Refusal.TheVariants.{Limit, NoSuchName}
-use Rattle.rs_syntax.specs.Tree.{QueryTree, covered, dissolved, filtered, merged, named, overlaid, renamed, subtracted, transformed, whole_route, windowed}
+use Rattle.rs_syntax.specs.Tree.{QueryTree, covered, dissolved, filtered, gapped, merged, named, overlaid, renamed, subtracted, transformed, whole_route, windowed}
 use Rattle.rs_machine.specs.declared.limits.TheConstants.{DEPTH, NODES}
 use Rattle.rs_machine.specs.State.{State, has}
 use Rattle.rs_machine.specs.Checking.{alignments_known, checked, fits_limits, names_known, nodes_checked}
@@ -37,6 +37,7 @@ names_wide (merged a b) = λ i. names_wide a i ++ names_wide b i
 names_wide (subtracted a b) = λ i. names_wide a i ++ names_wide b i
 names_wide (windowed query window) = names_wide query
 names_wide (transformed query alignment) = names_wide query
+names_wide (gapped query) = names_wide query
 
 alignments_wide : (query : QueryTree) → alignments_in (widened query) ≡ alignments_in query
 alignments_wide (named name) = refl
@@ -49,6 +50,7 @@ alignments_wide (merged a b) = λ i. alignments_wide a i ++ alignments_wide b i
 alignments_wide (subtracted a b) = λ i. alignments_wide a i ++ alignments_wide b i
 alignments_wide (windowed query window) = alignments_wide query
 alignments_wide (transformed query alignment) = ap (λ l. l ++ alignment ∷ []) (alignments_wide query)
+alignments_wide (gapped query) = alignments_wide query
 
 nodes_wide : (query : QueryTree) → nodes (widened query) ≡ nodes query
 nodes_wide (named name) = refl
@@ -61,6 +63,7 @@ nodes_wide (merged a b) = λ i. nodes_wide a i + nodes_wide b i + 1
 nodes_wide (subtracted a b) = λ i. nodes_wide a i + nodes_wide b i + 1
 nodes_wide (windowed query window) = ap (λ n. n + 1) (nodes_wide query)
 nodes_wide (transformed query alignment) = ap (λ n. n + 1) (nodes_wide query)
+nodes_wide (gapped query) = ap (λ n. n + 1) (nodes_wide query)
 
 depth_wide : (query : QueryTree) → depth (widened query) ≡ depth query
 depth_wide (named name) = refl
@@ -73,6 +76,7 @@ depth_wide (merged a b) = λ i. max (depth_wide a i) (depth_wide b i) + 1
 depth_wide (subtracted a b) = λ i. max (depth_wide a i) (depth_wide b i) + 1
 depth_wide (windowed query window) = ap (λ n. n + 1) (depth_wide query)
 depth_wide (transformed query alignment) = ap (λ n. n + 1) (depth_wide query)
+depth_wide (gapped query) = ap (λ n. n + 1) (depth_wide query)
 
 -- ---- the tables of a query that passes
 
@@ -93,6 +97,7 @@ nodes_tables state (dissolved a columns) query e = let x = then_ok (nodes_checke
 nodes_tables state (renamed a from to) query e = let x = then_ok (nodes_checked state a) _ query e in nodes_tables state a x.0 x.1
 nodes_tables state (windowed a window) query e = let x = then_ok (nodes_checked state a) _ query e in nodes_tables state a x.0 x.1
 nodes_tables state (transformed a alignment) query e = let x = then_ok (nodes_checked state a) _ query e in nodes_tables state a x.0 x.1
+nodes_tables state (gapped a) query e = let x = then_ok (nodes_checked state a) _ query e in nodes_tables state a x.0 x.1
 nodes_tables state (overlaid a b) query e =
     let x = then_ok (nodes_checked state a) _ query e in let y = then_ok (nodes_checked state b) _ query x.2 in both_tables state a b (nodes_tables state a x.0 x.1) (nodes_tables state b y.0 y.1)
 nodes_tables state (covered a b) query e =
@@ -151,6 +156,7 @@ module _ (state : State) (others : Names QueryTree) (same : (name : Name) → na
   once_wide (subtracted a b) = λ i. subtracted (once_wide a i) (once_wide b i)
   once_wide (windowed query window) = ap (λ q. windowed q (whole_route (window_route window))) (once_wide query)
   once_wide (transformed query alignment) = ap (λ q. transformed q alignment) (once_wide query)
+  once_wide (gapped query) = ap gapped (once_wide query)
 
   times_wide : (times : ℕ) (query : QueryTree) → opened_times times others (widened query) ≡ widened (opened_times times state.views query)
   times_wide zero query = refl

@@ -13,7 +13,7 @@ use Rattle.rs_methods.specs.Position.{PositionExpression, absolute, beyond, befo
 use Rattle.rs_facts.specs.Fact.{Name, name_cmp}
 use Rattle.rs_facts.specs.Insert.{same_name}
 use Rattle.rs_facts.specs.Query.{RouteEnds, Query, Window}
-use Rattle.rs_syntax.specs.Tree.{WindowTree, whole_route, part_of_route, QueryTree, named, filtered, dissolved, renamed, overlaid, covered, merged, subtracted, windowed, transformed}
+use Rattle.rs_syntax.specs.Tree.{WindowTree, whole_route, part_of_route, QueryTree, named, filtered, dissolved, renamed, overlaid, covered, merged, subtracted, windowed, transformed, gapped}
 use Rattle.rs_machine.specs.declared.limits.TheConstants.{NODES, DEPTH}
 use Rattle.rs_machine.specs.State.{State, has}
 use Rattle.rs_machine.specs.Checks.{unless, route_named, has_table_or_view, has_referent, position_on, span_on}
@@ -88,6 +88,7 @@ nodes_windows state (filtered a condition) query e = let x = then_ok (nodes_chec
 nodes_windows state (dissolved a columns) query e = let x = then_ok (nodes_checked state a) _ query e in nodes_windows state a x.0 x.1
 nodes_windows state (renamed a from to) query e = let x = then_ok (nodes_checked state a) _ query e in nodes_windows state a x.0 x.1
 nodes_windows state (transformed a alignment) query e = let x = then_ok (nodes_checked state a) _ query e in nodes_windows state a x.0 x.1
+nodes_windows state (gapped a) query e = let x = then_ok (nodes_checked state a) _ query e in nodes_windows state a x.0 x.1
 nodes_windows state (overlaid a b) query e =
     let x = then_ok (nodes_checked state a) _ query e in let y = then_ok (nodes_checked state b) _ query x.2 in both_windows state a b (nodes_windows state a x.0 x.1) (nodes_windows state b y.0 y.1)
 nodes_windows state (covered a b) query e =

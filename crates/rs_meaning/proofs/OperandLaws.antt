@@ -12,9 +12,9 @@ use Rattle.rs_syntax.specs.declared.written.WrittenQuery.TheVariants as queries
 use Rattle.rs_syntax.specs.declared.written.WrittenWindow.{WrittenWindow}
 use Rattle.rs_refusal.specs.declared.refusal.Refusal.{Refusal}
 use Rattle.rs_syntax.specs.Tree.{QueryTree}
-use Rattle.rs_syntax.specs.Written.{Lexeme, mark, told, operator_lexemes, pair_kind, window_lexemes, name_lexemes, bracketed_names_lexemes, condition_lexemes, query_lexemes, QuerySyntax, written_where, written_dissolve, written_rename, written_pair, written_window, written_transform, SaysQuery, AreToldOf}
+use Rattle.rs_syntax.specs.Written.{Lexeme, mark, told, operator_lexemes, pair_kind, window_lexemes, name_lexemes, bracketed_names_lexemes, condition_lexemes, query_lexemes, QuerySyntax, written_where, written_dissolve, written_rename, written_pair, written_window, written_transform, written_gaps, SaysQuery, AreToldOf}
 use Rattle.rs_syntax.specs.WrittenView.{condition_syntax, query_syntax}
-use Rattle.rs_syntax.proofs.ChainLaws.{where_written, dissolve_written, rename_written, pair_written, window_written, transform_written}
+use Rattle.rs_syntax.proofs.ChainLaws.{where_written, dissolve_written, rename_written, pair_written, window_written, transform_written, gaps_written}
 use Rattle.rs_syntax.proofs.ToldLaws.{AreToldOf-append}
 use Rattle.rs_meaning.specs.Saying.{NothingSaid}
 use Rattle.rs_meaning.proofs.SayingLaws.{nothing-said}
@@ -44,6 +44,16 @@ operand-length {lexemes} {operand} {others} {kind} whole = let same = ap length 
 
 pub others-length : {lexemes operand others : List Lexeme} {kind : TokenKind} → IsOperator lexemes kind operand others → length others + 1 ≤ length lexemes
 others-length {lexemes} {operand} {others} {kind} whole = let same = ap length whole.spelled in omega (arith, lengths kind operand others)
+
+-- GAPS, and in brackets its operand alone
+pub record IsGaps (lexemes operand : List Lexeme) : Type 0 where
+  pub spelled : lexemes ≡ mark kinds.Gaps ∷ mark kinds.LeftParen ∷ (operand ++ mark kinds.RightParen ∷ [])
+
+pub gaps-told : {lexemes operand : List Lexeme} (line : List ℕ) → IsGaps lexemes operand → AreToldOf line lexemes → AreToldOf line operand
+gaps-told {operand = operand} line whole all = (AreToldOf-append line operand (mark kinds.RightParen ∷ []) (subst (AreToldOf line) whole.spelled all).1.1).0
+
+pub gaps-length : {lexemes operand : List Lexeme} → IsGaps lexemes operand → length operand + 1 ≤ length lexemes
+gaps-length {lexemes} {operand} whole = omega (arith, ap length whole.spelled, length-append operand (mark kinds.RightParen ∷ []))
 
 -- How a query of each variant is spelled, its operand given by its value.
 module _ (query : WrittenQuery) (operand : Box WrittenQuery Global) (inside : WrittenQuery) (same : inside ≡ operand.value) where
@@ -87,6 +97,13 @@ module _ (query : WrittenQuery) (operand : Box WrittenQuery Global) (inside : Wr
         ∙ ap (λ q. operator_lexemes kinds.Transform (query_lexemes (query_syntax q)) (name_lexemes alignment)) (sym same);
   }
 
+  pub gaps-whole : query ≡ queries.Gaps operand → IsGaps (query_lexemes (query_syntax query)) (query_lexemes (query_syntax inside))
+  gaps-whole is = record {
+    spelled =
+        ap (λ q. query_lexemes (query_syntax q)) is ∙ ap query_lexemes (gaps_written operand)
+        ∙ ap (λ q. query_lexemes (written_gaps (query_syntax q))) (sym same);
+  }
+
   pub pair-whole : (operator : PairOperator) (second : Box WrittenQuery Global) (other : WrittenQuery) → query ≡ queries.Pair operator operand second → other ≡ second.value
       → IsOperator (query_lexemes (query_syntax query)) (pair_kind operator) (query_lexemes (query_syntax inside)) (query_lexemes (query_syntax other))
   pair-whole operator second other is also = record {
@@ -115,6 +132,9 @@ module _ (query : WrittenQuery) (operand : Box WrittenQuery Global) (inside : Wr
 
   pub transform-is : (alignment : Token) → query ≡ queries.Transform operand alignment → query_syntax query ≡ written_transform (query_syntax inside) alignment
   transform-is alignment is = ap query_syntax is ∙ transform_written operand alignment ∙ ap (λ q. written_transform (query_syntax q) alignment) (sym same)
+
+  pub gaps-is : query ≡ queries.Gaps operand → query_syntax query ≡ written_gaps (query_syntax inside)
+  gaps-is is = ap query_syntax is ∙ gaps_written operand ∙ ap (λ q. written_gaps (query_syntax q)) (sym same)
 
   pub pair-is : (operator : PairOperator) (second : Box WrittenQuery Global) (other : WrittenQuery) → query ≡ queries.Pair operator operand second → other ≡ second.value
       → query_syntax query ≡ written_pair operator (query_syntax inside) (query_syntax other)

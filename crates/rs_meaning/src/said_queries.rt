@@ -103,5 +103,9 @@ pub fn query_said(alloc: Global, line: &str, written: &WrittenQuery) -> Result<Q
             let query = operand_query_said(alloc, line, operand)?;
             Ok(Query::Transform(query, name(line, *alignment)))
         }
+        WrittenQuery::Gaps(operand) => {
+            let query = operand_query_said(alloc, line, operand)?;
+            Ok(Query::Gaps(query))
+        }
     }
 }

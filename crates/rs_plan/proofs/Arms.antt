@@ -23,8 +23,8 @@ use Rattle.rs_plan.specs.Counted.{Counted}
 use Rattle.rs_plan.specs.Operands.{operand_tree, operand_names, IsAlone, IsOverlaid, IsPlaced, IsPlacedAlone}
 use Rattle.rs_plan.specs.PlanView.{window_of, named_by_window}
 use Rattle.rs_plan.specs.Widths.{IsWidth}
-use Rattle.rs_plan.proofs.QueryVariants.{where-query, where-named, dissolve-query, dissolve-named, rename-query, rename-named, window-query, window-named, transform-query, transform-named, overlay-query, overlay-named, cover-query, cover-named, merge-query, merge-named, minus-query, minus-named}
-use Rattle.rs_plan.proofs.PlacingLaws.{placed-as, alone-as, where-placed, rename-placed, window-placed, dissolve-placed, merge-placed, minus-placed, cover-placed, transform-placed, overlay-placed}
+use Rattle.rs_plan.proofs.QueryVariants.{where-query, where-named, dissolve-query, dissolve-named, rename-query, rename-named, window-query, window-named, transform-query, transform-named, gaps-query, gaps-named, overlay-query, overlay-named, cover-query, cover-named, merge-query, merge-named, minus-query, minus-named}
+use Rattle.rs_plan.proofs.PlacingLaws.{placed-as, alone-as, where-placed, rename-placed, window-placed, dissolve-placed, merge-placed, minus-placed, cover-placed, transform-placed, gaps-placed, overlay-placed}
 
 module _ (counted : Counted) (query : CheckedQuery) (windows : List PlannedWindow) (conditions : List said.Condition) (operands : List Operand) where
   abbrev Whole : Type 0
@@ -75,6 +75,12 @@ module _ (counted : Counted) (query : CheckedQuery) (windows : List PlannedWindo
     transform-arm name pieces is seen one a placed made =
         back _ _ (ap query_of is ∙ transform-query operand name pieces) (ap named_in is ∙ transform-named operand name pieces)
         (transform-placed counted (query_of operand.value) (named_in operand.value) windows name.bytes (checked.located_pieces pieces.items) one conditions operands (flat_map checked.named_by_piece pieces.items) (inside-alone_as seen [] conditions conditions one a refl placed) made)
+
+    pub gaps-arm : query ≡ variants.Gaps operand → (seen : List PlannedWindow) (wanted : List said.Condition) (one : Operand) → seen ≡ [] → wanted ≡ [] → InsideAlone seen wanted one
+        → IsAlone operands (rule.under_where conditions (rule.under_window (map window_of windows) (plans.gaps_node (operand_tree one)))) one.weight 0 (map named_by_window windows ++ operand_names one) → Whole
+    gaps-arm is seen wanted one a b placed made =
+        back _ _ (ap query_of is ∙ gaps-query operand) (ap named_in is ∙ gaps-named operand)
+        (gaps-placed counted (query_of operand.value) (named_in operand.value) windows conditions one operands (inside-alone_as seen [] wanted [] one a b placed) made)
 
   -- ---- two operands
 

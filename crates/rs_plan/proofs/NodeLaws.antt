@@ -17,7 +17,7 @@ use Rattle.rs_plan.specs.declared.plan.Plan.{Plan}
 use Rattle.rs_plan.specs.declared.plan.Plan.TheVariants as variants
 use Rattle.rs_plan.specs.Operands.{operand_tree, operand_names, rows_node, AreAmong, IsWeighed, IsTogether, IsOver, IsAlone, IsOverlaid}
 use Rattle.rs_plan.specs.PlanView.{plan_tree, named_in, piece_of, named_by_piece}
-use Rattle.rs_plan.proofs.PlanLaws.{dissolve-tree, dissolve-names, cover-tree, cover-names, transform-tree, transform-names}
+use Rattle.rs_plan.proofs.PlanLaws.{dissolve-tree, dissolve-names, cover-tree, cover-names, transform-tree, transform-names, gaps-tree, gaps-names}
 use Rattle.rs_plan.proofs.Walks.{append-end}
 
 pub alone-over : (operands : List Operand) (one : Operand) (tree : plans.Plan) (weight width : ℕ) (named : List Numbered) → operands ≡ one ∷ [] → IsOver one tree weight width named → IsAlone operands tree weight width named
@@ -49,6 +49,14 @@ module _ (plan : Plan) (below : Box Plan Global) (same : below.value ≡ plan) (
     weight_is = weight_is;
     width_is = width_is;
     names = transform-names name made below ∙ (λ i. names i ++ named_in (same i));
+  }
+
+  pub gaps-over : IsOver (record { plan = variants.Gaps below; weight = heavy; width = width }) (plans.gaps_node (plan_tree plan)) w n (named_in plan)
+  gaps-over = record {
+    tree_is = gaps-tree below ∙ ap (λ p. plans.gaps_node (plan_tree p)) same;
+    weight_is = weight_is;
+    width_is = width_is;
+    names = gaps-names below ∙ ap named_in same;
   }
 
 module _ (left right : Plan) (first second : Box Plan Global) (is_left : first.value ≡ left) (is_right : second.value ≡ right) (heavy width w n : ℕ) (weight_is : heavy ≡ w) (width_is : width ≡ n) where

@@ -23,6 +23,7 @@ pub record IsNotAlone (query : CheckedQuery) : Type 0 where
   pub renamed : (operand : Box CheckedQuery Global) (column : ℕ) (name : ArrayString) → query ≡ variants.Rename operand column name → ⊥
   pub windowed : (operand : Box CheckedQuery Global) (window : LocatedWindow) → query ≡ variants.Window operand window → ⊥
   pub transformed : (operand : Box CheckedQuery Global) (name : ArrayString) (pieces : Vec LocatedPiece Global) → query ≡ variants.Transform operand name pieces → ⊥
+  pub gapped : (operand : Box CheckedQuery Global) → query ≡ variants.Gaps operand → ⊥
 
 -- none of those over two
 pub record IsNoPair (query : CheckedQuery) : Type 0 where
@@ -47,6 +48,7 @@ pair_layer (CheckedQuery-F.Dissolve operand columns) misses = absurd (misses.dis
 pair_layer (CheckedQuery-F.Rename operand column name) misses = absurd (misses.renamed operand column name (variants.rolls-Rename operand column name))
 pair_layer (CheckedQuery-F.Window operand window) misses = absurd (misses.windowed operand window (variants.rolls-Window operand window))
 pair_layer (CheckedQuery-F.Transform operand name pieces) misses = absurd (misses.transformed operand name pieces (variants.rolls-Transform operand name pieces))
+pair_layer (CheckedQuery-F.Gaps operand) misses = absurd (misses.gapped operand (variants.rolls-Gaps operand))
 pair_layer (CheckedQuery-F.Overlay left right) misses = ap is_pair (rolled (CheckedQuery-F.Overlay left right))
 pair_layer (CheckedQuery-F.Cover left_width right_width left right) misses = ap is_pair (rolled (CheckedQuery-F.Cover left_width right_width left right))
 pair_layer (CheckedQuery-F.Merge left right) misses = ap is_pair (rolled (CheckedQuery-F.Merge left right))
@@ -59,6 +61,7 @@ alone_layer (CheckedQuery-F.Dissolve operand columns) misses is = false≢true (
 alone_layer (CheckedQuery-F.Rename operand column name) misses is = false≢true (sym (ap is_pair (rolled (CheckedQuery-F.Rename operand column name))) ∙ is)
 alone_layer (CheckedQuery-F.Window operand window) misses is = false≢true (sym (ap is_pair (rolled (CheckedQuery-F.Window operand window))) ∙ is)
 alone_layer (CheckedQuery-F.Transform operand name pieces) misses is = false≢true (sym (ap is_pair (rolled (CheckedQuery-F.Transform operand name pieces))) ∙ is)
+alone_layer (CheckedQuery-F.Gaps operand) misses is = false≢true (sym (ap is_pair (rolled (CheckedQuery-F.Gaps operand))) ∙ is)
 alone_layer (CheckedQuery-F.Overlay left right) misses is = misses.overlaid left right (variants.rolls-Overlay left right)
 alone_layer (CheckedQuery-F.Cover left_width right_width left right) misses is = misses.covered left_width right_width left right (variants.rolls-Cover left_width right_width left right)
 alone_layer (CheckedQuery-F.Merge left right) misses is = misses.merged left right (variants.rolls-Merge left right)

@@ -7,7 +7,7 @@ use Rattle.std.proofs.lemmas.List.Sums.{sum_by-cons, sum_by-append}
 use Rattle.std.proofs.lemmas.List.Concat.{flat_map-append}
 use Rattle.rs_facts.specs.Condition.{Condition}
 use Rattle.rs_facts.specs.Fact.{Name}
-use Rattle.rs_facts.specs.Query.{Window, Piece, Query, where_rows, dissolve_rows, rename_column, overlay_rows, cover_rows, merge_rows, minus_rows, window_rows, transform_rows}
+use Rattle.rs_facts.specs.Query.{Window, Piece, Query, where_rows, dissolve_rows, rename_column, overlay_rows, cover_rows, merge_rows, minus_rows, window_rows, transform_rows, gaps_rows}
 use Rattle.rs_facts.specs.WellFormed.{width_of}
 use Rattle.rs_planning.specs.Basis.{Basis}
 use Rattle.rs_planning.specs.Checked.{nodes_of}
@@ -24,7 +24,7 @@ use Rattle.rs_plan.specs.declared.plan.PlannedWindow.{PlannedWindow}
 use Rattle.rs_plan.specs.Counted.{Counted, named_index, StandsFor}
 use Rattle.rs_plan.specs.Operands.{operand_tree, operand_names, AreAmong, IsWeighed, weights, widths, IsTogether, IsAlone, IsOverlaid, most_records, IsPlaced, IsPlacedAlone}
 use Rattle.rs_plan.specs.PlanView.{window_of, named_by_window}
-use Rattle.rs_plan.proofs.Standing.{parts, joined, where-stands, rename-stands, dissolve-stands, window-stands, transform-stands, overlay-left, overlay-right, cover-left, cover-right, merge-left, merge-right, minus-left, minus-right}
+use Rattle.rs_plan.proofs.Standing.{parts, joined, where-stands, rename-stands, dissolve-stands, window-stands, transform-stands, gaps-stands, overlay-left, overlay-right, cover-left, cover-right, merge-left, merge-right, minus-left, minus-right}
 use Rattle.rs_plan.proofs.WidthLaws.{placed-width, widths-together}
 use Rattle.rs_plan.proofs.Walks.{append-end}
 
@@ -110,6 +110,24 @@ module _ (counted : Counted) where
           placed.names whole both.0 (subst (AreAmong whole) (sym (map-append named_by_window windows (window ∷ []))) (joined (Contains whole) (map named_by_window windows) (named_by_window window ∷ []) b both.1)) c;
     }
 
+  -- ---- a WHERE and a WINDOW above
+
+  above_weight : (record_count : Name → ℕ) (conditions : List Condition) (plan : Plan) → weight record_count plan ≡ weight record_count (rule.under_where conditions plan)
+  above_weight record_count [] plan = refl
+  above_weight record_count (condition ∷ conditions) plan = refl
+
+  above_width : (basis : Basis) (conditions : List Condition) (plan : Plan) → plan_width basis.world plan ≡ plan_width basis.world (rule.under_where conditions plan)
+  above_width basis [] plan = refl
+  above_width basis (condition ∷ conditions) plan = refl
+
+  window_weight : (record_count : Name → ℕ) (seen : List Window) (plan : Plan) → weight record_count plan ≡ weight record_count (rule.under_window seen plan)
+  window_weight record_count [] plan = refl
+  window_weight record_count (window ∷ seen) plan = refl
+
+  window_width : (basis : Basis) (seen : List Window) (plan : Plan) → plan_width basis.world plan ≡ plan_width basis.world (rule.under_window seen plan)
+  window_width basis [] plan = refl
+  window_width basis (window ∷ seen) plan = refl
+
   -- ---- a node alone
 
   module _ (q : Query) (named : List Numbered) (windows : List PlannedWindow) (conditions : List Condition) (operands : List Operand) (tree : Plan) (heavy width : ℕ) (front : List Numbered) (alone : IsAlone operands tree heavy width front) where
@@ -179,14 +197,6 @@ module _ (counted : Counted) where
         (both_light first.light second.light)
         (names_of_both conditions conditions first second)
 
-    above_weight : (record_count : Name → ℕ) (conditions : List Condition) (plan : Plan) → weight record_count plan ≡ weight record_count (rule.under_where conditions plan)
-    above_weight record_count [] plan = refl
-    above_weight record_count (condition ∷ conditions) plan = refl
-
-    above_width : (basis : Basis) (conditions : List Condition) (plan : Plan) → plan_width basis.world plan ≡ plan_width basis.world (rule.under_where conditions plan)
-    above_width basis [] plan = refl
-    above_width basis (condition ∷ conditions) plan = refl
-
     pub cover-placed : (m n : ℕ) (conditions : List Condition) (operands : List Operand) → PlacedAlone a of_a windows [] left → PlacedAlone b of_b windows [] right
         → IsAlone operands (rule.under_where conditions (plans.cover_node m n (operand_tree left) (operand_tree right))) (min (left.weight + right.weight) most_weight) (min (m + n) (2 ^ 8 - 1)) (operand_names left ++ operand_names right)
         → Placed (cover_rows m n a b) (of_a ++ of_b) windows conditions operands
@@ -203,14 +213,6 @@ module _ (counted : Counted) where
   -- ---- TRANSFORM
 
   module _ (q : Query) (named : List Numbered) (windows : List PlannedWindow) (name : Name) (pieces : List Piece) (one : Operand) where
-    window_weight : (record_count : Name → ℕ) (seen : List Window) (plan : Plan) → weight record_count plan ≡ weight record_count (rule.under_window seen plan)
-    window_weight record_count [] plan = refl
-    window_weight record_count (window ∷ seen) plan = refl
-
-    window_width : (basis : Basis) (seen : List Window) (plan : Plan) → plan_width basis.world plan ≡ plan_width basis.world (rule.under_window seen plan)
-    window_width basis [] plan = refl
-    window_width basis (window ∷ seen) plan = refl
-
     pub transform-placed : (conditions : List Condition) (operands : List Operand) (on_routes : List Numbered) → PlacedAlone q named [] conditions one
         → IsAlone operands (rule.under_window (map window_of windows) (plans.transform_node name pieces (operand_tree one))) one.weight one.width (map named_by_window windows ++ (on_routes ++ operand_names one))
         → Placed (transform_rows q name pieces) (named ++ on_routes) windows conditions operands
@@ -224,6 +226,23 @@ module _ (counted : Counted) where
         (λ whole among seen indexes.
         let both = parts (Contains whole) named on_routes among in
         joined (Contains whole) (map named_by_window windows) (on_routes ++ operand_names one) seen (joined (Contains whole) on_routes (operand_names one) both.1 (placed.names whole both.0 tt indexes)))
+
+  -- ---- GAPS
+
+  pub gaps-placed : (q : Query) (named : List Numbered) (windows : List PlannedWindow) (conditions : List Condition) (one : Operand) (operands : List Operand) → PlacedAlone q named [] [] one
+      → IsAlone operands (rule.under_where conditions (rule.under_window (map window_of windows) (plans.gaps_node (operand_tree one)))) one.weight 0 (map named_by_window windows ++ operand_names one)
+      → Placed (gaps_rows q) named windows conditions operands
+  gaps-placed q named windows conditions one operands placed alone =
+      let node = plans.gaps_node (operand_tree one) in
+      let seen = rule.under_window (map window_of windows) node in
+      node-placed (gaps_rows q) named windows conditions operands _ _ _ _ alone
+      (λ basis stands. ap (λ t. rule.under_where conditions (rule.under_window (map window_of windows) (plans.gaps_node t)) ∷ []) (placed.tree basis (gaps-stands counted basis q named stands)))
+      (λ basis stands. (
+        (placed.weighed basis (gaps-stands counted basis q named stands)).0 ∙ window_weight basis.record_count (map window_of windows) node ∙ above_weight basis.record_count conditions seen,
+        window_width basis (map window_of windows) node ∙ above_width basis conditions seen,
+      ))
+      (let all = placed.light in omega (arith, all))
+      (λ whole among seen indexes. joined (Contains whole) (map named_by_window windows) (operand_names one) seen (placed.names whole among tt indexes))
 
   -- ---- OVERLAY
 

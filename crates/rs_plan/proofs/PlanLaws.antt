@@ -49,6 +49,12 @@ transform-tree name pieces plan = ap plan_tree (sym (variants.rolls-Transform na
 pub transform-names : (name : ArrayString) (pieces : Vec PlannedPiece Global) (plan : Box Plan Global) → named_in (variants.Transform name pieces plan) ≡ flat_map named_by_piece pieces.items ++ named_in plan.value
 transform-names name pieces plan = ap named_in (sym (variants.rolls-Transform name pieces plan)) ∙ fold-roll-Plan (List Numbered) named_step (Plan-F.Transform name pieces plan)
 
+pub gaps-tree : (plan : Box Plan Global) → plan_tree (variants.Gaps plan) ≡ plans.gaps_node (plan_tree plan.value)
+gaps-tree plan = ap plan_tree (sym (variants.rolls-Gaps plan)) ∙ fold-roll-Plan plans.Plan plan_step (Plan-F.Gaps plan)
+
+pub gaps-names : (plan : Box Plan Global) → named_in (variants.Gaps plan) ≡ named_in plan.value
+gaps-names plan = ap named_in (sym (variants.rolls-Gaps plan)) ∙ fold-roll-Plan (List Numbered) named_step (Plan-F.Gaps plan)
+
 pub cover-tree : (m n : ℕ) (left right : Box Plan Global) → plan_tree (variants.Cover m n left right) ≡ plans.cover_node m n (plan_tree left.value) (plan_tree right.value)
 cover-tree m n left right = ap plan_tree (sym (variants.rolls-Cover m n left right)) ∙ fold-roll-Plan plans.Plan plan_step (Plan-F.Cover m n left right)
 

@@ -51,6 +51,12 @@ transform-query operand name pieces = ap query_of (sym (variants.rolls-Transform
 pub transform-named : (operand : Box CheckedQuery Global) (name : ArrayString) (pieces : Vec LocatedPiece Global) → named_in (variants.Transform operand name pieces) ≡ named_in operand.value ++ flat_map named_by_piece pieces.items
 transform-named operand name pieces = ap named_in (sym (variants.rolls-Transform operand name pieces)) ∙ fold-roll-CheckedQuery (List Numbered) named_step (CheckedQuery-F.Transform operand name pieces)
 
+pub gaps-query : (operand : Box CheckedQuery Global) → query_of (variants.Gaps operand) ≡ queries.gaps_rows (query_of operand.value)
+gaps-query operand = ap query_of (sym (variants.rolls-Gaps operand)) ∙ fold-roll-CheckedQuery Query query_step (CheckedQuery-F.Gaps operand)
+
+pub gaps-named : (operand : Box CheckedQuery Global) → named_in (variants.Gaps operand) ≡ named_in operand.value
+gaps-named operand = ap named_in (sym (variants.rolls-Gaps operand)) ∙ fold-roll-CheckedQuery (List Numbered) named_step (CheckedQuery-F.Gaps operand)
+
 pub overlay-query : (left right : Box CheckedQuery Global) → query_of (variants.Overlay left right) ≡ queries.overlay_rows (query_of left.value) (query_of right.value)
 overlay-query left right = ap query_of (sym (variants.rolls-Overlay left right)) ∙ fold-roll-CheckedQuery Query query_step (CheckedQuery-F.Overlay left right)
 

@@ -3,7 +3,7 @@ use Rattle.std.proofs.Common.{◌≡◌, ℕ, ◌+◌, ◌^◌, ◌≤◌, List,
 use Rattle.std.specs.List.{AllByRecursion}
 use Rattle.rs_facts.specs.Condition.{Condition}
 use Rattle.rs_facts.specs.Fact.{Name}
-use Rattle.rs_facts.specs.Query.{Window, Piece, Query, where_rows, dissolve_rows, rename_column, overlay_rows, cover_rows, merge_rows, minus_rows, window_rows, transform_rows}
+use Rattle.rs_facts.specs.Query.{Window, Piece, Query, where_rows, dissolve_rows, rename_column, overlay_rows, cover_rows, merge_rows, minus_rows, window_rows, transform_rows, gaps_rows}
 use Rattle.rs_planning.specs.Basis.{Basis}
 use Rattle.rs_planning.specs.Checked.{nodes_of}
 use Rattle.rs_planning.specs.Numbered.{Numbered}
@@ -47,6 +47,9 @@ module _ (counted : Counted) (basis : Basis) where
 
   pub transform-stands : (q : Query) (name : Name) (pieces : List Piece) (named others : List Numbered) → Stands (transform_rows q name pieces) (named ++ others) → Stands q named
   transform-stands q name pieces named others stands = record { well_formed = stands.well_formed.0; few = less_one (nodes_of q) (2 ^ 32) stands.few; tables = (parts (IsCounted counted basis) named others stands.tables).0 }
+
+  pub gaps-stands : (q : Query) (named : List Numbered) → Stands (gaps_rows q) named → Stands q named
+  gaps-stands q named stands = record { well_formed = stands.well_formed; few = less_one (nodes_of q) (2 ^ 32) stands.few; tables = stands.tables }
 
   module _ (a b : Query) (of_a of_b : List Numbered) where
     pub overlay-left : Stands (overlay_rows a b) (of_a ++ of_b) → Stands a of_a

@@ -2,11 +2,11 @@
 use Rattle.std.proofs.Common.{◌≡◌, Bool, true, false, ◌||◌, List, [], ◌∷◌, ◌++◌, map, refl, sym, ap, ◌∙◌}
 use Rattle.std.specs.List.{AllByRecursion}
 use Rattle.rs_facts.specs.Condition.{Condition}
-use Rattle.rs_facts.specs.Query.{Window, Query, table_rows, where_rows, dissolve_rows, rename_column, overlay_rows, cover_rows, merge_rows, minus_rows, window_rows, transform_rows}
+use Rattle.rs_facts.specs.Query.{Window, Query, table_rows, where_rows, dissolve_rows, rename_column, overlay_rows, cover_rows, merge_rows, minus_rows, window_rows, transform_rows, gaps_rows}
 use Rattle.rs_planning.specs.Basis.{Basis}
 use Rattle.rs_planning.specs.Conjuncts.{conjuncts, under_dissolve}
 use Rattle.rs_planning.specs.Numbered.{Numbered, numbered_table, numbered_route, numbered_index}
-use Rattle.rs_planning.specs.Plan.{Plan, dissolve_node, cover_node, merge_node, minus_node, transform_node}
+use Rattle.rs_planning.specs.Plan.{Plan, dissolve_node, cover_node, merge_node, minus_node, transform_node, gaps_node}
 use Rattle.rs_planning.specs.Rule.{leaf, together, under_where, under_window, place, plan_of}
 use Rattle.rs_checker.specs.declared.checked.Checked.{Checked}
 use Rattle.rs_checker.specs.CheckedView as checking
@@ -83,6 +83,13 @@ module _ (basis : Basis) where
         one = under_window windows (transform_node name pieces is.one);
         by_both = ap (λ (plans : List Plan). under_window windows (transform_node name pieces (together basis plans)) ∷ []) is.by_both;
         by_none = ap (λ (plans : List Plan). under_window windows (transform_node name pieces (together (without_records basis) plans)) ∷ []) is.by_none;
+      }
+  is-one (gaps_rows query) e windows conditions =
+      let is = is-one query e [] [] in
+      record {
+        one = under_where conditions (under_window windows (gaps_node is.one));
+        by_both = ap (λ (plans : List Plan). under_where conditions (under_window windows (gaps_node (together basis plans))) ∷ []) is.by_both;
+        by_none = ap (λ (plans : List Plan). under_where conditions (under_window windows (gaps_node (together (without_records basis) plans))) ∷ []) is.by_none;
       }
 
   plan-same : (query : Query) → has_overlay query ≡ false → plan_of (without_records basis) query ≡ plan_of basis query

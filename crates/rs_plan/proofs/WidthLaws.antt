@@ -7,11 +7,11 @@ use Rattle.std.proofs.Math.ListN.{length-set}
 use Rattle.std.proofs.lemmas.List.{length-append, length-map}
 use Rattle.std.proofs.lemmas.List.Sums.{sum_by-cons}
 use Rattle.rs_facts.specs.Condition.{Condition}
-use Rattle.rs_facts.specs.Query.{Window, column_at, Query, table_rows, where_rows, dissolve_rows, rename_column, overlay_rows, cover_rows, merge_rows, minus_rows, window_rows, transform_rows, columns_of}
+use Rattle.rs_facts.specs.Query.{Window, column_at, Query, table_rows, where_rows, dissolve_rows, rename_column, overlay_rows, cover_rows, merge_rows, minus_rows, window_rows, transform_rows, gaps_rows, columns_of}
 use Rattle.rs_facts.specs.WellFormed.{IsWellFormed, width_of}
 use Rattle.rs_planning.specs.Basis.{Basis}
 use Rattle.rs_planning.specs.Conjuncts.{conjuncts, is_of_left, is_of_right, is_of_both, under_right}
-use Rattle.rs_planning.specs.Plan.{Plan, cover_node, transform_node, plan_width}
+use Rattle.rs_planning.specs.Plan.{Plan, cover_node, transform_node, gaps_node, plan_width}
 use Rattle.rs_planning.specs.Rule.{together, under_where, under_window, overlay_under_where, place}
 use Rattle.rs_planning.proofs.Operands.{width_together, width-append, together-width}
 use Rattle.rs_planning.specs.Numbered.{Numbered}
@@ -27,7 +27,7 @@ use Rattle.rs_plan.specs.declared.operand.Operand.{Operand}
 use Rattle.rs_plan.specs.Counted.{Counted, StandsFor}
 use Rattle.rs_plan.specs.Operands.{operand_tree, IsWeighed, widths}
 use Rattle.rs_plan.specs.Widths.{IsWidth}
-use Rattle.rs_plan.proofs.QueryVariants.{table-query, table-named, where-query, where-named, dissolve-query, dissolve-named, rename-query, rename-named, window-query, window-named, transform-query, transform-named, overlay-query, overlay-named, cover-query, cover-named, merge-query, merge-named, minus-query, minus-named}
+use Rattle.rs_plan.proofs.QueryVariants.{table-query, table-named, where-query, where-named, dissolve-query, dissolve-named, rename-query, rename-named, window-query, window-named, transform-query, transform-named, gaps-query, gaps-named, overlay-query, overlay-named, cover-query, cover-named, merge-query, merge-named, minus-query, minus-named}
 use Rattle.rs_plan.proofs.Standing.{stands-as, where-stands, rename-stands, window-stands, transform-stands, overlay-left, overlay-right, merge-left, minus-left}
 
 module _ (basis : Basis) where
@@ -70,6 +70,10 @@ module _ (basis : Basis) where
       let above = window-width windows (transform_node name pieces (together basis (place basis query [] conditions))) in
       let one = together-width basis (place basis query [] conditions) in
       let rest = placed-width query [] conditions wf.0 in omega (arith, above, one, rest)
+  placed-width (gaps_rows query) windows conditions wf =
+      let node = gaps_node (together basis (place basis query [] [])) in
+      let seen = window-width windows node in
+      let above = where-width conditions (under_window windows node) in omega (arith, seen, above)
 
   pub widths-together : (operands : List Operand) → AllByRecursion (IsWeighed basis) operands → widths operands ≡ width_together basis.world (map operand_tree operands)
   widths-together [] weighed = refl
@@ -109,6 +113,9 @@ module _ (query inner : CheckedQuery) (operand : Box CheckedQuery Global) (same 
 
 pub table-wide : (query : CheckedQuery) (table : CheckedTable) → query ≡ variants.Table table → IsWidth query table.width
 table-wide query table is = width-by query _ _ (ap query_of is ∙ table-query table) (ap named_in is ∙ table-named table) table.width (λ counted basis stands. sym stands.tables.0.0)
+
+pub gaps-wide : (query : CheckedQuery) (operand : Box CheckedQuery Global) → query ≡ variants.Gaps operand → IsWidth query 0
+gaps-wide query operand is = width-by query _ _ (ap query_of is ∙ gaps-query operand) (ap named_in is ∙ gaps-named operand) 0 (λ counted basis stands. refl)
 
 small : (m most : ℕ) → m ≤ most → min m most ≡ m
 small m most le = omega (arith, le)

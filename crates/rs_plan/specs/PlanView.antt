@@ -55,6 +55,7 @@ plan_step (Plan-F.Merge left right) = plans.merge_node left.value right.value
 plan_step (Plan-F.Minus left right) = plans.minus_node left.value right.value
 plan_step (Plan-F.Window windows plan) = plans.window_node (windows_of windows) plan.value
 plan_step (Plan-F.Transform name pieces plan) = plans.transform_node name.bytes (map piece_of pieces.items) plan.value
+plan_step (Plan-F.Gaps plan) = plans.gaps_node plan.value
 
 abbrev pub plan_tree : Plan → plans.Plan
 plan_tree = fold-Plan plans.Plan plan_step
@@ -93,6 +94,7 @@ named_step (Plan-F.Merge left right) = left.value ++ right.value
 named_step (Plan-F.Minus left right) = left.value ++ right.value
 named_step (Plan-F.Window windows plan) = map named_by_window windows.items ++ plan.value
 named_step (Plan-F.Transform name pieces plan) = flat_map named_by_piece pieces.items ++ plan.value
+named_step (Plan-F.Gaps plan) = plan.value
 
 -- the tables, routes and indexes that the plan names
 abbrev pub named_in : Plan → List Numbered

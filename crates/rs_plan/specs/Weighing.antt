@@ -1,6 +1,6 @@
 -- In which plans the numbers of records have a part.
 use Rattle.std.specs.Prelude.{Bool, true, false, ◌||◌}
-use Rattle.rs_facts.specs.Query.{Query, table_rows, where_rows, dissolve_rows, rename_column, overlay_rows, cover_rows, merge_rows, minus_rows, window_rows, transform_rows}
+use Rattle.rs_facts.specs.Query.{Query, table_rows, where_rows, dissolve_rows, rename_column, overlay_rows, cover_rows, merge_rows, minus_rows, window_rows, transform_rows, gaps_rows}
 use Rattle.rs_plan.specs.Counted.{Counted}
 
 -- there is an OVERLAY in the query
@@ -15,6 +15,7 @@ has_overlay (merge_rows a b) = has_overlay a || has_overlay b
 has_overlay (minus_rows a b) = has_overlay a || has_overlay b
 has_overlay (window_rows query window) = has_overlay query
 has_overlay (transform_rows query name pieces) = has_overlay query
+has_overlay (gaps_rows query) = has_overlay query
 
 -- the same indexes, and no table has records
 abbrev pub uncounted : Counted → Counted

@@ -30,6 +30,17 @@ pub(crate) struct Shares {
     pub(crate) both: Vec<Condition>,
 }
 
+/// Nothing: it is seen through no window, and its rows meet no condition.
+pub(crate) fn nothing(alloc: Global) -> Asked
+    ensures windows { result.windows.items ≡ [] }
+    ensures conditions { conditions_of result.conditions ≡ [] }
+{
+    Asked {
+        windows: Vec::new(alloc),
+        conditions: Vec::new(alloc),
+    }
+}
+
 /// The conjuncts of a condition are asked too, after the others.
 pub(crate) fn with_condition(
     alloc: Global,

@@ -37,6 +37,7 @@ fn lines_below(
         Plan::Dissolve(_, operand) => lines_below(alloc, lines, operand, depth + 1),
         Plan::Window(_, operand) => lines_below(alloc, lines, operand, depth + 1),
         Plan::Transform(_, _, operand) => lines_below(alloc, lines, operand, depth + 1),
+        Plan::Gaps(operand) => lines_below(alloc, lines, operand, depth + 1),
         Plan::Overlay(_, operands) => lines_of_each(alloc, lines, operands.as_slice(), depth + 1),
         Plan::Cover(_, _, left, right) => {
             let lines = lines_below(alloc, lines, left, depth + 1)?;
@@ -110,6 +111,7 @@ fn push_node(text: &mut String, plan: &Plan) -> Result<(), AllocError>
         Plan::Minus(_, _) => text.push_str("MINUS"),
         Plan::Window(windows, _) => push_counted(text, "WINDOW", windows.len()),
         Plan::Transform(name, _, _) => push_named(text, "TRANSFORM", name),
+        Plan::Gaps(_) => text.push_str("GAPS"),
     }
 }
 

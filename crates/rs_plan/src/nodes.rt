@@ -127,6 +127,25 @@ pub(crate) fn transform(
     alone(alloc, under_window(alloc, windows, carried)?)
 }
 
+/// GAPS over an operand, under a WINDOW where there are windows, and that under a WHERE where there are conditions.
+pub(crate) fn gaps(
+    alloc: Global,
+    one: Operand,
+    windows: Vec<PlannedWindow>,
+    conditions: Vec<Condition>,
+) -> Result<Vec<Operand>, AllocError>
+    ensures { IfOk result (λ made. IsAlone made.items (rule.under_where (conditions_of conditions) (rule.under_window (windows_of windows) (plans.gaps_node (operand_tree one)))) one.weight 0
+        (map named_by_window windows.items ++ operand_names one)) }
+{
+    let gaps = Operand {
+        plan: Plan::Gaps(Box::new(alloc, one.plan)?),
+        weight: one.weight,
+        width: 0,
+    };
+    let seen = under_window(alloc, windows, gaps)?;
+    alone(alloc, under_where(alloc, conditions, seen)?)
+}
+
 /// The operands of OVERLAY as they are where there are no conditions; else their one plan under a WHERE.
 pub(crate) fn overlay_under_where(
     alloc: Global,

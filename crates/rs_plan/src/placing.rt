@@ -7,11 +7,11 @@ ghost use Rattle.rs_checker.specs.CheckedView.{query_of, named_in};
 ghost use Rattle.rs_plan.specs.Operands.{IsPlaced, IsPlacedAlone, is_pair};
 ghost use Rattle.rs_plan.specs.PlanView.{conditions_of};
 
-use crate::asking::{Asked, for_dissolve, same, shares_of, with_condition, with_window};
+use crate::asking::{Asked, for_dissolve, nothing, same, shares_of, with_condition, with_window};
 use crate::counts::Counts;
 use crate::leaves::{leaf, planned_window};
 use crate::nodes::{
-    OfRows, cover, dissolve, of_rows, overlay_under_where, side_by_side, transform,
+    OfRows, cover, dissolve, gaps, of_rows, overlay_under_where, side_by_side, transform,
 };
 use crate::operand::Operand;
 use crate::overlays::together;
@@ -62,6 +62,10 @@ pub(crate) fn place<C: Counts>(
             };
             let one = place_alone(alloc, Box::into_inner(operand), inside, counts)?;
             transform(alloc, name, pieces.as_slice(), one, windows)
+        }
+        CheckedQuery::Gaps(operand) => {
+            let one = place_alone(alloc, Box::into_inner(operand), nothing(alloc), counts)?;
+            gaps(alloc, one, asked.windows, asked.conditions)
         }
         pair => place_pair(alloc, pair, asked, counts),
     }

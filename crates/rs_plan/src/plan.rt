@@ -119,4 +119,6 @@ pub enum Plan {
     Window(Vec<PlannedWindow>, Box<Plan>),
     /// The rows carried by the pieces of the alignment of this name.
     Transform(Name, Vec<PlannedPiece>, Box<Plan>),
+    /// The row without columns wherever, between the ends of a route, there is no row.
+    Gaps(Box<Plan>),
 }

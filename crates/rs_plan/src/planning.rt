@@ -3,7 +3,7 @@
 ghost use Rattle.std.specs.Prelude.{IfOk};
 ghost use Rattle.rs_plan.specs.Planned.{IsPlanOf};
 
-use crate::asking::Asked;
+use crate::asking::nothing;
 use crate::counts::Counts;
 use crate::placing::place_alone;
 use crate::plan::Plan;
@@ -28,10 +28,6 @@ pub fn plan<C: Counts>(alloc: Global, checked: Checked, counts: &C) -> Result<Pl
 fn plan_by<C: Counts>(alloc: Global, checked: Checked, counts: &C) -> Result<Plan, AllocError>
     ensures { IfOk result (λ plan. IsPlanOf (C.counted counts.now) checked plan) }
 {
-    let asked = Asked {
-        windows: Vec::new(alloc),
-        conditions: Vec::new(alloc),
-    };
-    let one = place_alone(alloc, checked.query, asked, counts)?;
+    let one = place_alone(alloc, checked.query, nothing(alloc), counts)?;
     Ok(one.plan)
 }

@@ -19,6 +19,7 @@ pub(crate) fn has_overlay(query: &CheckedQuery) -> bool
         CheckedQuery::Rename(operand, _, _) => has_overlay(operand),
         CheckedQuery::Window(operand, _) => has_overlay(operand),
         CheckedQuery::Transform(operand, _, _) => has_overlay(operand),
+        CheckedQuery::Gaps(operand) => has_overlay(operand),
         CheckedQuery::Cover(_, _, left, right) => has_overlay(left) || has_overlay(right),
         CheckedQuery::Merge(left, right) => has_overlay(left) || has_overlay(right),
         CheckedQuery::Minus(left, right) => has_overlay(left) || has_overlay(right),

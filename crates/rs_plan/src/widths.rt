@@ -20,6 +20,7 @@ pub(crate) fn width_of(query: &CheckedQuery) -> u8
         CheckedQuery::Minus(left, _) => width_of(left),
         CheckedQuery::Window(operand, _) => width_of(operand),
         CheckedQuery::Transform(operand, _, _) => width_of(operand),
+        CheckedQuery::Gaps(_) => 0,
     }
 }
 

@@ -10,7 +10,7 @@ use Rattle.rs_value.specs.Row.{Datum, number, text}
 use Rattle.rs_facts.specs.Fact.{Name, name_cmp, no_facts}
 use Rattle.rs_facts.specs.Insert.{same_name}
 use Rattle.rs_facts.specs.Condition.{Condition, column, written, compare, tests_null, both, either, bracketed, negated}
-use Rattle.rs_facts.specs.Query.{Column, Table, World, on_route, between, Query, table_rows, where_rows, dissolve_rows, rename_column, overlay_rows, cover_rows, merge_rows, minus_rows, window_rows, transform_rows}
+use Rattle.rs_facts.specs.Query.{Column, Table, World, on_route, between, Query, table_rows, where_rows, dissolve_rows, rename_column, overlay_rows, cover_rows, merge_rows, minus_rows, window_rows, transform_rows, gaps_rows}
 use Rattle.rs_planning.specs.Basis.{IndexedColumn, Basis}
 use Rattle.rs_planning.specs.Explain.{explained_by}
 
@@ -162,6 +162,11 @@ transform_below : explained_by (basis 1 on_surf) (window_rows (where_rows (trans
     ≡ codes "0 WINDOW 1" ∷ codes "1 TRANSFORM re" ∷ codes "2 INDEX ps pave 1 1" ∷ []
 unfolding name_cmp digits
 transform_below = simp one_there refl
+
+-- WINDOW(GAPS(WHERE(pave, surf = 'AC')), A): windows stay above
+gaps_below : explained_by (basis 1 on_surf) (window_rows (gaps_rows (where_rows (table_rows pave) (is_ac 0))) (on_route (codes "A"))) ≡ codes "0 WINDOW 1" ∷ codes "1 GAPS" ∷ codes "2 INDEX ps pave 0 1" ∷ []
+unfolding name_cmp digits
+gaps_below = simp one_there refl
 
 -- WHERE(DISSOLVE(OVERLAY(speed, pave), (surf, kph)), surf = 'AC' AND kph > 50)
 dissolve_below : explained_by (basis 1 on_surf) (where_rows (dissolve_rows (overlay_rows (table_rows speed) (table_rows pave)) (1 ∷ 0 ∷ [])) (both (is_ac 0) (is_fast 1)))

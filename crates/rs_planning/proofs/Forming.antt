@@ -10,13 +10,13 @@ use Rattle.std.specs.List.{AllByRecursion}
 use Rattle.rs_value.specs.declared.column.TheConstants.{COLUMNS}
 use Rattle.rs_facts.specs.Condition.{Condition}
 use Rattle.rs_facts.specs.Fact.{Name}
-use Rattle.rs_facts.specs.Query.{World, Window, table_columns, column_at, overlaid_kind, Query, table_rows, where_rows, dissolve_rows, rename_column, overlay_rows, cover_rows, merge_rows, minus_rows, window_rows, transform_rows, kind_of, columns_of}
+use Rattle.rs_facts.specs.Query.{World, Window, table_columns, column_at, overlaid_kind, Query, table_rows, where_rows, dissolve_rows, rename_column, overlay_rows, cover_rows, merge_rows, minus_rows, window_rows, transform_rows, gaps_rows, kind_of, columns_of}
 use Rattle.rs_facts.specs.WellFormed.{width_of, IsWellFormed}
 use Rattle.rs_planning.specs.Basis.{Basis}
 use Rattle.rs_planning.specs.Checked.{AreBelow, ReadBelow, NamesItsColumns}
 use Rattle.rs_planning.specs.Conjuncts.{conjuncts, is_of_left, is_of_right, is_of_both, under_dissolve, under_right}
 use Rattle.rs_planning.specs.Explain.{operands_counted}
-use Rattle.rs_planning.specs.Plan.{Plan, where_node, dissolve_node, cover_node, merge_node, minus_node, window_node, transform_node, plan_kind, plan_width}
+use Rattle.rs_planning.specs.Plan.{Plan, where_node, dissolve_node, cover_node, merge_node, minus_node, transform_node, gaps_node, plan_kind, plan_width}
 use Rattle.rs_planning.specs.Rule.{PlacedOperand, leaf, in_written_order, columns_together, operands_of, overlay_of, together, under_where, under_window, overlay_under_where, place}
 use Rattle.rs_planning.specs.WellFormedPlan.{IsNoOverlay, operands_width, IsWellFormedPlan, AreWellFormedOperands}
 use Rattle.rs_planning.proofs.Meeting.{every-append, every-filter, conjuncts-below, below-under_dissolve, below-left, below-right}
@@ -38,6 +38,7 @@ narrow world (merge_rows a b) wf = narrow world a wf.0
 narrow world (minus_rows a b) wf = narrow world a wf.0
 narrow world (window_rows query window) wf = narrow world query wf
 narrow world (transform_rows query name pieces) wf = narrow world query wf.0
+narrow world (gaps_rows query) wf = omega arith
 
 -- ---- conditions on their way down read columns of what they come to
 
@@ -150,10 +151,24 @@ module _ (basis : Basis) where
   where-alone [] plan query kind width below wf single = alone plan query kind width wf single
   where-alone (condition ∷ conditions) plan query kind width below wf single = alone (where_node (condition ∷ conditions) plan) query kind width (wf, omega arith, below) tt
 
+  -- a plan under a WINDOW, if there is one, keeps its kind and its width, and is no OVERLAY
+  window-kind : (windows : List Window) (plan : Plan) → plan_kind basis.world (under_window windows plan) ≡ plan_kind basis.world plan
+  window-kind [] plan = refl
+  window-kind (window ∷ windows) plan = refl
+
+  window-width : (windows : List Window) (plan : Plan) → plan_width basis.world (under_window windows plan) ≡ plan_width basis.world plan
+  window-width [] plan = refl
+  window-width (window ∷ windows) plan = refl
+
+  window-operand : (windows : List Window) (plan : Plan) → IsOperand plan → IsOperand (under_window windows plan)
+  window-operand [] plan is = is
+  window-operand (window ∷ windows) plan is = ((is.0, omega arith), tt)
+
   window-alone : (windows : List Window) (plan : Plan) (query : Query) → plan_kind basis.world plan ≡ kind_of basis.world query → plan_width basis.world plan ≡ width_of basis.world query
-      → IsWellFormedPlan basis.world plan → IsNoOverlay plan → IsFormed (under_window windows plan ∷ []) query
-  window-alone [] plan query kind width wf single = alone plan query kind width wf single
-  window-alone (window ∷ windows) plan query kind width wf single = alone (window_node (window ∷ windows) plan) query kind width (wf, omega arith) tt
+      → IsOperand plan → IsFormed (under_window windows plan ∷ []) query
+  window-alone windows plan query kind width is =
+      let under = window-operand windows plan is in
+      alone (under_window windows plan) query (window-kind windows plan ∙ kind) (window-width windows plan ∙ width) under.0 under.1
 
   -- operands of a as well as of b are those of OVERLAY
   joined : (a b : Query) (left right : List Plan) → IsFormed left a → IsFormed right b → IsFormed (left ++ right) (overlay_rows a b)
@@ -213,7 +228,13 @@ module _ (basis : Basis) where
       alone (minus_node (part a windows conditions) (part b windows conditions)) (minus_rows a b) left.kind left.width (left.formed, right.formed, left.kind ∙ wf.2 ∙ sym right.kind, left.width ∙ wf.3 ∙ sym right.width) tt
   formed (transform_rows query name pieces) windows conditions wf named below =
       let inner = one (place basis query [] conditions) query wf.0 (formed query [] conditions wf.0 named below) in
-      window-alone windows (transform_node name pieces (part query [] conditions)) (transform_rows query name pieces) inner.kind inner.width (inner.formed, wf.1) tt
+      window-alone windows (transform_node name pieces (part query [] conditions)) (transform_rows query name pieces) inner.kind inner.width ((inner.formed, wf.1), tt)
+  formed (gaps_rows query) windows conditions wf named below =
+      let inner = one (place basis query [] []) query wf (formed query [] [] wf named tt) in
+      let plan = gaps_node (part query [] []) in
+      let under = window-operand windows plan (inner.formed, tt) in
+      let width = window-width windows plan in
+      where-alone conditions (under_window windows plan) (gaps_rows query) (window-kind windows plan) width (subst (λ n. ReadBelow n conditions) (sym width) below) under.0 under.1
 
 pub plan-formed : (basis : Basis) (query : Query) → IsWellFormed basis.world query → NamesItsColumns basis.world query → IsOne basis (place basis query [] []) query
 plan-formed basis query wf named = one basis (place basis query [] []) query wf (formed basis query [] [] wf named tt)

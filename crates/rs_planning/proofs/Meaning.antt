@@ -5,16 +5,16 @@ use Rattle.std.specs.FinMap as names
 use Rattle.rs_facts.specs.Fact.{Name, RowSet, contains}
 use Rattle.rs_facts.specs.Condition.{Condition}
 use Rattle.rs_facts.specs.Operators.{dissolved, overlaid, covered, merged, without}
-use Rattle.rs_facts.specs.Query.{World, Window, facts_of, transformed, Query, table_rows, where_rows, dissolve_rows, rename_column, overlay_rows, cover_rows, merge_rows, minus_rows, window_rows, transform_rows, rows_at}
+use Rattle.rs_facts.specs.Query.{World, Window, facts_of, transformed, gapped_on, Query, table_rows, where_rows, dissolve_rows, rename_column, overlay_rows, cover_rows, merge_rows, minus_rows, window_rows, transform_rows, gaps_rows, rows_at}
 use Rattle.rs_facts.specs.WellFormed.{width_of, IsWellFormed}
 use Rattle.rs_planning.specs.Basis.{Basis}
 use Rattle.rs_planning.specs.Checked.{ReadBelow, NamesItsColumns, RowsHaveTheirWidth}
 use Rattle.rs_planning.specs.Conjuncts.{conjuncts, under_dissolve}
 use Rattle.rs_planning.specs.Laws.{PlansMeanTheirQueries, PlansAreWellFormed}
-use Rattle.rs_planning.specs.Plan.{Plan, where_node, dissolve_node, cover_node, merge_node, minus_node, transform_node, met_by_each, seen_through_each, plan_rows_at}
+use Rattle.rs_planning.specs.Plan.{Plan, where_node, dissolve_node, cover_node, merge_node, minus_node, transform_node, gaps_node, met_by_each, seen_through_each, plan_rows_at}
 use Rattle.rs_planning.specs.Rule.{leaf, together, under_where, under_window, overlay_under_where, place}
 use Rattle.rs_planning.proofs.Meeting.{every-append}
-use Rattle.rs_planning.proofs.Shown.{shown, contains-shown, met_by_none, shown_whole, shown_leaf, shown_where, shown_window, shown_dissolve, shown_merge, shown_minus, shown_cover, shown_transform, shown_overlay}
+use Rattle.rs_planning.proofs.Shown.{shown, contains-shown, met_by_none, shown_whole, shown_leaf, shown_where, shown_window, shown_dissolve, shown_merge, shown_minus, shown_cover, shown_transform, shown_gaps, shown_overlay}
 use Rattle.rs_planning.proofs.PuttingBack.{HasItsWidth}
 use Rattle.rs_planning.proofs.Widths.{rows-wide}
 use Rattle.rs_planning.proofs.Operands.{rows_together, width_together, unit_right, rows-append, together-rows}
@@ -123,6 +123,14 @@ module _ (basis : Basis) (have : RowsHaveTheirWidth basis.world) where
       (λ route k. window-rows basis.world windows (transform_node name pieces (part basis query [] conditions)) route k
       ∙ ap (seen_through_each windows route k) (λ i. transformed pieces (λ r j. inner r j i) route k)
       ∙ shown_transform windows conditions pieces (rows_at basis.world query) route k)
+  placed (gaps_rows query) windows conditions wf named below =
+      let inner = one (place basis query [] []) query [] [] (placed query [] [] wf named tt) in
+      let plan = gaps_node (part basis query [] []) in
+      alone (under_where conditions (under_window windows plan)) (gaps_rows query) windows conditions wf (formed basis (gaps_rows query) windows conditions wf named below).width
+      (λ route k. where-rows basis.world conditions (under_window windows plan) route k
+      ∙ ap (met_by_each conditions) (window-rows basis.world windows plan route k
+      ∙ ap (λ (r : RowSet). seen_through_each windows route k (gapped_on (names.get basis.world.routes route) k r)) (inner route k))
+      ∙ shown_gaps windows conditions (names.get basis.world.routes route) route k (rows_at basis.world query route k))
 
 pub plan-means : PlansMeanTheirQueries
 plan-means basis query have wf named =

@@ -12,13 +12,14 @@ use Rattle.rs_value.specs.Row.{Row}
 use Rattle.rs_facts.specs.Fact.{Name, RowSet, contains}
 use Rattle.rs_facts.specs.Operators.{overlaid}
 use Rattle.rs_facts.specs.Query.{World, overlaid_kind}
+use Rattle.rs_facts.proofs.Gapping.{only_empty, has_empty}
 use Rattle.rs_facts.proofs.Sets.{same_rows}
 use Rattle.rs_facts.proofs.RowSets.{either-way}
 use Rattle.rs_planning.specs.Basis.{Basis}
 use Rattle.rs_planning.specs.Plan.{Plan, no_columns, plan_rows_at, overlaid_rows_at, plan_kind, overlaid_kinds, plan_width}
 use Rattle.rs_planning.specs.Rule.{PlacedOperand, weight, in_written_order, inserted_by_weight, lightest_first, columns_together, put_back, operands_of, overlay_of, together}
 use Rattle.rs_planning.proofs.Shown.{pairs}
-use Rattle.rs_planning.proofs.PuttingBack.{lightest-permutes, only_empty, has_empty, HasItsWidth, back-rows}
+use Rattle.rs_planning.proofs.PuttingBack.{lightest-permutes, HasItsWidth, back-rows}
 
 -- ---- OVERLAY of one after another
 

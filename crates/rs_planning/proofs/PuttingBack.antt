@@ -11,16 +11,16 @@ use Rattle.std.specs.Prelude.{nat_le}
 use Rattle.std.specs.List.{swap, list_any, AllByRecursion, range_with_len, position_or_len}
 use Rattle.std.specs.List.Sorted.{IsPermutation}
 use Rattle.rs_value.specs.Row.{null, Datum, Row}
-use Rattle.rs_facts.specs.Fact.{Name, none, contains}
+use Rattle.rs_facts.specs.Fact.{Name, contains}
 use Rattle.rs_facts.specs.Operators.{datum_at, chosen, mapped}
 use Rattle.rs_facts.specs.Query.{World}
-use Rattle.rs_facts.proofs.Rows.{same_row, same_row-true, same_row-refl}
-use Rattle.rs_facts.proofs.Sets.{contains-add, same_rows}
+use Rattle.rs_facts.proofs.Gapping.{only_empty, has_empty}
+use Rattle.rs_facts.proofs.Sets.{same_rows}
 use Rattle.rs_facts.proofs.RowSets.{either-way}
-use Rattle.rs_planning.specs.Plan.{Plan, plan_rows_at, overlaid_rows_at, plan_width, no_columns}
+use Rattle.rs_planning.specs.Plan.{Plan, plan_rows_at, overlaid_rows_at, plan_width}
 use Rattle.rs_planning.specs.Rule.{PlacedOperand, weight, in_written_order, inserted_by_weight, lightest_first, columns_together, put_back, operands_of}
 use Rattle.rs_planning.proofs.Meeting.{every-weaker}
-use Rattle.rs_planning.proofs.Shown.{in_none, changed, pairs}
+use Rattle.rs_planning.proofs.Shown.{changed, pairs}
 
 -- ---- operands by weight are the same operands
 
@@ -55,15 +55,6 @@ record IsJoined (world : World) (route : Name) (k : ℕ) (placed : List PlacedOp
   of : operands_in choices ≡ placed
   among : AreAmong world route k choices
   is : row ≡ joined choices
-
-pub only_empty : (row : Row) → contains no_columns row ≡ true → row ≡ []
-only_empty row e = elim (or_cases (same_row [] row) (contains none row) (sym (contains-add none [] row) ∙ e)) [
-  | inl same ↦ sym (same_row-true [] row same)
-  | inr wrong ↦ absurd (in_none row wrong)
-]
-
-pub has_empty : contains no_columns [] ≡ true
-has_empty = contains-add none [] [] ∙ or_left (same_row [] []) (contains none []) (same_row-refl [])
 
 choices-of : (world : World) (route : Name) (k : ℕ) (placed : List PlacedOperand) (row : Row) → contains (overlaid_rows_at world (operands_of placed) route k) row ≡ true → IsJoined world route k placed row
 choices-of world route k [] row e = record { choices = []; of = refl; among = tt; is = only_empty row e }

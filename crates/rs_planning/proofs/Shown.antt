@@ -1,5 +1,5 @@
 -- Rows that are seen through windows and meet conditions, and what operators make of them.
-use Rattle.std.proofs.Common.{◌≡◌, ℕ, ◌+◌, ◌-◌, Bool, true, false, not, ◌&&◌, ◌||◌, cond, List, [], ◌∷◌, ◌++◌, map, filter, length, refl, sym, ap, ◌∙◌}
+use Rattle.std.proofs.Common.{◌≡◌, ℕ, ◌+◌, ◌-◌, Bool, true, false, not, ◌&&◌, ◌||◌, cond, List, [], ◌∷◌, ◌++◌, map, filter, length, Option, refl, sym, ap, ◌∙◌}
 use Rattle.std.specs.List.{list_all, list_any}
 use Rattle.std.proofs.lemmas.Bool.{and_parts, and_from}
 use Rattle.std.proofs.lemmas.List.Folds.{list_all-append}
@@ -9,7 +9,7 @@ use Rattle.rs_facts.specs.Fact.{Name, RowSet, none, contains, items, keep, Facts
 use Rattle.rs_facts.specs.Insert.{same_name, within}
 use Rattle.rs_facts.specs.Operators.{nulls, chosen, mapped, dissolved, overlaid, covered, merged, without, windowed, carried}
 use Rattle.rs_facts.specs.OperatorLaws.{ChangedRowsAreThose, OverlaidRowsArePairs}
-use Rattle.rs_facts.specs.Query.{Window, on_route, between, Piece, seen_through, carried_by, transformed}
+use Rattle.rs_facts.specs.Query.{RouteEnds, Window, on_route, between, Piece, seen_through, carried_by, transformed, gapped_on}
 use Rattle.rs_facts.proofs.Rows.{same_row, same_row-true, same_row-equal}
 use Rattle.rs_facts.proofs.Sets.{contains-none, same_rows}
 use Rattle.rs_facts.proofs.RowSets.{any-items, among-items, either-way, contains-mapped, contains-overlaid, contains-merged, contains-keep, contains-without, contains-covered, any_row, in_cond}
@@ -306,6 +306,13 @@ pub shown_transform : (windows : List Window) (conditions : List Condition) (pie
     → seen_through_each windows route j (transformed pieces (λ r k. shown [] conditions r k (facts r k)) route j) ≡ shown windows conditions route j (transformed pieces facts route j)
 shown_transform windows conditions pieces facts route j =
     seen_each windows route j _ ∙ ap (λ (r : RowSet). cond (inside_each windows route j) r none) (transformed_met conditions pieces facts route j)
+
+-- GAPS takes neither into its operand
+pub shown_gaps : (windows : List Window) (conditions : List Condition) (ends : Option RouteEnds) (route : Name) (k : ℕ) (rows : RowSet)
+    → met_by_each conditions (seen_through_each windows route k (gapped_on ends k (shown [] [] route k rows))) ≡ shown windows conditions route k (gapped_on ends k rows)
+shown_gaps windows conditions ends route k rows =
+    ap (λ (r : RowSet). met_by_each conditions (seen_through_each windows route k (gapped_on ends k r))) (shown_whole route k rows)
+    ∙ shown_leaf windows conditions route k (gapped_on ends k rows)
 
 -- OVERLAY, of a left operand of this width
 pub shown_overlay : (windows : List Window) (conditions : List Condition) (width : ℕ) (route : Name) (k : ℕ) (a b : RowSet) → ((row : Row) → contains a row ≡ true → length row ≡ width)

@@ -1,5 +1,6 @@
 -- How wide the rows of a query are.
-use Rattle.std.proofs.Common.{◌≡◌, ℕ, ◌+◌, ◌&&◌, ◌||◌, Bool, true, false, ◌⊎◌, List, ◌++◌, length, inl, inr, refl, sym, ap, ◌∙◌, subst}
+use Rattle.std.proofs.Common.{◌≡◌, ℕ, ◌+◌, ◌&&◌, ◌||◌, Bool, true, false, ◌⊎◌, List, [], ◌++◌, length, Option, Some, None, inl, inr, refl, sym, ap, ◌∙◌, subst}
+use Rattle.std.specs.FinMap as names
 use Rattle.std.proofs.Math.ListN.{length-set, length-replicate}
 use Rattle.std.proofs.lemmas.Bool.{and_parts, or_cases}
 use Rattle.std.proofs.lemmas.List.{length-append, length-map}
@@ -7,12 +8,13 @@ use Rattle.rs_value.specs.Row.{null, Row}
 use Rattle.rs_facts.specs.Fact.{Name, RowSet, contains}
 use Rattle.rs_facts.specs.Condition.{meets}
 use Rattle.rs_facts.specs.Operators.{nulls, chosen, mapped, dissolved, overlaid, covered}
-use Rattle.rs_facts.specs.Query.{World, facts_of, table_columns, column_at, Query, table_rows, where_rows, dissolve_rows, rename_column, overlay_rows, cover_rows, merge_rows, minus_rows, window_rows, transform_rows, rows_at, columns_of}
+use Rattle.rs_facts.specs.Query.{RouteEnds, World, facts_of, table_columns, column_at, gapped_on, Query, table_rows, where_rows, dissolve_rows, rename_column, overlay_rows, cover_rows, merge_rows, minus_rows, window_rows, transform_rows, gaps_rows, rows_at, columns_of}
 use Rattle.rs_facts.specs.WellFormed.{width_of, IsWellFormed}
+use Rattle.rs_facts.proofs.Gapping.{gaps-rows}
 use Rattle.rs_facts.proofs.RowSets.{contains-keep, contains-merged, contains-without, contains-covered}
 use Rattle.rs_facts.proofs.Transforming.{transformed-rows}
 use Rattle.rs_planning.specs.Checked.{RowsHaveTheirWidth}
-use Rattle.rs_planning.proofs.Shown.{changed, pairs, contains-seen}
+use Rattle.rs_planning.proofs.Shown.{in_none, changed, pairs, contains-seen}
 
 length-nulls : (n : ℕ) → length (nulls n) ≡ n
 unfolding nulls
@@ -32,6 +34,10 @@ cover-cases m n a b row e = by _ _ _ _ _ (sym (contains-covered m n a b row) ∙
     by false true true r s e = inr (inl refl)
     by false true false r s e = inr (inr (and_parts r s e).1)
     by false false q r s e = inr (inr (and_parts r s e).1)
+
+gap-empty : (ends : Option RouteEnds) (k : ℕ) (rows : RowSet) (row : Row) → contains (gapped_on ends k rows) row ≡ true → row ≡ []
+gap-empty (Some ends) k rows row e = ((gaps-rows ends.start ends.finish k rows row).0 e).no_columns
+gap-empty None k rows row e = absurd (in_none row e)
 
 module _ (world : World) (have : RowsHaveTheirWidth world) where
   pub rows-wide : (query : Query) → IsWellFormed world query → (route : Name) (k : ℕ) (row : Row) → contains (rows_at world query route k) row ≡ true → length row ≡ width_of world query
@@ -78,3 +84,4 @@ module _ (world : World) (have : RowsHaveTheirWidth world) where
   rows-wide (transform_rows query name pieces) wf route k row e =
       let carried = (transformed-rows pieces (rows_at world query) route k row).0 e in
       rows-wide query wf.0 carried.piece.from_route carried.is_carried.k row carried.is_carried.among
+  rows-wide (gaps_rows query) wf route k row e = ap length (gap-empty (names.get world.routes route) k (rows_at world query route k) row e)

@@ -5,7 +5,7 @@ use Rattle.std.specs.FinMap as names
 use Rattle.rs_value.specs.Row.{Row}
 use Rattle.rs_facts.specs.Fact.{Name, contains}
 use Rattle.rs_facts.specs.Condition.{Condition}
-use Rattle.rs_facts.specs.Query.{Table, World, Query, table_rows, where_rows, dissolve_rows, rename_column, overlay_rows, cover_rows, merge_rows, minus_rows, window_rows, transform_rows}
+use Rattle.rs_facts.specs.Query.{Table, World, Query, table_rows, where_rows, dissolve_rows, rename_column, overlay_rows, cover_rows, merge_rows, minus_rows, window_rows, transform_rows, gaps_rows}
 use Rattle.rs_facts.specs.WellFormed.{width_of}
 use Rattle.rs_planning.specs.Conjuncts.{columns_read}
 
@@ -30,6 +30,7 @@ NamesItsColumns world (merge_rows a b) = NamesItsColumns world a × NamesItsColu
 NamesItsColumns world (minus_rows a b) = NamesItsColumns world a × NamesItsColumns world b
 NamesItsColumns world (window_rows query window) = NamesItsColumns world query
 NamesItsColumns world (transform_rows query name pieces) = NamesItsColumns world query
+NamesItsColumns world (gaps_rows query) = NamesItsColumns world query
 
 -- how many nodes the query has: each operator and each table is one
 abbrev pub nodes_of : Query → ℕ
@@ -43,6 +44,7 @@ nodes_of (merge_rows a b) = nodes_of a + nodes_of b + 1
 nodes_of (minus_rows a b) = nodes_of a + nodes_of b + 1
 nodes_of (window_rows query window) = nodes_of query + 1
 nodes_of (transform_rows query name pieces) = nodes_of query + 1
+nodes_of (gaps_rows query) = nodes_of query + 1
 
 -- each row of a table has a value for each of its columns
 abbrev pub RowsHaveTheirWidth : World → Type 0

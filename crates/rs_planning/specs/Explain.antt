@@ -3,7 +3,7 @@ use Rattle.std.specs.Prelude.{ℕ, suc, List, [], ◌∷◌, ◌++◌, length, c
 use Rattle.rs_facts.specs.Fact.{Names}
 use Rattle.rs_facts.specs.Query.{World, Query}
 use Rattle.rs_planning.specs.Basis.{IndexedColumn, Basis, present_basis}
-use Rattle.rs_planning.specs.Plan.{Access, scan, range, index, Plan, leaf_node, where_node, dissolve_node, overlay_node, cover_node, merge_node, minus_node, window_node, transform_node, Operands, no_operand, operand}
+use Rattle.rs_planning.specs.Plan.{Access, scan, range, index, Plan, leaf_node, where_node, dissolve_node, overlay_node, cover_node, merge_node, minus_node, window_node, transform_node, gaps_node, Operands, no_operand, operand}
 use Rattle.rs_planning.specs.Rule.{plan_of}
 
 -- `SCAN`, `RANGE`, or `INDEX` and the index
@@ -31,6 +31,7 @@ node_text (cover_node m n a b) = codes "COVER"
 node_text (merge_node a b) = codes "MERGE"
 node_text (minus_node a b) = codes "MINUS"
 node_text (transform_node name pieces plan) = codes "TRANSFORM " ++ name
+node_text (gaps_node plan) = codes "GAPS"
 
 -- what follows `ROW ` in the reply's line, without its LF: the depth and the node
 abbrev pub line_of_node : ℕ → Plan → List ℕ
@@ -48,6 +49,7 @@ abbrev mutual
   lines_from depth (merge_node a b) = line_of_node depth (merge_node a b) ∷ lines_from (suc depth) a ++ lines_from (suc depth) b
   lines_from depth (minus_node a b) = line_of_node depth (minus_node a b) ∷ lines_from (suc depth) a ++ lines_from (suc depth) b
   lines_from depth (transform_node name pieces plan) = line_of_node depth (transform_node name pieces plan) ∷ lines_from (suc depth) plan
+  lines_from depth (gaps_node plan) = line_of_node depth (gaps_node plan) ∷ lines_from (suc depth) plan
 
   pub lines_of_each : ℕ → Operands → List (List ℕ)
   lines_of_each depth no_operand = []

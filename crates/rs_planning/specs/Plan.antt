@@ -5,10 +5,12 @@ use Rattle.std.specs.Prelude.{ℕ, ◌+◌, List, [], ◌∷◌, length}
 use Rattle.std.specs.FinMap as names
 use Rattle.rs_value.specs.declared.column.Kind.{Kind}
 use Rattle.rs_value.specs.declared.column.Kind.TheVariants as kinds
-use Rattle.rs_facts.specs.Fact.{Name, RowSet, none, add, keep}
+use Rattle.rs_facts.specs.Fact.{Name, RowSet, keep}
 use Rattle.rs_facts.specs.Condition.{Condition}
 use Rattle.rs_facts.specs.Operators.{mapped, chosen, dissolved, overlaid, covered, merged, without}
-use Rattle.rs_facts.specs.Query.{World, Window, Piece, facts_of, table_kind, table_columns, seen_through, transformed, overlaid_kind}
+-- the row without columns, which overlays nothing
+pub use Rattle.rs_facts.specs.Operators.{no_columns}
+use Rattle.rs_facts.specs.Query.{World, Window, Piece, facts_of, table_kind, table_columns, seen_through, transformed, gapped_on, overlaid_kind}
 use Rattle.rs_planning.specs.Conjuncts.{meets_each}
 
 -- how the records of a leaf's table are found
@@ -28,6 +30,7 @@ mutual
     minus_node : Plan → Plan → Plan
     window_node : List Window → Plan → Plan
     transform_node : Name → List Piece → Plan → Plan
+    gaps_node : Plan → Plan
 
   -- of an OVERLAY, in the order in which they are evaluated
   pub data Operands : Type 0 where
@@ -45,10 +48,6 @@ seen_through_each (window ∷ windows) route k rows = seen_through window route 
 abbrev pub met_by_each : List Condition → RowSet → RowSet
 met_by_each conditions rows = keep (meets_each conditions) rows
 
--- the row without columns, which overlays nothing
-abbrev pub no_columns : RowSet
-no_columns = add none []
-
 -- which rows the plan has on a route at a thousandth, however the records of its leaves are found
 abbrev mutual
   pub plan_rows_at : World → Plan → Name → ℕ → RowSet
@@ -61,6 +60,7 @@ abbrev mutual
   plan_rows_at world (minus_node a b) route k = without (plan_rows_at world a route k) (plan_rows_at world b route k)
   plan_rows_at world (window_node windows plan) route k = seen_through_each windows route k (plan_rows_at world plan route k)
   plan_rows_at world (transform_node name pieces plan) route k = transformed pieces (plan_rows_at world plan) route k
+  plan_rows_at world (gaps_node plan) route k = gapped_on (names.get world.routes route) k (plan_rows_at world plan route k)
 
   pub overlaid_rows_at : World → Operands → Name → ℕ → RowSet
   overlaid_rows_at world no_operand route k = no_columns
@@ -80,6 +80,7 @@ abbrev mutual
   plan_kind world (minus_node a b) = plan_kind world a
   plan_kind world (window_node windows plan) = plan_kind world plan
   plan_kind world (transform_node name pieces plan) = plan_kind world plan
+  plan_kind world (gaps_node plan) = kinds.Line
 
   pub overlaid_kinds : World → Operands → Kind
   overlaid_kinds world no_operand = kinds.Line
@@ -96,3 +97,4 @@ plan_width world (merge_node a b) = plan_width world a
 plan_width world (minus_node a b) = plan_width world a
 plan_width world (window_node windows plan) = plan_width world plan
 plan_width world (transform_node name pieces plan) = plan_width world plan
+plan_width world (gaps_node plan) = 0

@@ -6,11 +6,11 @@ use Rattle.std.specs.FinMap as names
 use Rattle.rs_facts.specs.Fact.{Name}
 use Rattle.rs_facts.specs.Insert.{same_name}
 use Rattle.rs_facts.specs.Condition.{Condition}
-use Rattle.rs_facts.specs.Query.{World, Window, Query, table_rows, where_rows, dissolve_rows, rename_column, overlay_rows, cover_rows, merge_rows, minus_rows, window_rows, transform_rows}
+use Rattle.rs_facts.specs.Query.{World, Window, Query, table_rows, where_rows, dissolve_rows, rename_column, overlay_rows, cover_rows, merge_rows, minus_rows, window_rows, transform_rows, gaps_rows}
 use Rattle.rs_facts.specs.WellFormed.{width_of}
 use Rattle.rs_planning.specs.Basis.{IndexedColumn, Basis}
 use Rattle.rs_planning.specs.Conjuncts.{conjuncts, equates, is_of_left, is_of_right, is_of_both, under_dissolve, under_right}
-use Rattle.rs_planning.specs.Plan.{Access, scan, range, index, Plan, leaf_node, where_node, dissolve_node, overlay_node, cover_node, merge_node, minus_node, window_node, transform_node, Operands, no_operand, operand, plan_width}
+use Rattle.rs_planning.specs.Plan.{Access, scan, range, index, Plan, leaf_node, where_node, dissolve_node, overlay_node, cover_node, merge_node, minus_node, window_node, transform_node, gaps_node, Operands, no_operand, operand, plan_width}
 
 -- ---- how a leaf finds its records
 
@@ -45,6 +45,7 @@ abbrev mutual
   weight record_count (minus_node a b) = weight record_count a + weight record_count b
   weight record_count (window_node windows plan) = weight record_count plan
   weight record_count (transform_node name pieces plan) = weight record_count plan
+  weight record_count (gaps_node plan) = weight record_count plan
 
   pub weight_together : (Name → ℕ) → Operands → ℕ
   weight_together record_count no_operand = 0
@@ -109,7 +110,8 @@ overlay_under_where basis [] plans = plans
 overlay_under_where basis (condition ∷ conditions) plans = where_node (condition ∷ conditions) (together basis plans) ∷ []
 
 -- The query seen through these windows, of its rows those that meet these conditions: the operands of one OVERLAY in the
--- written order, or a plan alone. The windows and the conditions of what is further out come first.
+-- written order, or a plan alone. The windows and the conditions of what is further out come first. Neither goes below GAPS,
+-- where it would make gaps. Conditions come to a GAPS in no line, since each names a column, and GAPS has none.
 abbrev pub place : Basis → Query → List Window → List Condition → List Plan
 place basis (table_rows name) windows conditions = leaf basis name windows conditions ∷ []
 place basis (where_rows query condition) windows conditions = place basis query windows (conditions ++ conjuncts condition)
@@ -124,6 +126,7 @@ place basis (overlay_rows a b) windows conditions =
     ++ place basis b windows (map (under_right (width_of basis.world a)) (filter (is_of_right (width_of basis.world a)) conditions)))
 place basis (cover_rows m n a b) windows conditions = under_where conditions (cover_node m n (together basis (place basis a windows [])) (together basis (place basis b windows []))) ∷ []
 place basis (transform_rows query name pieces) windows conditions = under_window windows (transform_node name pieces (together basis (place basis query [] conditions))) ∷ []
+place basis (gaps_rows query) windows conditions = under_where conditions (under_window windows (gaps_node (together basis (place basis query [] [])))) ∷ []
 
 -- the plan of a query
 abbrev pub plan_of : Basis → Query → Plan

@@ -6,7 +6,7 @@ use Rattle.rs_facts.specs.Query.{Table, World}
 use Rattle.rs_facts.specs.WellFormed.{ArePiecesOn}
 use Rattle.rs_planning.specs.Checked.{AreBelow, ReadBelow}
 use Rattle.rs_planning.specs.Explain.{operands_counted}
-use Rattle.rs_planning.specs.Plan.{Plan, leaf_node, where_node, dissolve_node, overlay_node, cover_node, merge_node, minus_node, window_node, transform_node, Operands, no_operand, operand, plan_kind, plan_width}
+use Rattle.rs_planning.specs.Plan.{Plan, leaf_node, where_node, dissolve_node, overlay_node, cover_node, merge_node, minus_node, window_node, transform_node, gaps_node, Operands, no_operand, operand, plan_kind, plan_width}
 
 abbrev pub IsNoOverlay : Plan → Type 0
 IsNoOverlay (overlay_node back operands) = ⊥
@@ -32,6 +32,7 @@ abbrev mutual
   IsWellFormedPlan world (minus_node a b) = IsWellFormedPlan world a × IsWellFormedPlan world b × (plan_kind world a ≡ plan_kind world b) × (plan_width world a ≡ plan_width world b)
   IsWellFormedPlan world (window_node windows plan) = IsWellFormedPlan world plan × (1 ≤ length windows)
   IsWellFormedPlan world (transform_node name pieces plan) = IsWellFormedPlan world plan × ArePiecesOn world.routes pieces
+  IsWellFormedPlan world (gaps_node plan) = IsWellFormedPlan world plan
 
   pub AreWellFormedOperands : World → Operands → Type 0
   AreWellFormedOperands world no_operand = Unit {0}

@@ -1,6 +1,7 @@
 pub mod SameKind
 pub mod Listed
 pub mod States
+pub mod RouteEnds
 pub mod Tables
 pub mod Within
 pub mod OfValue

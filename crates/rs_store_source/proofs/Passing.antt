@@ -76,6 +76,7 @@ module _ {D : Type 0} (d : disk.Ghosts D) where
         shows.live version low (subst (λ (file : OpenedFile). version ≤ file.accepted) passes.keeps.file high)
         ∙ ap (λ (catalog : Definitions). snapshot_at catalog shows.stands.contents version) (sym passes.keeps.catalog);
     others = λ version out. shows.others version (λ low high. out low (subst (λ (file : OpenedFile). version ≤ file.accepted) (sym passes.keeps.file) high));
+    nowhere = λ version out. shows.nowhere version (λ low high. out low (subst (λ (file : OpenedFile). version ≤ file.accepted) (sym passes.keeps.file) high));
   }
 
   -- ---- why a read is refused

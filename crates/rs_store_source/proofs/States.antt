@@ -136,4 +136,5 @@ module _ {D : Type 0} (d : disk.Ghosts D) where
         (and_from (nat_le oldest version) (nat_le version store.file.accepted) (le-leb oldest version low) (le-leb version store.file.accepted high));
     others = λ version out table route k.
         ap (λ (b : Bool). (cond b (snapshot_at store.catalog stands.contents version) no_snapshot).rows table route k) (not_live oldest version store.file.accepted out);
+    nowhere = λ version out route. ap (λ (b : Bool). (cond b (snapshot_at store.catalog stands.contents version) no_snapshot).ends route) (not_live oldest version store.file.accepted out);
   }

@@ -19,7 +19,8 @@ use rs_store::laws::store_stands_in_one_state;
 
 /// A store that stands in a state shows what the versions see from the oldest one up to the one that was accepted last. At that
 /// version a table of the catalogue has on each of its routes, by their numbers, the facts that the state's table of that name has
-/// there; and at each version, on the routes that this version sees, those that its world has.
+/// there, and each route its ends; and at each version, on the routes that this version sees, those that its world has, and these
+/// routes the ends that they have in it.
 pub fn store_shows_the_facts_of_its_state<D: Disk>()
     ensures shows { (oldest : ℕ) (store : StoreState D) (state : State) (stands : StandsIn D.Disk oldest store state)
         → Shows D.Disk oldest store (shown_from store.catalog stands.contents oldest store.file.accepted) }
@@ -27,11 +28,18 @@ pub fn store_shows_the_facts_of_its_state<D: Disk>()
         → (name : Name) (item : TableItem) → names.get store.catalog.tables name ≡ Some item
         → (route : Name) (on : RouteItem) → names.get store.catalog.routes route ≡ Some on → (k : ℕ)
         → (snapshots store.file.accepted).rows (numbered_as item) on.number k ≡ facts_of (names.get shows.state.tables name) route k }
+    ensures ends { (oldest : ℕ) (store : StoreState D) (snapshots : Snapshots) → Shows D.Disk oldest store snapshots
+        → (route : Name) (on : RouteItem) → names.get store.catalog.routes route ≡ Some on
+        → (snapshots store.file.accepted).ends on.number ≡ Some on.ends }
     ensures live { (oldest : ℕ) (store : StoreState D) (snapshots : Snapshots) (shows : Shows D.Disk oldest store snapshots)
         → (version : ℕ) → oldest ≤ version → version ≤ store.file.accepted
         → (name : Name) (item : TableItem) → names.get store.catalog.tables name ≡ Some item
         → (route : Name) (on : RouteItem) → names.get (routes_named (born_by version shows.stands.contents.definitions.routes)) route ≡ Some on → (k : ℕ)
         → (snapshots version).rows (numbered_as item) on.number k ≡ facts_of (names.get (world_at shows.stands.contents version).tables name) route k }
+    ensures ends_live { (oldest : ℕ) (store : StoreState D) (snapshots : Snapshots) (shows : Shows D.Disk oldest store snapshots)
+        → (version : ℕ) → oldest ≤ version → version ≤ store.file.accepted
+        → (route : Name) (on : RouteItem) → names.get (routes_named (born_by version shows.stands.contents.definitions.routes)) route ≡ Some on
+        → (snapshots version).ends on.number ≡ names.get (world_at shows.stands.contents version).routes route }
 {
     store_stands_in_one_state::<D>();
 }

@@ -9,7 +9,7 @@ use Rattle.rs_syntax.specs.declared.queries.Query.TheOpen.{Query-F}
 use Rattle.rs_syntax.specs.declared.queries.Query.TheVariants as queries
 use Rattle.rs_syntax.specs.declared.queries.Window.{Window}
 use Rattle.rs_syntax.specs.QueryView.{condition_tree, query_step, query_tree, window_tree}
-use Rattle.rs_syntax.specs.Tree.{QueryTree, covered, dissolved, filtered, merged, named, overlaid, renamed, subtracted, transformed, windowed}
+use Rattle.rs_syntax.specs.Tree.{QueryTree, covered, dissolved, filtered, gapped, merged, named, overlaid, renamed, subtracted, transformed, windowed}
 
 pub named_tree : (name : ArrayString) → query_tree (queries.Named name) ≡ named name.bytes
 named_tree name = ap query_tree (sym (queries.rolls-Named name)) ∙ fold-roll-Query QueryTree query_step (Query-F.Named name)
@@ -40,3 +40,6 @@ window_query_tree query window = ap query_tree (sym (queries.rolls-Window query 
 
 pub transform_tree : (query : Box Query Global) (alignment : ArrayString) → query_tree (queries.Transform query alignment) ≡ transformed (query_tree query.value) alignment.bytes
 transform_tree query alignment = ap query_tree (sym (queries.rolls-Transform query alignment)) ∙ fold-roll-Query QueryTree query_step (Query-F.Transform query alignment)
+
+pub gaps_tree : (query : Box Query Global) → query_tree (queries.Gaps query) ≡ gapped (query_tree query.value)
+gaps_tree query = ap query_tree (sym (queries.rolls-Gaps query)) ∙ fold-roll-Query QueryTree query_step (Query-F.Gaps query)

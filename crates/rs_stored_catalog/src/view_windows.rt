@@ -27,6 +27,7 @@ pub(crate) fn widen(query: &mut Query)
         Query::Dissolve(operand, _) => widen(operand),
         Query::Rename(operand, _, _) => widen(operand),
         Query::Transform(operand, _) => widen(operand),
+        Query::Gaps(operand) => widen(operand),
         Query::Window(operand, window) => {
             widen(operand);
             *window = whole_window(window);
@@ -69,6 +70,7 @@ pub(crate) fn windows_there(catalog: &Catalog, referents: &RouteReferents, query
         Query::Dissolve(operand, _) => windows_there(catalog, referents, operand),
         Query::Rename(operand, _, _) => windows_there(catalog, referents, operand),
         Query::Transform(operand, _) => windows_there(catalog, referents, operand),
+        Query::Gaps(operand) => windows_there(catalog, referents, operand),
         Query::Window(operand, window) => {
             windows_there(catalog, referents, operand) && window_there(catalog, referents, window)
         }

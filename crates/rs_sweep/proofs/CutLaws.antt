@@ -1,5 +1,5 @@
 -- Spans cut to the parts that others leave, one after another.
-use Rattle.std.proofs.Common.{◌≡◌, ℕ, zero, suc, ◌+◌, ◌<◌, ◌≤◌, Bool, true, false, not, ◌&&◌, ◌||◌, inl, inr, List, [], ◌∷◌, ◌++◌, map, length, drop, get_or, Bor, refl, sym, ap, ◌∙◌, subst, arith, append_assoc}
+use Rattle.std.proofs.Common.{◌≡◌, ℕ, ◌+◌, ◌<◌, ◌≤◌, Bool, true, false, not, ◌&&◌, ◌||◌, inl, inr, List, [], ◌∷◌, ◌++◌, map, length, drop, get_or, refl, sym, ap, ◌∙◌, subst, arith, append_assoc}
 use Rattle.std.proofs.lemmas.List.{map-append, drop_more, drop_all, length-append}
 use Rattle.std.proofs.lemmas.List.Folds.{list_any-append}
 use Rattle.std.specs.List.{list_any, AllByRecursion}
@@ -8,11 +8,11 @@ use Rattle.rs_value.specs.declared.column.Kind.{Kind}
 use Rattle.rs_value.specs.declared.column.Kind.TheVariants.{Point, Line}
 use Rattle.rs_facts.specs.Fact.{contains}
 use Rattle.rs_facts.specs.Insert.{within}
-use Rattle.rs_facts.specs.Operators.{mapped, nulls, overlaid, covered, without}
+use Rattle.rs_facts.specs.Operators.{mapped, nulls, overlaid, covered, without, gapped}
 use Rattle.rs_facts.specs.Runs.{Stretch, stretch}
 use Rattle.rs_facts.specs.declared.fact.Span.{Span}
 use Rattle.rs_facts.specs.Spans.{seen, places_of, IsPlaced, ArePlaced}
-use Rattle.rs_coalesce.specs.Lent.{seen_lent}
+use Rattle.rs_facts.proofs.Gapping.{contains-gapped}
 use Rattle.rs_facts.proofs.KeptLaws.{every-append, every-before, every-behind}
 use Rattle.rs_facts.proofs.Rows.{same_row, same_row-refl, cases_row}
 use Rattle.rs_facts.proofs.RowSets.{any-map, any-same, any-places, any_row, contains-mapped, contains-without, contains-covered}
@@ -84,12 +84,12 @@ parts_wide : (change : Row → Row) (span : Stretch) (parts : List Part) (n : �
 parts_wide change span [] n e = tt
 parts_wide change span (part ∷ parts) n e = (e, parts_wide change span parts n e)
 
+or_false : (t : Bool) → (t || false) ≡ t
+or_false true = refl
+or_false false = refl
+
 any_one : {X : Type 0} (p : X → Bool) (xs : List X) (x : X) → list_any p (xs ++ x ∷ []) ≡ (list_any p xs || p x)
 any_one p xs x = list_any-append p xs (x ∷ []) ∙ ap (λ t. list_any p xs || t) (or_false (p x))
-  where
-    or_false : (t : Bool) → (t || false) ≡ t
-    or_false true = refl
-    or_false false = refl
 
 -- one more span
 pub cut-more : (change : Row → Row) (rows : Rows) (taken spans old mid now : List Stretch) (span : Stretch) (parts : List Part) → IsCut change rows taken spans old mid
@@ -235,6 +235,29 @@ cover-wide m n before after left right by_left by_right first second all pieces 
     (every-append (λ s. length s.row ≡ m + n) (first ++ one.added) two.added
     (every-append (λ s. length s.row ≡ m + n) first one.added (pieces.wide m n p q) (one.wide m (m + n) (λ row e. length-append row after ∙ (λ i. e i + is_after i)) p))
     (two.wide n (m + n) (λ row e. length-append before row ∙ (λ i. is_before i + e i)) q))
+
+-- ---- GAPS
+
+-- of a route with a row without columns what the others leave, all rows alike
+abbrev pub IsGapCut : ℕ → ℕ → Row → List Stretch → List Stretch → Type 0
+IsGapCut start finish empty taken all = IsCut (joined_with Left empty) All taken (stretch start finish empty ∷ []) [] all
+
+pub gaps-means : (start finish : ℕ) (empty : Row) (taken spans all : List Stretch) → empty ≡ [] → places_of taken ≡ places_of (map (keyed All) spans) → IsGapCut start finish empty taken all
+    → (k : ℕ) → places_of all k ≡ gapped start finish k (places_of spans k)
+unfolding same_row
+gaps-means start finish empty taken spans all bare same h k = same_rows _ _ (λ row.
+    ap (λ zs. contains (places_of zs k) row) h.is
+    ∙ h.means row k
+    ∙ or_false (within start finish k && (not (contains (places_of taken k) []) && same_row (empty ++ empty) row))
+    ∙ (λ i. within start finish k && (not (not_taken taken spans k same i) && same_row (bare i ++ bare i) row))
+    ∙ sym (contains-gapped start finish k (places_of spans k) row))
+
+pub gaps-placed : (start finish : ℕ) (empty : Row) (taken all : List Stretch) → start < finish → IsGapCut start finish empty taken all → ArePlaced Line all
+gaps-placed start finish empty taken all some h = subst (ArePlaced Line) (sym h.is) (h.placed Line (some, tt))
+
+pub gaps-wide : (start finish : ℕ) (empty : Row) (taken all : List Stretch) → empty ≡ [] → IsGapCut start finish empty taken all → AreWide 0 all
+gaps-wide start finish empty taken all bare h =
+    subst (AreWide 0) (sym h.is) (h.wide 0 0 (λ row e. length-append row empty ∙ (λ i. e i + length (bare i))) (ap length bare, tt))
 
 keyed_each : (xs : List Stretch) → map (keyed Each) xs ≡ xs
 keyed_each [] = refl

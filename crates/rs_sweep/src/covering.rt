@@ -71,7 +71,7 @@ pub fn cover(
 }
 
 /// Adds the parts of spans outside what the other list takes, each row beside NULLs.
-fn pad(
+pub(crate) fn pad(
     alloc: Global,
     side: Side,
     spans: &[&Span],

@@ -7,6 +7,7 @@
 mod clipping;
 mod columns;
 mod comparisons;
+mod complement;
 mod conditions;
 mod covering;
 mod difference;
@@ -21,6 +22,7 @@ mod union;
 
 pub use clipping::window;
 pub use columns::dissolve;
+pub use complement::gaps;
 pub use conditions::meets;
 pub use covering::cover;
 pub use difference::minus;

@@ -16,7 +16,7 @@ use Rattle.rs_syntax.specs.declared.written.WrittenQuery.{WrittenQuery, fold-rol
 use Rattle.rs_syntax.specs.declared.written.WrittenQuery.TheOpen.{WrittenQuery-F}
 use Rattle.rs_syntax.specs.declared.written.WrittenQuery.TheVariants as queries
 use Rattle.rs_syntax.specs.WrittenParts.{mark, list_lexemes}
-use Rattle.rs_syntax.specs.WrittenQueries.{AtomSyntax, written_comparison, written_null, written_not_null, written_negation, written_bracket, QuerySyntax, written_name, written_where, written_dissolve, written_rename, written_pair, written_window, written_transform, atom_lexemes, conjunction_lexemes, condition_lexemes}
+use Rattle.rs_syntax.specs.WrittenQueries.{AtomSyntax, written_comparison, written_null, written_not_null, written_negation, written_bracket, QuerySyntax, written_name, written_where, written_dissolve, written_rename, written_pair, written_window, written_transform, written_gaps, atom_lexemes, conjunction_lexemes, condition_lexemes}
 use Rattle.rs_syntax.specs.WrittenView.{conjunction_of, condition_of, atom_syntax_step, atom_syntax, conjunction_syntax, condition_syntax, query_syntax_step, query_syntax}
 
 -- Parts of a condition, each variant.
@@ -66,6 +66,9 @@ window_written query window = ap query_syntax (sym (queries.rolls-Window query w
 
 pub transform_written : (query : Box WrittenQuery Global) (alignment : Token) → query_syntax (queries.Transform query alignment) ≡ written_transform (query_syntax query.value) alignment
 transform_written query alignment = ap query_syntax (sym (queries.rolls-Transform query alignment)) ∙ fold-roll-WrittenQuery QuerySyntax query_syntax_step (WrittenQuery-F.Transform query alignment)
+
+pub gaps_written : (query : Box WrittenQuery Global) → query_syntax (queries.Gaps query) ≡ written_gaps (query_syntax query.value)
+gaps_written query = ap query_syntax (sym (queries.rolls-Gaps query)) ∙ fold-roll-WrittenQuery QuerySyntax query_syntax_step (WrittenQuery-F.Gaps query)
 
 -- Chains that have a part, as lists with a mark before each further one.
 pub conjunction_spelled : (parts : List WrittenAtom) → 0 < length parts → conjunction_lexemes (conjunction_syntax parts) ≡ list_lexemes kinds.And (λ part. atom_lexemes (atom_syntax part)) parts

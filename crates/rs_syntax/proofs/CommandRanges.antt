@@ -20,9 +20,9 @@ use Rattle.rs_syntax.specs.declared.written.WrittenPiece.{WrittenPiece}
 use Rattle.rs_syntax.specs.declared.written.WrittenOperand.{WrittenOperand}
 use Rattle.rs_syntax.specs.declared.written.WrittenOperand.TheVariants as written_operands
 use Rattle.rs_syntax.specs.declared.written.PairOperator.{PairOperator}
-use Rattle.rs_syntax.specs.Tree.{whole_route, part_of_route, column_named, written_value, compare, is_null, is_not_null, negated, bracketed, both, either, named, filtered, dissolved, renamed, windowed, transformed, define_route, define_table, define_referent, define_index, define_view, define_alignment, move_referent, drop_route, drop_table, drop_index, drop_view, drop_alignment, drop_referent, insert, remove, translate, select, total, explain, open_cursor, fetch, close_cursor, save, reopen}
+use Rattle.rs_syntax.specs.Tree.{whole_route, part_of_route, column_named, written_value, compare, is_null, is_not_null, negated, bracketed, both, either, named, filtered, dissolved, renamed, windowed, transformed, gapped, define_route, define_table, define_referent, define_index, define_view, define_alignment, move_referent, drop_route, drop_table, drop_index, drop_view, drop_alignment, drop_referent, insert, remove, translate, select, total, explain, open_cursor, fetch, close_cursor, save, reopen}
 use Rattle.rs_syntax.specs.WrittenParts.{SaysColumns, SaysRows, SaysDatum, SaysRow, SaysPosition, SaysLocation, SaysPieces, summed_name}
-use Rattle.rs_syntax.specs.WrittenQueries.{AtomSyntax, written_comparison, written_null, written_not_null, written_negation, written_bracket, ConjunctionSyntax, last_atom, and_then, ConditionSyntax, last_conjunction, or_else, QuerySyntax, written_name, written_where, written_dissolve, written_rename, written_pair, written_window, written_transform, SaysWindow, SaysOperand, SaysAtom, SaysConjunction, SaysCondition, paired, SaysQuery, SaysRemoval}
+use Rattle.rs_syntax.specs.WrittenQueries.{AtomSyntax, written_comparison, written_null, written_not_null, written_negation, written_bracket, ConjunctionSyntax, last_atom, and_then, ConditionSyntax, last_conjunction, or_else, QuerySyntax, written_name, written_where, written_dissolve, written_rename, written_pair, written_window, written_transform, written_gaps, SaysWindow, SaysOperand, SaysAtom, SaysConjunction, SaysCondition, paired, SaysQuery, SaysRemoval}
 use Rattle.rs_syntax.specs.Written.{Written, written_route, written_table, written_referent, written_index, written_view, written_alignment, written_move, written_drop_route, written_drop_table, written_drop_index, written_drop_view, written_drop_alignment, written_drop_referent, written_insert, written_remove, written_translate, written_select, written_total, written_explain, written_open, written_fetch, written_close, written_save, written_reopen, view_text, Says}
 use Rattle.rs_syntax.proofs.Ranges.{position_cases, location_cases, columns_cases, rows_cases, datum_cases, row_cases, pieces_cases}
 
@@ -115,6 +115,10 @@ transform_of : (line : List ℕ) (w : QuerySyntax) (alignment : Token) → Cases
 transform_of line w alignment (inl said) = inl (transformed said.0 (token_text line alignment), (said.0, said.1, refl))
 transform_of line w alignment (inr none) = inr (λ tree says. none says.0 says.1)
 
+gaps_of : (line : List ℕ) (w : QuerySyntax) → Cases (SaysQuery line w) → Cases (SaysQuery line (written_gaps w))
+gaps_of line w (inl said) = inl (gapped said.0, (said.0, said.1, refl))
+gaps_of line w (inr none) = inr (λ tree says. none says.0 says.1)
+
 query_cases : (line : List ℕ) (w : QuerySyntax) → Cases (SaysQuery line w)
 query_cases line (written_name name) = inl (named (token_text line name), refl)
 query_cases line (written_where w c) = where_of line w c (query_cases line w) (condition_cases line c)
@@ -123,6 +127,7 @@ query_cases line (written_rename w from to) = rename_of line w from to (query_ca
 query_cases line (written_pair o v w) = pair_of line o v w (query_cases line v) (query_cases line w)
 query_cases line (written_window w c) = window_of line w c (query_cases line w) (window_cases line c)
 query_cases line (written_transform w alignment) = transform_of line w alignment (query_cases line w)
+query_cases line (written_gaps w) = gaps_of line w (query_cases line w)
 
 some_removal : (line : List ℕ) (w : ConditionSyntax) → Cases (SaysCondition line w) → Cases (SaysRemoval line (Some w))
 some_removal line w (inl said) = inl (Some said.0, (said.0, said.1, refl))

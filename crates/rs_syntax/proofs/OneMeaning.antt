@@ -22,9 +22,9 @@ use Rattle.rs_syntax.specs.declared.written.WrittenWindow.TheVariants as written
 use Rattle.rs_syntax.specs.declared.written.WrittenPiece.{WrittenPiece}
 use Rattle.rs_syntax.specs.declared.written.WrittenOperand.{WrittenOperand}
 use Rattle.rs_syntax.specs.declared.written.WrittenOperand.TheVariants as written_operands
-use Rattle.rs_syntax.specs.Tree.{EventLocationTree, along, at_point, WindowTree, part_of_route, PieceTree, OperandTree, written_value, ConditionTree, compare, negated, bracketed, both, either, QueryTree, filtered, dissolved, renamed, windowed, transformed, CommandTree, define_route, define_table, define_referent, define_view, define_alignment, move_referent, insert, remove, translate, select, total, explain, open_cursor, fetch}
+use Rattle.rs_syntax.specs.Tree.{EventLocationTree, along, at_point, WindowTree, part_of_route, PieceTree, OperandTree, written_value, ConditionTree, compare, negated, bracketed, both, either, QueryTree, filtered, dissolved, renamed, windowed, transformed, gapped, CommandTree, define_route, define_table, define_referent, define_view, define_alignment, move_referent, insert, remove, translate, select, total, explain, open_cursor, fetch}
 use Rattle.rs_syntax.specs.WrittenParts.{SaysType, SaysColumns, SaysDatum, SaysRow, SaysPosition, SaysLocation, SaysPiece, SaysPieces, summed_name}
-use Rattle.rs_syntax.specs.WrittenQueries.{AtomSyntax, written_comparison, written_null, written_not_null, written_negation, written_bracket, ConjunctionSyntax, last_atom, and_then, ConditionSyntax, last_conjunction, or_else, QuerySyntax, written_name, written_where, written_dissolve, written_rename, written_pair, written_window, written_transform, SaysWindow, SaysOperand, SaysAtom, SaysConjunction, SaysCondition, paired, SaysQuery, SaysRemoval}
+use Rattle.rs_syntax.specs.WrittenQueries.{AtomSyntax, written_comparison, written_null, written_not_null, written_negation, written_bracket, ConjunctionSyntax, last_atom, and_then, ConditionSyntax, last_conjunction, or_else, QuerySyntax, written_name, written_where, written_dissolve, written_rename, written_pair, written_window, written_transform, written_gaps, SaysWindow, SaysOperand, SaysAtom, SaysConjunction, SaysCondition, paired, SaysQuery, SaysRemoval}
 use Rattle.rs_syntax.specs.Written.{Written, written_route, written_table, written_referent, written_index, written_view, written_alignment, written_move, written_drop_route, written_drop_table, written_drop_index, written_drop_view, written_drop_alignment, written_drop_referent, written_insert, written_remove, written_translate, written_select, written_total, written_explain, written_open, written_fetch, written_close, written_save, written_reopen, view_text, Says}
 use Rattle.std.specs.Prelude.{map, unwrap_or}
 use Rattle.rs_methods.specs.declared.position.Method.TheVariants as methods
@@ -169,6 +169,7 @@ says_query_same one line (written_window w window) a b p q =
     p.4 ∙ ap (λ x. windowed x p.1) (says_query_same one line w p.0 q.0 p.2 q.2) ∙ ap (windowed q.0) (says_window_same one line window p.1 q.1 p.3 q.3) ∙ sym q.4
 says_query_same one line (written_transform w alignment) a b p q =
     p.2 ∙ ap (λ x. transformed x (token_text line alignment)) (says_query_same one line w p.0 q.0 p.1 q.1) ∙ sym q.2
+says_query_same one line (written_gaps w) a b p q = p.2 ∙ ap gapped (says_query_same one line w p.0 q.0 p.1 q.1) ∙ sym q.2
 
 says_removal_same : (line : List ℕ) (w : Option ConditionSyntax) (a b : Option ConditionTree) → SaysRemoval line w a → SaysRemoval line w b → a ≡ b
 says_removal_same line None a b p q = p ∙ sym q

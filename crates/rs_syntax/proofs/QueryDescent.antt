@@ -3,14 +3,14 @@ use Rattle.std.proofs.Common.{◌≡◌, ℕ, zero, suc, ◌<◌, ◌≤◌, tru
 use Rattle.rs_grammar.specs.declared.kind.TokenKind.{TokenKind}
 use Rattle.rs_grammar.specs.declared.kind.TokenKind.TheVariants as kinds
 use Rattle.rs_grammar.specs.Grammar as g
-use Rattle.rs_grammar.specs.Grammar.{Part, Form, done, pick, sub, need, rules, literal_form, operand_query_form, where_form, dissolve_form, rename_form, pair_form, window_query_form, transform_form, query_form, inside_form, null_form, test_form, atom_form, comparison_form, operand_form}
+use Rattle.rs_grammar.specs.Grammar.{Part, Form, done, pick, sub, need, rules, literal_form, operand_query_form, where_form, dissolve_form, rename_form, pair_form, window_query_form, transform_form, gaps_form, query_form, inside_form, null_form, test_form, atom_form, comparison_form, operand_form}
 use Rattle.rs_value.specs.declared.comparison.Comparison.TheVariants as comparisons
 use Rattle.rs_lexer.specs.declared.token.Token.{Token}
 use Rattle.rs_syntax.specs.declared.written.WrittenOperand.TheVariants as written_operands
 use Rattle.rs_syntax.specs.declared.written.PairOperator.{PairOperator}
 use Rattle.rs_syntax.specs.declared.written.PairOperator.TheVariants as pair_operators
 use Rattle.rs_syntax.specs.WrittenParts.{Lexeme, mark, told, name_lexemes, lexemes_of}
-use Rattle.rs_syntax.specs.WrittenQueries.{written_comparison, written_null, written_not_null, written_negation, written_bracket, last_atom, and_then, last_conjunction, or_else, QuerySyntax, written_name, written_where, written_dissolve, written_rename, written_pair, written_window, written_transform, window_lexemes, comparison_lexemes, operand_lexemes, atom_lexemes, conjunction_lexemes, condition_lexemes, bracketed_names_lexemes, pair_kind, operator_lexemes, query_lexemes}
+use Rattle.rs_syntax.specs.WrittenQueries.{written_comparison, written_null, written_not_null, written_negation, written_bracket, last_atom, and_then, last_conjunction, or_else, QuerySyntax, written_name, written_where, written_dissolve, written_rename, written_pair, written_window, written_transform, written_gaps, window_lexemes, comparison_lexemes, operand_lexemes, atom_lexemes, conjunction_lexemes, condition_lexemes, bracketed_names_lexemes, pair_kind, operator_lexemes, query_lexemes}
 use Rattle.rs_syntax.proofs.Descent.{Reading, Whole, read_done, read_mark, read_text, need_mark, need_text, read_part, read_alone, Closed, read_closed, read_window, read_chain, read_bracketed_names}
 
 read_comparison : (tokens : List Token) → Reading comparison_form tokens (Whole comparison_lexemes tokens)
@@ -159,9 +159,18 @@ module _ (most : ℕ) (read_inner : (next : List Token) → length next < most �
       read_operator query_lexemes (written_pair operator) (pair_kind operator) (sub g.query (need kinds.RightParen done)) tokens fits (λ query x. refl)
       (λ next less. read_closed query_lexemes g.query next (read_inner next less)) a la ha
 
+  read_gaps : (tokens : List Token) → length tokens ≤ most → (a : List Token) → length a < length tokens → lexemes_of tokens ≡ mark kinds.Gaps ∷ lexemes_of a → Reading gaps_form a (Whole query_lexemes tokens)
+  read_gaps tokens fits a la ha =
+      need_mark kinds.LeftParen (sub g.query (need kinds.RightParen done)) a (Whole query_lexemes tokens) refl (λ b lb hb.
+      read_alone (Closed query_lexemes) (sub g.query (need kinds.RightParen done)) b (Whole query_lexemes tokens) (read_closed query_lexemes g.query b (read_inner b (omega arith))) (λ c query lc hc.
+      (written_gaps query, record { spelled = ha ∙ ap (λ ps. mark kinds.Gaps ∷ ps) (hb ∙ ap (λ ps. mark kinds.LeftParen ∷ ps) hc); shorter = omega arith })))
+
   -- the words of a query, from the last on
+  abbrev transform_on : Form
+  transform_on = pick kinds.Transform transform_form (pick kinds.Gaps gaps_form (need kinds.Name done))
+
   abbrev window_on : Form
-  window_on = pick kinds.Window window_query_form (pick kinds.Transform transform_form (need kinds.Name done))
+  window_on = pick kinds.Window window_query_form transform_on
 
   abbrev merge_on : Form
   merge_on = pick kinds.Merge pair_form (pick kinds.Minus pair_form window_on)
@@ -171,14 +180,15 @@ module _ (most : ℕ) (read_inner : (next : List Token) → length next < most �
 
   read_window_on : (tokens : List Token) → length tokens ≤ most → Reading window_on tokens (Whole query_lexemes tokens)
   read_window_on tokens fits =
-      read_mark kinds.Window window_query_form (pick kinds.Transform transform_form (need kinds.Name done)) tokens (Whole query_lexemes tokens) refl
+      read_mark kinds.Window window_query_form transform_on tokens (Whole query_lexemes tokens) refl
       (read_operator window_lexemes written_window kinds.Window (sub g.window (need kinds.RightParen done)) tokens fits (λ query x. refl)
       (λ next less. read_closed window_lexemes g.window next (window_ruled next)))
-      (read_mark kinds.Transform transform_form (need kinds.Name done) tokens (Whole query_lexemes tokens) refl
+      (read_mark kinds.Transform transform_form (pick kinds.Gaps gaps_form (need kinds.Name done)) tokens (Whole query_lexemes tokens) refl
       (read_operator name_lexemes written_transform kinds.Transform (need kinds.Name (need kinds.RightParen done)) tokens fits (λ query x. refl)
       (λ next less. read_closed_name next))
+      (read_mark kinds.Gaps gaps_form (need kinds.Name done) tokens (Whole query_lexemes tokens) refl (read_gaps tokens fits)
       (need_text kinds.Name done tokens (Whole query_lexemes tokens) refl (λ name a la is ha.
-      read_done a (Whole query_lexemes tokens) (written_name name, record { spelled = ha; shorter = la }))))
+      read_done a (Whole query_lexemes tokens) (written_name name, record { spelled = ha; shorter = la })))))
 
   read_merge_on : (tokens : List Token) → length tokens ≤ most → Reading merge_on tokens (Whole query_lexemes tokens)
   read_merge_on tokens fits =

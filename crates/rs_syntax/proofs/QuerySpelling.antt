@@ -12,7 +12,7 @@ use Rattle.rs_syntax.specs.declared.written.WrittenOperand.TheVariants as writte
 use Rattle.rs_syntax.specs.declared.written.PairOperator.{PairOperator}
 use Rattle.rs_syntax.specs.declared.written.PairOperator.TheVariants as pair_operators
 use Rattle.rs_syntax.specs.WrittenParts.{Lexeme, mark, told, span_lexemes, name_lexemes, list_lexemes}
-use Rattle.rs_syntax.specs.WrittenQueries.{AtomSyntax, written_comparison, written_null, written_not_null, written_negation, written_bracket, ConjunctionSyntax, last_atom, and_then, ConditionSyntax, last_conjunction, or_else, QuerySyntax, written_name, written_where, written_dissolve, written_rename, written_pair, written_window, written_transform, window_lexemes, comparison_kind, operand_lexemes, atom_lexemes, conjunction_lexemes, condition_lexemes, bracketed_names_lexemes, pair_kind, operator_lexemes, query_lexemes, removal_lexemes}
+use Rattle.rs_syntax.specs.WrittenQueries.{AtomSyntax, written_comparison, written_null, written_not_null, written_negation, written_bracket, ConjunctionSyntax, last_atom, and_then, ConditionSyntax, last_conjunction, or_else, QuerySyntax, written_name, written_where, written_dissolve, written_rename, written_pair, written_window, written_transform, written_gaps, window_lexemes, comparison_kind, operand_lexemes, atom_lexemes, conjunction_lexemes, condition_lexemes, bracketed_names_lexemes, pair_kind, operator_lexemes, query_lexemes, removal_lexemes}
 use Rattle.rs_syntax.proofs.SpellingLaws.{Same, begins_with_sign, span_same, names_same}
 
 -- the tokens don't begin with the mark
@@ -80,6 +80,10 @@ not_window o e = let none : Some o ≡ None = sym (of_operator o) ∙ ap operato
 not_transform : (o : PairOperator) → pair_kind o ≡ kinds.Transform → ⊥
 unfolding operator_of
 not_transform o e = let none : Some o ≡ None = sym (of_operator o) ∙ ap operator_of e in cc
+
+not_gaps : (o : PairOperator) → pair_kind o ≡ kinds.Gaps → ⊥
+unfolding operator_of
+not_gaps o e = let none : Some o ≡ None = sym (of_operator o) ∙ ap operator_of e in cc
 
 operand_same : (x y : WrittenOperand) (m n : List Lexeme) → Same operand_lexemes x y m n
 operand_same (written_operands.Column a) (written_operands.Column b) m n e = (cc, cc)
@@ -281,6 +285,7 @@ pair_told o x z (written_dissolve y d) m n same second e = let words : pair_kind
 pair_told o x z (written_rename y c d) m n same second e = let words : pair_kind o ≡ kinds.Rename = cc in absurd (not_rename o words)
 pair_told o x z (written_window y d) m n same second e = let words : pair_kind o ≡ kinds.Window = cc in absurd (not_window o words)
 pair_told o x z (written_transform y d) m n same second e = let words : pair_kind o ≡ kinds.Transform = cc in absurd (not_transform o words)
+pair_told o x z (written_gaps y) m n same second e = let words : pair_kind o ≡ kinds.Gaps = cc in absurd (not_gaps o words)
 pair_told o x z (written_pair l y w) m n same second e =
     let words : pair_kind o ≡ pair_kind l = cc in
     let operators = operator_same o l words in
@@ -307,6 +312,16 @@ transform_told x a (written_transform y b) m n same e =
 transform_told x a (written_pair o c d) m n same e = let words : pair_kind o ≡ kinds.Transform = cc in absurd (not_transform o words)
 transform_told x a _ m n same e = absurd cc
 
+gaps_told : (x y : QuerySyntax) (m n : List Lexeme) → SameQuery x → Same query_lexemes (written_gaps x) y m n
+gaps_told x (written_gaps y) m n same e =
+    let rest : (query_lexemes x ++ mark kinds.RightParen ∷ []) ++ m ≡ (query_lexemes y ++ mark kinds.RightParen ∷ []) ++ n = cc in
+    let parts = same y (mark kinds.RightParen ∷ m) (mark kinds.RightParen ∷ n)
+    (sym (append_assoc (query_lexemes x) (mark kinds.RightParen ∷ []) m) ∙ rest ∙ append_assoc (query_lexemes y) (mark kinds.RightParen ∷ []) n) in
+    let behind : mark kinds.RightParen ∷ m ≡ mark kinds.RightParen ∷ n = parts.1 in
+    (ap written_gaps parts.0, cc)
+gaps_told x (written_pair o c d) m n same e = let words : pair_kind o ≡ kinds.Gaps = cc in absurd (not_gaps o words)
+gaps_told x _ m n same e = absurd cc
+
 pub query_same : (x : QuerySyntax) → SameQuery x
 query_same (written_name a) = name_told a
 query_same (written_where x c) = λ y m n. where_told x c y m n (query_same x)
@@ -315,6 +330,7 @@ query_same (written_rename x a b) = λ y m n. rename_told x a b y m n (query_sam
 query_same (written_pair o x z) = λ y m n. pair_told o x z y m n (query_same x) (query_same z)
 query_same (written_window x c) = λ y m n. window_told x c y m n (query_same x)
 query_same (written_transform x a) = λ y m n. transform_told x a y m n (query_same x)
+query_same (written_gaps x) = λ y m n. gaps_told x y m n (query_same x)
 
 -- which rows REMOVE takes, at the end of a line
 pub removal_same : (x y : Option ConditionSyntax) → removal_lexemes x ≡ removal_lexemes y → x ≡ y

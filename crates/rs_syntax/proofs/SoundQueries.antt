@@ -16,7 +16,7 @@ use Rattle.rs_syntax.specs.declared.written.PairOperator.{PairOperator}
 use Rattle.rs_syntax.specs.declared.written.PairOperator.TheVariants as pair_operators
 use Rattle.rs_syntax.specs.Tree.{WindowTree, OperandTree, ConditionTree, QueryTree}
 use Rattle.rs_syntax.specs.WrittenParts.{Lexeme, mark, told, name_lexemes, list_lexemes, SaysDatum, AreToldOf}
-use Rattle.rs_syntax.specs.WrittenQueries.{AtomSyntax, written_comparison, written_null, written_not_null, written_negation, written_bracket, ConjunctionSyntax, last_atom, and_then, ConditionSyntax, last_conjunction, or_else, QuerySyntax, written_name, written_where, written_dissolve, written_rename, written_pair, written_window, written_transform, window_lexemes, operand_lexemes, atom_lexemes, conjunction_lexemes, condition_lexemes, bracketed_names_lexemes, query_lexemes, removal_lexemes, SaysWindow, SaysOperand, SaysAtom, SaysConjunction, SaysCondition, paired, SaysQuery, SaysRemoval}
+use Rattle.rs_syntax.specs.WrittenQueries.{AtomSyntax, written_comparison, written_null, written_not_null, written_negation, written_bracket, ConjunctionSyntax, last_atom, and_then, ConditionSyntax, last_conjunction, or_else, QuerySyntax, written_name, written_where, written_dissolve, written_rename, written_pair, written_window, written_transform, written_gaps, window_lexemes, operand_lexemes, atom_lexemes, conjunction_lexemes, condition_lexemes, bracketed_names_lexemes, query_lexemes, removal_lexemes, SaysWindow, SaysOperand, SaysAtom, SaysConjunction, SaysCondition, paired, SaysQuery, SaysRemoval}
 use Rattle.rs_syntax.specs.Sound.{IsName, IsWindow, IsOperand, IsCondition, IsQuery, IsRemovalCondition}
 use Rattle.rs_syntax.proofs.ToldLaws.{AreToldOf-append}
 use Rattle.rs_syntax.proofs.SoundParts.{name_sound, datum_sound, span_sound, EachTold, each_told}
@@ -107,6 +107,8 @@ query_sound line (written_window w window) tree clean all says =
 query_sound line (written_transform w alignment) tree clean all says =
     let told = operands_told line (query_lexemes w) (name_lexemes alignment) all.1.1 in
     subst IsQuery (sym says.2) (query_sound line w says.0 clean told.0 says.1, name_sound line alignment (token_text line alignment) told.1.0 refl)
+query_sound line (written_gaps w) tree clean all says =
+    subst IsQuery (sym says.2) (query_sound line w says.0 clean (AreToldOf-append line (query_lexemes w) (mark kinds.RightParen ∷ []) all.1.1).0 says.1)
 
 pub removal_sound : (line : List ℕ) (w : Option ConditionSyntax) (tree : Option ConditionTree) → IsTrue (is_text line) → AreToldOf line (removal_lexemes w) → SaysRemoval line w tree → IsRemovalCondition tree
 removal_sound line None tree clean all says = subst IsRemovalCondition (sym says) tt

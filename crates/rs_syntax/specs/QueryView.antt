@@ -11,7 +11,7 @@ use Rattle.rs_syntax.specs.declared.queries.Atom.{Atom, fold-Atom}
 use Rattle.rs_syntax.specs.declared.queries.Atom.TheOpen.{Atom-F}
 use Rattle.rs_syntax.specs.declared.queries.Query.{Query, fold-Query}
 use Rattle.rs_syntax.specs.declared.queries.Query.TheOpen.{Query-F}
-use Rattle.rs_syntax.specs.Tree.{WindowTree, whole_route, part_of_route, OperandTree, column_named, written_value, ConditionTree, compare, is_null, is_not_null, negated, bracketed, both, either, QueryTree, named, filtered, dissolved, renamed, overlaid, covered, merged, subtracted, windowed, transformed}
+use Rattle.rs_syntax.specs.Tree.{WindowTree, whole_route, part_of_route, OperandTree, column_named, written_value, ConditionTree, compare, is_null, is_not_null, negated, bracketed, both, either, QueryTree, named, filtered, dissolved, renamed, overlaid, covered, merged, subtracted, windowed, transformed, gapped}
 
 abbrev pub window_tree : Window → WindowTree
 window_tree (windows.Whole route) = whole_route route.bytes
@@ -68,6 +68,7 @@ query_step (Query-F.Merge left right) = merged left.value right.value
 query_step (Query-F.Minus left right) = subtracted left.value right.value
 query_step (Query-F.Window query window) = windowed query.value (window_tree window)
 query_step (Query-F.Transform query alignment) = transformed query.value alignment.bytes
+query_step (Query-F.Gaps query) = gapped query.value
 
 abbrev pub query_tree : Query → QueryTree
 query_tree = fold-Query QueryTree query_step

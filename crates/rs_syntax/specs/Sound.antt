@@ -11,7 +11,7 @@ use Rattle.rs_value.specs.Values.{IsValue, AreValues}
 use Rattle.rs_grammar.specs.declared.kind.TheConstants.{FETCHED_ROWS}
 pub use Rattle.rs_lexer.specs.Names.{IsName}
 use Rattle.rs_methods.specs.Position.{PositionExpression, absolute, beyond, before, interpolative}
-use Rattle.rs_syntax.specs.Tree.{EventLocationTree, along, at_point, WindowTree, whole_route, part_of_route, PieceTree, OperandTree, column_named, written_value, ConditionTree, compare, is_null, is_not_null, negated, bracketed, both, either, QueryTree, named, filtered, dissolved, renamed, overlaid, covered, merged, subtracted, windowed, transformed, CommandTree, define_route, define_table, define_referent, define_index, define_view, define_alignment, move_referent, drop_route, drop_table, drop_index, drop_view, drop_alignment, drop_referent, insert, remove, translate, select, total, explain, open_cursor, fetch, close_cursor, save, reopen}
+use Rattle.rs_syntax.specs.Tree.{EventLocationTree, along, at_point, WindowTree, whole_route, part_of_route, PieceTree, OperandTree, column_named, written_value, ConditionTree, compare, is_null, is_not_null, negated, bracketed, both, either, QueryTree, named, filtered, dissolved, renamed, overlaid, covered, merged, subtracted, windowed, transformed, gapped, CommandTree, define_route, define_table, define_referent, define_index, define_view, define_alignment, move_referent, drop_route, drop_table, drop_index, drop_view, drop_alignment, drop_referent, insert, remove, translate, select, total, explain, open_cursor, fetch, close_cursor, save, reopen}
 
 -- a text's column has room for a byte at least
 abbrev pub IsColumnType : ColumnType → Type 0
@@ -75,6 +75,7 @@ IsQuery (merged a b) = IsQuery a × IsQuery b
 IsQuery (subtracted a b) = IsQuery a × IsQuery b
 IsQuery (windowed query window) = IsQuery query × IsWindow window
 IsQuery (transformed query alignment) = IsQuery query × IsName alignment
+IsQuery (gapped query) = IsQuery query
 
 -- none where no column is summed
 abbrev pub IsSummedColumn : Option (List ℕ) → Type 0

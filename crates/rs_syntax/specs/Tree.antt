@@ -53,6 +53,7 @@ pub data QueryTree : Type 0 where
   subtracted : QueryTree → QueryTree → QueryTree
   windowed : QueryTree → WindowTree → QueryTree
   transformed : QueryTree → List ℕ → QueryTree  -- the alignment's name
+  gapped : QueryTree → QueryTree
 
 pub data CommandTree : Type 0 where
   define_route : List ℕ → ℕ → ℕ → CommandTree  -- name, start, finish

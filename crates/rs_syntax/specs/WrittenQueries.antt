@@ -15,7 +15,7 @@ use Rattle.rs_syntax.specs.declared.written.WrittenOperand.{WrittenOperand}
 use Rattle.rs_syntax.specs.declared.written.WrittenOperand.TheVariants as written_operands
 use Rattle.rs_syntax.specs.declared.written.PairOperator.{PairOperator}
 use Rattle.rs_syntax.specs.declared.written.PairOperator.TheVariants as pair_operators
-use Rattle.rs_syntax.specs.Tree.{WindowTree, whole_route, part_of_route, OperandTree, column_named, written_value, ConditionTree, compare, is_null, is_not_null, negated, bracketed, both, either, QueryTree, named, filtered, dissolved, renamed, overlaid, covered, merged, subtracted, windowed, transformed}
+use Rattle.rs_syntax.specs.Tree.{WindowTree, whole_route, part_of_route, OperandTree, column_named, written_value, ConditionTree, compare, is_null, is_not_null, negated, bracketed, both, either, QueryTree, named, filtered, dissolved, renamed, overlaid, covered, merged, subtracted, windowed, transformed, gapped}
 use Rattle.rs_syntax.specs.WrittenParts.{Lexeme, mark, told, span_lexemes, value_lexemes, name_lexemes, list_lexemes, SaysDatum, SaysPosition}
 
 -- A condition whose names, numbers and texts are still tokens of the line: parts between which OR stands, each of
@@ -45,6 +45,7 @@ pub data QuerySyntax : Type 0 where
   written_pair : PairOperator → QuerySyntax → QuerySyntax → QuerySyntax
   written_window : QuerySyntax → WrittenWindow → QuerySyntax
   written_transform : QuerySyntax → Token → QuerySyntax  -- the alignment's name
+  written_gaps : QuerySyntax → QuerySyntax
 
 abbrev pub window_lexemes : WrittenWindow → List Lexeme
 window_lexemes (written_windows.Whole route) = told kinds.Name route ∷ []
@@ -106,6 +107,7 @@ query_lexemes (written_rename query from to) = operator_lexemes kinds.Rename (qu
 query_lexemes (written_pair operator left right) = operator_lexemes (pair_kind operator) (query_lexemes left) (query_lexemes right)
 query_lexemes (written_window query window) = operator_lexemes kinds.Window (query_lexemes query) (window_lexemes window)
 query_lexemes (written_transform query alignment) = operator_lexemes kinds.Transform (query_lexemes query) (name_lexemes alignment)
+query_lexemes (written_gaps query) = mark kinds.Gaps ∷ mark kinds.LeftParen ∷ (query_lexemes query ++ mark kinds.RightParen ∷ [])
 
 -- which rows REMOVE takes, where the line says it
 abbrev pub removal_lexemes : Option ConditionSyntax → List Lexeme
@@ -168,6 +170,7 @@ SaysQuery line (written_window written place) tree =
     × (tree ≡ windowed query window)
 SaysQuery line (written_transform written alignment) tree =
     (query : QueryTree) × SaysQuery line written query × (tree ≡ transformed query (token_text line alignment))
+SaysQuery line (written_gaps written) tree = (query : QueryTree) × SaysQuery line written query × (tree ≡ gapped query)
 
 -- all rows where no condition is written
 abbrev pub SaysRemoval : List ℕ → Option ConditionSyntax → Option ConditionTree → Type 0

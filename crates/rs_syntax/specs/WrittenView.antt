@@ -6,7 +6,7 @@ use Rattle.rs_syntax.specs.declared.written.WrittenAtom.{WrittenAtom, fold-Writt
 use Rattle.rs_syntax.specs.declared.written.WrittenAtom.TheOpen.{WrittenAtom-F}
 use Rattle.rs_syntax.specs.declared.written.WrittenQuery.{WrittenQuery, fold-WrittenQuery}
 use Rattle.rs_syntax.specs.declared.written.WrittenQuery.TheOpen.{WrittenQuery-F}
-use Rattle.rs_syntax.specs.WrittenQueries.{AtomSyntax, written_comparison, written_null, written_not_null, written_negation, written_bracket, ConjunctionSyntax, last_atom, and_then, ConditionSyntax, last_conjunction, or_else, QuerySyntax, written_name, written_where, written_dissolve, written_rename, written_pair, written_window, written_transform}
+use Rattle.rs_syntax.specs.WrittenQueries.{AtomSyntax, written_comparison, written_null, written_not_null, written_negation, written_bracket, ConjunctionSyntax, last_atom, and_then, ConditionSyntax, last_conjunction, or_else, QuerySyntax, written_name, written_where, written_dissolve, written_rename, written_pair, written_window, written_transform, written_gaps}
 
 -- No token of a line is a comma that is told as a name: no line spells a chain that has no parts.
 abbrev pub no_atom : AtomSyntax
@@ -56,6 +56,7 @@ query_syntax_step (WrittenQuery-F.Rename query from to) = written_rename query.v
 query_syntax_step (WrittenQuery-F.Pair operator left right) = written_pair operator left.value right.value
 query_syntax_step (WrittenQuery-F.Window query window) = written_window query.value window
 query_syntax_step (WrittenQuery-F.Transform query alignment) = written_transform query.value alignment
+query_syntax_step (WrittenQuery-F.Gaps query) = written_gaps query.value
 
 abbrev pub query_syntax : WrittenQuery → QuerySyntax
 query_syntax = fold-WrittenQuery QuerySyntax query_syntax_step

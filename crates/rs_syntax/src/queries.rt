@@ -72,4 +72,6 @@ pub enum Query {
     /// The rows carried by the pieces of an alignment, by its name (ArcGIS's Transform Route Events, without
     /// stretching).
     Transform(Box<Query>, Name),
+    /// The row without columns wherever, between the ends of a route, the query has no row.
+    Gaps(Box<Query>),
 }

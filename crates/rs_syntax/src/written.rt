@@ -157,6 +157,8 @@ pub enum WrittenQuery {
     Window(Box<WrittenQuery>, WrittenWindow),
     /// `TRANSFORM`: a query and an alignment's name.
     Transform(Box<WrittenQuery>, Token),
+    /// `GAPS`: a query.
+    Gaps(Box<WrittenQuery>),
 }
 
 /// A command as written.

@@ -21,7 +21,7 @@ use Rattle.rs_syntax.specs.declared.written.WrittenOperand.{WrittenOperand}
 use Rattle.rs_syntax.specs.declared.written.WrittenOperand.TheVariants as written_operands
 use Rattle.rs_syntax.specs.Tree.{part_of_route, whole_route, column_named, compare, is_null, is_not_null, named, dissolved, renamed, transformed}
 use Rattle.rs_syntax.specs.WrittenParts.{Lexeme, mark, told, has_text, lexeme_of, lexemes_of, position_lexemes, name_lexemes, further_lexemes, list_lexemes, unquoted, signed, SaysDatum, SaysPosition}
-use Rattle.rs_syntax.specs.WrittenQueries.{AtomSyntax, written_comparison, written_null, written_not_null, written_negation, written_bracket, ConjunctionSyntax, last_atom, and_then, ConditionSyntax, last_conjunction, or_else, QuerySyntax, written_name, written_where, written_dissolve, written_rename, written_pair, written_window, written_transform, window_lexemes, comparison_kind, operand_lexemes, atom_lexemes, conjunction_lexemes, condition_lexemes, bracketed_names_lexemes, pair_kind, operator_lexemes, query_lexemes, SaysWindow, SaysOperand, SaysAtom, SaysConjunction, SaysCondition, SaysQuery}
+use Rattle.rs_syntax.specs.WrittenQueries.{AtomSyntax, written_comparison, written_null, written_not_null, written_negation, written_bracket, ConjunctionSyntax, last_atom, and_then, ConditionSyntax, last_conjunction, or_else, QuerySyntax, written_name, written_where, written_dissolve, written_rename, written_pair, written_window, written_transform, written_gaps, window_lexemes, comparison_kind, operand_lexemes, atom_lexemes, conjunction_lexemes, condition_lexemes, bracketed_names_lexemes, pair_kind, operator_lexemes, query_lexemes, SaysWindow, SaysOperand, SaysAtom, SaysConjunction, SaysCondition, SaysQuery}
 use Rattle.rs_syntax_laws.proofs.MovedTexts.{moved, HasSameText}
 
 module _ (line other : List ℕ) (move : ℕ → ℕ) where
@@ -256,4 +256,11 @@ module _ (line other : List ℕ) (move : ℕ → ℕ) where
         written_transform q.0 (moved move alignment),
         operator_spelled kinds.Transform (query_lexemes query) (name_lexemes alignment) (query_lexemes q.0) (name_lexemes (moved move alignment)) q.1 refl,
         λ tree says. (says.0, q.2 says.0 says.1, says.2 ∙ ap (transformed says.0) (sym k.1.0)),
+      )
+  query_moved (written_gaps query) kept =
+      let end = mark kinds.RightParen ∷ [] in
+      let q = query_moved query (kept_parts (query_lexemes query) end kept).0 in (
+        written_gaps q.0,
+        ap (λ zs. mark kinds.Gaps ∷ mark kinds.LeftParen ∷ zs) (joined (query_lexemes query) end (query_lexemes q.0) end q.1 refl),
+        λ tree says. (says.0, q.2 says.0 says.1, says.2),
       )

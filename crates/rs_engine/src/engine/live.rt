@@ -7,13 +7,13 @@ ghost use Rattle.rs_answers.specs.Routes as answers;
 ghost use Rattle.rs_store_source.specs.Versions as store;
 
 use rs_answers::{InMemory, NamedRoute, Versions};
-use rs_catalog::{Catalog, RouteReferents};
+use rs_catalog::{Catalog, Ends, RouteReferents};
 use rs_disk::Disk;
 use rs_exec::{Asked, Part, SoughtValue, Source};
 use rs_facts::Span;
 use rs_refusal::Refusal;
 use rs_store_source::rs_store::Store;
-use rs_store_source::{spans_asked, spans_of_value_asked};
+use rs_store_source::{ends_asked, spans_asked, spans_of_value_asked};
 use std::alloc::{AllocError, Global};
 
 /// A store, and the oldest version that is looked at.
@@ -58,6 +58,10 @@ impl<D: Disk> Source for LiveStore<D> {
             }
         }
         None
+    }
+
+    fn ends_at(&self, route: u32, version: u64) -> Option<Ends> {
+        ends_asked(&self.store, self.oldest, route, version)
     }
 
     ghost passes_refl = { λ live. record { store = passes_refl _ live.store; oldest_stays = refl } };

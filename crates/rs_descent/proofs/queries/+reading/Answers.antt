@@ -1,10 +1,10 @@
 use Rattle.std.proofs.Common.{[], ◌∷◌, arith, refl}
 use Rattle.rs_grammar.specs.declared.kind.TokenKind.TheVariants as kinds
-use Rattle.rs_grammar.specs.Grammar.{rules, query, condition, bracketed_names, window, done, pick, sub, need, where_form, dissolve_form, rename_form, pair_form, window_query_form, transform_form}
+use Rattle.rs_grammar.specs.Grammar.{Form, rules, query, condition, bracketed_names, window, done, pick, sub, need, where_form, dissolve_form, rename_form, pair_form, window_query_form, transform_form, gaps_form}
 use Rattle.rs_syntax.specs.Written.{mark, told, written_where, written_dissolve, written_rename, written_pair, written_window, written_transform, pair_kind, window_lexemes, name_lexemes, bracketed_names_lexemes, condition_lexemes, query_lexemes}
 use Rattle.rs_syntax.specs.WrittenView.{condition_syntax, query_syntax}
-use Rattle.rs_syntax.proofs.ChainLaws.{where_written, dissolve_written, rename_written, pair_written, window_written, transform_written}
-use Rattle.rs_descent.proofs.QuerySteps.{operand-spelled, operator-closed}
+use Rattle.rs_syntax.proofs.ChainLaws.{where_written, dissolve_written, rename_written, pair_written, window_written, transform_written, gaps_written}
+use Rattle.rs_descent.proofs.QuerySteps.{operand-spelled, operator-closed, gaps-closed}
 use Rattle.std.proofs.lemmas.Result.{err_from_is_err_and}
 use Rattle.rs_descent.specs.Reading.{renaming_form, closing_form, is_done, is_fail, skips, through, stops_in, gives_up}
 use Rattle.rs_descent.proofs.Steps.{takes_as, misses, RunsTo-takes, RunsTo-skips, RunsTo-after, shorter-after}
@@ -208,82 +208,150 @@ transform_query-returns-in-Some-clause-shorter t c =
 pub transform_query-returns-in-None-clause-runs : goal.transform_query-returns-in-None-clause-runs
 transform_query-returns-in-None-clause-runs t c = c.in_ok-query.ensures.begins (need kinds.Name closing_form) _ (skips c.in-None.ensures.found is_fail)
 
+pub gaps_query-returns-in_err-rest-clause-runs : goal.gaps_query-returns-in_err-rest-clause-runs
+gaps_query-returns-in_err-rest-clause-runs t c =
+    let p = err_from_is_err_and c.from_residual.result c.from_residual.ensures.1 in
+    rw (p.1, p.2) (misses c.in_err-rest.ensures.found)
+
+pub gaps_query-returns-in_err-query-clause-runs : goal.gaps_query-returns-in_err-query-clause-runs
+unfolding rules
+gaps_query-returns-in_err-query-clause-runs t c =
+    let p = err_from_is_err_and c.from_residual-in_err-query.result c.from_residual-in_err-query.ensures.1 in
+    rw (p.1, p.2) (takes_as c.in_ok-rest.ensures.found (stops_in c.in_err-query.ensures.runs))
+
+pub gaps_query-returns-clause-runs : goal.gaps_query-returns-clause-runs
+unfolding rules
+gaps_query-returns-clause-runs t c =
+    RunsTo-after closing_form gaps_form c.args.tokens.now c.in_ok-query.rest.now c.closed.result
+    (λ outcome run. takes_as c.in_ok-rest.ensures.found (through c.in_ok-query.ensures.runs run)) c.closed.ensures.runs
+
+pub gaps_query-returns-clause-spelled : goal.gaps_query-returns-clause-spelled
+gaps_query-returns-clause-spelled t c =
+    gaps-closed c.args.tokens.now c.in_ok-rest.rest.now c.in_ok-query.rest.now (query_syntax c.in_ok-query.query.value) _ c.closed.result
+    c.in_ok-rest.ensures.spelled c.in_ok-query.ensures.spelled (gaps_written c.in_ok-query.query) c.closed.ensures.same c.closed.ensures.spelled
+
+pub gaps_query-returns-clause-shorter : goal.gaps_query-returns-clause-shorter
+gaps_query-returns-clause-shorter t c =
+    shorter-after c.args.tokens.now c.in_ok-query.rest.now c.closed.result
+    (omega (arith, c.in_ok-rest.ensures.shorter, c.in_ok-query.ensures.shorter)) c.closed.ensures.shorter
+
+-- What a query may be where its word is none of those so far, from the last on.
+abbrev after_transform : Form
+after_transform = pick kinds.Gaps gaps_form (need kinds.Name done)
+
+abbrev after_window : Form
+after_window = pick kinds.Transform transform_form after_transform
+
+abbrev after_minus : Form
+after_minus = pick kinds.Window window_query_form after_window
+
+abbrev after_merge : Form
+after_merge = pick kinds.Minus pair_form after_minus
+
+abbrev after_cover : Form
+after_cover = pick kinds.Merge pair_form after_merge
+
+abbrev after_overlay : Form
+after_overlay = pick kinds.Cover pair_form after_cover
+
+abbrev after_rename : Form
+after_rename = pick kinds.Overlay pair_form after_overlay
+
+abbrev after_dissolve : Form
+after_dissolve = pick kinds.Rename rename_form after_rename
+
+abbrev after_where : Form
+after_where = pick kinds.Dissolve dissolve_form after_dissolve
+
 pub query-returns-in-Some-clause-runs : goal.query-returns-in-Some-clause-runs
-query-returns-in-Some-clause-runs t c = RunsTo-takes kinds.Where where_form (pick kinds.Dissolve dissolve_form (pick kinds.Rename rename_form (pick kinds.Overlay pair_form (pick kinds.Cover pair_form (pick kinds.Merge pair_form (pick kinds.Minus pair_form (pick kinds.Window window_query_form (pick kinds.Transform transform_form (need kinds.Name done))))))))) c.args.tokens.now c.in-Some.rest.now c.where_query.result c.in-Some.ensures.found c.where_query.ensures.runs
+query-returns-in-Some-clause-runs t c = RunsTo-takes kinds.Where where_form after_where c.args.tokens.now c.in-Some.rest.now c.where_query.result c.in-Some.ensures.found c.where_query.ensures.runs
 
 pub query-returns-in-Some-mark-clause-runs : goal.query-returns-in-Some-mark-clause-runs
 query-returns-in-Some-mark-clause-runs t c =
-    RunsTo-skips kinds.Where where_form (pick kinds.Dissolve dissolve_form (pick kinds.Rename rename_form (pick kinds.Overlay pair_form (pick kinds.Cover pair_form (pick kinds.Merge pair_form (pick kinds.Minus pair_form (pick kinds.Window window_query_form (pick kinds.Transform transform_form (need kinds.Name done))))))))) c.args.tokens.now c.dissolve_query.result c.in_default.ensures.found
-    (RunsTo-takes kinds.Dissolve dissolve_form (pick kinds.Rename rename_form (pick kinds.Overlay pair_form (pick kinds.Cover pair_form (pick kinds.Merge pair_form (pick kinds.Minus pair_form (pick kinds.Window window_query_form (pick kinds.Transform transform_form (need kinds.Name done)))))))) c.args.tokens.now c.in-Some-mark.rest.now c.dissolve_query.result c.in-Some-mark.ensures.found c.dissolve_query.ensures.runs)
+    RunsTo-skips kinds.Where where_form after_where c.args.tokens.now c.dissolve_query.result c.in_default.ensures.found
+    (RunsTo-takes kinds.Dissolve dissolve_form after_dissolve c.args.tokens.now c.in-Some-mark.rest.now c.dissolve_query.result c.in-Some-mark.ensures.found c.dissolve_query.ensures.runs)
 
 pub query-returns-in-Some-mark-2-clause-runs : goal.query-returns-in-Some-mark-2-clause-runs
 query-returns-in-Some-mark-2-clause-runs t c =
-    RunsTo-skips kinds.Where where_form (pick kinds.Dissolve dissolve_form (pick kinds.Rename rename_form (pick kinds.Overlay pair_form (pick kinds.Cover pair_form (pick kinds.Merge pair_form (pick kinds.Minus pair_form (pick kinds.Window window_query_form (pick kinds.Transform transform_form (need kinds.Name done))))))))) c.args.tokens.now c.rename_query.result c.in_default.ensures.found
-    (RunsTo-skips kinds.Dissolve dissolve_form (pick kinds.Rename rename_form (pick kinds.Overlay pair_form (pick kinds.Cover pair_form (pick kinds.Merge pair_form (pick kinds.Minus pair_form (pick kinds.Window window_query_form (pick kinds.Transform transform_form (need kinds.Name done)))))))) c.args.tokens.now c.rename_query.result c.in_default-mark.ensures.found
-    (RunsTo-takes kinds.Rename rename_form (pick kinds.Overlay pair_form (pick kinds.Cover pair_form (pick kinds.Merge pair_form (pick kinds.Minus pair_form (pick kinds.Window window_query_form (pick kinds.Transform transform_form (need kinds.Name done))))))) c.args.tokens.now c.in-Some-mark-2.rest.now c.rename_query.result c.in-Some-mark-2.ensures.found c.rename_query.ensures.runs))
+    RunsTo-skips kinds.Where where_form after_where c.args.tokens.now c.rename_query.result c.in_default.ensures.found
+    (RunsTo-skips kinds.Dissolve dissolve_form after_dissolve c.args.tokens.now c.rename_query.result c.in_default-mark.ensures.found
+    (RunsTo-takes kinds.Rename rename_form after_rename c.args.tokens.now c.in-Some-mark-2.rest.now c.rename_query.result c.in-Some-mark-2.ensures.found c.rename_query.ensures.runs))
 
 pub query-returns-in-Some-mark-3-clause-runs : goal.query-returns-in-Some-mark-3-clause-runs
 query-returns-in-Some-mark-3-clause-runs t c =
-    RunsTo-skips kinds.Where where_form (pick kinds.Dissolve dissolve_form (pick kinds.Rename rename_form (pick kinds.Overlay pair_form (pick kinds.Cover pair_form (pick kinds.Merge pair_form (pick kinds.Minus pair_form (pick kinds.Window window_query_form (pick kinds.Transform transform_form (need kinds.Name done))))))))) c.args.tokens.now c.pair_query.result c.in_default.ensures.found
-    (RunsTo-skips kinds.Dissolve dissolve_form (pick kinds.Rename rename_form (pick kinds.Overlay pair_form (pick kinds.Cover pair_form (pick kinds.Merge pair_form (pick kinds.Minus pair_form (pick kinds.Window window_query_form (pick kinds.Transform transform_form (need kinds.Name done)))))))) c.args.tokens.now c.pair_query.result c.in_default-mark.ensures.found
-    (RunsTo-skips kinds.Rename rename_form (pick kinds.Overlay pair_form (pick kinds.Cover pair_form (pick kinds.Merge pair_form (pick kinds.Minus pair_form (pick kinds.Window window_query_form (pick kinds.Transform transform_form (need kinds.Name done))))))) c.args.tokens.now c.pair_query.result c.in_default-mark-2.ensures.found
-    (RunsTo-takes kinds.Overlay pair_form (pick kinds.Cover pair_form (pick kinds.Merge pair_form (pick kinds.Minus pair_form (pick kinds.Window window_query_form (pick kinds.Transform transform_form (need kinds.Name done)))))) c.args.tokens.now c.in-Some-mark-3.rest.now c.pair_query.result c.in-Some-mark-3.ensures.found c.pair_query.ensures.runs)))
+    RunsTo-skips kinds.Where where_form after_where c.args.tokens.now c.pair_query.result c.in_default.ensures.found
+    (RunsTo-skips kinds.Dissolve dissolve_form after_dissolve c.args.tokens.now c.pair_query.result c.in_default-mark.ensures.found
+    (RunsTo-skips kinds.Rename rename_form after_rename c.args.tokens.now c.pair_query.result c.in_default-mark-2.ensures.found
+    (RunsTo-takes kinds.Overlay pair_form after_overlay c.args.tokens.now c.in-Some-mark-3.rest.now c.pair_query.result c.in-Some-mark-3.ensures.found c.pair_query.ensures.runs)))
 
 pub query-returns-in-Some-mark-4-clause-runs : goal.query-returns-in-Some-mark-4-clause-runs
 query-returns-in-Some-mark-4-clause-runs t c =
-    RunsTo-skips kinds.Where where_form (pick kinds.Dissolve dissolve_form (pick kinds.Rename rename_form (pick kinds.Overlay pair_form (pick kinds.Cover pair_form (pick kinds.Merge pair_form (pick kinds.Minus pair_form (pick kinds.Window window_query_form (pick kinds.Transform transform_form (need kinds.Name done))))))))) c.args.tokens.now c.pair_query-in-Some-mark-4.result c.in_default.ensures.found
-    (RunsTo-skips kinds.Dissolve dissolve_form (pick kinds.Rename rename_form (pick kinds.Overlay pair_form (pick kinds.Cover pair_form (pick kinds.Merge pair_form (pick kinds.Minus pair_form (pick kinds.Window window_query_form (pick kinds.Transform transform_form (need kinds.Name done)))))))) c.args.tokens.now c.pair_query-in-Some-mark-4.result c.in_default-mark.ensures.found
-    (RunsTo-skips kinds.Rename rename_form (pick kinds.Overlay pair_form (pick kinds.Cover pair_form (pick kinds.Merge pair_form (pick kinds.Minus pair_form (pick kinds.Window window_query_form (pick kinds.Transform transform_form (need kinds.Name done))))))) c.args.tokens.now c.pair_query-in-Some-mark-4.result c.in_default-mark-2.ensures.found
-    (RunsTo-skips kinds.Overlay pair_form (pick kinds.Cover pair_form (pick kinds.Merge pair_form (pick kinds.Minus pair_form (pick kinds.Window window_query_form (pick kinds.Transform transform_form (need kinds.Name done)))))) c.args.tokens.now c.pair_query-in-Some-mark-4.result c.in_default-mark-3.ensures.found
-    (RunsTo-takes kinds.Cover pair_form (pick kinds.Merge pair_form (pick kinds.Minus pair_form (pick kinds.Window window_query_form (pick kinds.Transform transform_form (need kinds.Name done))))) c.args.tokens.now c.in-Some-mark-4.rest.now c.pair_query-in-Some-mark-4.result c.in-Some-mark-4.ensures.found c.pair_query-in-Some-mark-4.ensures.runs))))
+    RunsTo-skips kinds.Where where_form after_where c.args.tokens.now c.pair_query-in-Some-mark-4.result c.in_default.ensures.found
+    (RunsTo-skips kinds.Dissolve dissolve_form after_dissolve c.args.tokens.now c.pair_query-in-Some-mark-4.result c.in_default-mark.ensures.found
+    (RunsTo-skips kinds.Rename rename_form after_rename c.args.tokens.now c.pair_query-in-Some-mark-4.result c.in_default-mark-2.ensures.found
+    (RunsTo-skips kinds.Overlay pair_form after_overlay c.args.tokens.now c.pair_query-in-Some-mark-4.result c.in_default-mark-3.ensures.found
+    (RunsTo-takes kinds.Cover pair_form after_cover c.args.tokens.now c.in-Some-mark-4.rest.now c.pair_query-in-Some-mark-4.result c.in-Some-mark-4.ensures.found c.pair_query-in-Some-mark-4.ensures.runs))))
 
 pub query-returns-in-Some-mark-5-clause-runs : goal.query-returns-in-Some-mark-5-clause-runs
 query-returns-in-Some-mark-5-clause-runs t c =
-    RunsTo-skips kinds.Where where_form (pick kinds.Dissolve dissolve_form (pick kinds.Rename rename_form (pick kinds.Overlay pair_form (pick kinds.Cover pair_form (pick kinds.Merge pair_form (pick kinds.Minus pair_form (pick kinds.Window window_query_form (pick kinds.Transform transform_form (need kinds.Name done))))))))) c.args.tokens.now c.pair_query-in-Some-mark-5.result c.in_default.ensures.found
-    (RunsTo-skips kinds.Dissolve dissolve_form (pick kinds.Rename rename_form (pick kinds.Overlay pair_form (pick kinds.Cover pair_form (pick kinds.Merge pair_form (pick kinds.Minus pair_form (pick kinds.Window window_query_form (pick kinds.Transform transform_form (need kinds.Name done)))))))) c.args.tokens.now c.pair_query-in-Some-mark-5.result c.in_default-mark.ensures.found
-    (RunsTo-skips kinds.Rename rename_form (pick kinds.Overlay pair_form (pick kinds.Cover pair_form (pick kinds.Merge pair_form (pick kinds.Minus pair_form (pick kinds.Window window_query_form (pick kinds.Transform transform_form (need kinds.Name done))))))) c.args.tokens.now c.pair_query-in-Some-mark-5.result c.in_default-mark-2.ensures.found
-    (RunsTo-skips kinds.Overlay pair_form (pick kinds.Cover pair_form (pick kinds.Merge pair_form (pick kinds.Minus pair_form (pick kinds.Window window_query_form (pick kinds.Transform transform_form (need kinds.Name done)))))) c.args.tokens.now c.pair_query-in-Some-mark-5.result c.in_default-mark-3.ensures.found
-    (RunsTo-skips kinds.Cover pair_form (pick kinds.Merge pair_form (pick kinds.Minus pair_form (pick kinds.Window window_query_form (pick kinds.Transform transform_form (need kinds.Name done))))) c.args.tokens.now c.pair_query-in-Some-mark-5.result c.in_default-mark-4.ensures.found
-    (RunsTo-takes kinds.Merge pair_form (pick kinds.Minus pair_form (pick kinds.Window window_query_form (pick kinds.Transform transform_form (need kinds.Name done)))) c.args.tokens.now c.in-Some-mark-5.rest.now c.pair_query-in-Some-mark-5.result c.in-Some-mark-5.ensures.found c.pair_query-in-Some-mark-5.ensures.runs)))))
+    RunsTo-skips kinds.Where where_form after_where c.args.tokens.now c.pair_query-in-Some-mark-5.result c.in_default.ensures.found
+    (RunsTo-skips kinds.Dissolve dissolve_form after_dissolve c.args.tokens.now c.pair_query-in-Some-mark-5.result c.in_default-mark.ensures.found
+    (RunsTo-skips kinds.Rename rename_form after_rename c.args.tokens.now c.pair_query-in-Some-mark-5.result c.in_default-mark-2.ensures.found
+    (RunsTo-skips kinds.Overlay pair_form after_overlay c.args.tokens.now c.pair_query-in-Some-mark-5.result c.in_default-mark-3.ensures.found
+    (RunsTo-skips kinds.Cover pair_form after_cover c.args.tokens.now c.pair_query-in-Some-mark-5.result c.in_default-mark-4.ensures.found
+    (RunsTo-takes kinds.Merge pair_form after_merge c.args.tokens.now c.in-Some-mark-5.rest.now c.pair_query-in-Some-mark-5.result c.in-Some-mark-5.ensures.found c.pair_query-in-Some-mark-5.ensures.runs)))))
 
 pub query-returns-in-Some-mark-6-clause-runs : goal.query-returns-in-Some-mark-6-clause-runs
 query-returns-in-Some-mark-6-clause-runs t c =
-    RunsTo-skips kinds.Where where_form (pick kinds.Dissolve dissolve_form (pick kinds.Rename rename_form (pick kinds.Overlay pair_form (pick kinds.Cover pair_form (pick kinds.Merge pair_form (pick kinds.Minus pair_form (pick kinds.Window window_query_form (pick kinds.Transform transform_form (need kinds.Name done))))))))) c.args.tokens.now c.pair_query-in-Some-mark-6.result c.in_default.ensures.found
-    (RunsTo-skips kinds.Dissolve dissolve_form (pick kinds.Rename rename_form (pick kinds.Overlay pair_form (pick kinds.Cover pair_form (pick kinds.Merge pair_form (pick kinds.Minus pair_form (pick kinds.Window window_query_form (pick kinds.Transform transform_form (need kinds.Name done)))))))) c.args.tokens.now c.pair_query-in-Some-mark-6.result c.in_default-mark.ensures.found
-    (RunsTo-skips kinds.Rename rename_form (pick kinds.Overlay pair_form (pick kinds.Cover pair_form (pick kinds.Merge pair_form (pick kinds.Minus pair_form (pick kinds.Window window_query_form (pick kinds.Transform transform_form (need kinds.Name done))))))) c.args.tokens.now c.pair_query-in-Some-mark-6.result c.in_default-mark-2.ensures.found
-    (RunsTo-skips kinds.Overlay pair_form (pick kinds.Cover pair_form (pick kinds.Merge pair_form (pick kinds.Minus pair_form (pick kinds.Window window_query_form (pick kinds.Transform transform_form (need kinds.Name done)))))) c.args.tokens.now c.pair_query-in-Some-mark-6.result c.in_default-mark-3.ensures.found
-    (RunsTo-skips kinds.Cover pair_form (pick kinds.Merge pair_form (pick kinds.Minus pair_form (pick kinds.Window window_query_form (pick kinds.Transform transform_form (need kinds.Name done))))) c.args.tokens.now c.pair_query-in-Some-mark-6.result c.in_default-mark-4.ensures.found
-    (RunsTo-skips kinds.Merge pair_form (pick kinds.Minus pair_form (pick kinds.Window window_query_form (pick kinds.Transform transform_form (need kinds.Name done)))) c.args.tokens.now c.pair_query-in-Some-mark-6.result c.in_default-mark-5.ensures.found
-    (RunsTo-takes kinds.Minus pair_form (pick kinds.Window window_query_form (pick kinds.Transform transform_form (need kinds.Name done))) c.args.tokens.now c.in-Some-mark-6.rest.now c.pair_query-in-Some-mark-6.result c.in-Some-mark-6.ensures.found c.pair_query-in-Some-mark-6.ensures.runs))))))
+    RunsTo-skips kinds.Where where_form after_where c.args.tokens.now c.pair_query-in-Some-mark-6.result c.in_default.ensures.found
+    (RunsTo-skips kinds.Dissolve dissolve_form after_dissolve c.args.tokens.now c.pair_query-in-Some-mark-6.result c.in_default-mark.ensures.found
+    (RunsTo-skips kinds.Rename rename_form after_rename c.args.tokens.now c.pair_query-in-Some-mark-6.result c.in_default-mark-2.ensures.found
+    (RunsTo-skips kinds.Overlay pair_form after_overlay c.args.tokens.now c.pair_query-in-Some-mark-6.result c.in_default-mark-3.ensures.found
+    (RunsTo-skips kinds.Cover pair_form after_cover c.args.tokens.now c.pair_query-in-Some-mark-6.result c.in_default-mark-4.ensures.found
+    (RunsTo-skips kinds.Merge pair_form after_merge c.args.tokens.now c.pair_query-in-Some-mark-6.result c.in_default-mark-5.ensures.found
+    (RunsTo-takes kinds.Minus pair_form after_minus c.args.tokens.now c.in-Some-mark-6.rest.now c.pair_query-in-Some-mark-6.result c.in-Some-mark-6.ensures.found c.pair_query-in-Some-mark-6.ensures.runs))))))
 
 pub query-returns-in-Some-mark-7-clause-runs : goal.query-returns-in-Some-mark-7-clause-runs
 query-returns-in-Some-mark-7-clause-runs t c =
-    RunsTo-skips kinds.Where where_form (pick kinds.Dissolve dissolve_form (pick kinds.Rename rename_form (pick kinds.Overlay pair_form (pick kinds.Cover pair_form (pick kinds.Merge pair_form (pick kinds.Minus pair_form (pick kinds.Window window_query_form (pick kinds.Transform transform_form (need kinds.Name done))))))))) c.args.tokens.now c.window_query.result c.in_default.ensures.found
-    (RunsTo-skips kinds.Dissolve dissolve_form (pick kinds.Rename rename_form (pick kinds.Overlay pair_form (pick kinds.Cover pair_form (pick kinds.Merge pair_form (pick kinds.Minus pair_form (pick kinds.Window window_query_form (pick kinds.Transform transform_form (need kinds.Name done)))))))) c.args.tokens.now c.window_query.result c.in_default-mark.ensures.found
-    (RunsTo-skips kinds.Rename rename_form (pick kinds.Overlay pair_form (pick kinds.Cover pair_form (pick kinds.Merge pair_form (pick kinds.Minus pair_form (pick kinds.Window window_query_form (pick kinds.Transform transform_form (need kinds.Name done))))))) c.args.tokens.now c.window_query.result c.in_default-mark-2.ensures.found
-    (RunsTo-skips kinds.Overlay pair_form (pick kinds.Cover pair_form (pick kinds.Merge pair_form (pick kinds.Minus pair_form (pick kinds.Window window_query_form (pick kinds.Transform transform_form (need kinds.Name done)))))) c.args.tokens.now c.window_query.result c.in_default-mark-3.ensures.found
-    (RunsTo-skips kinds.Cover pair_form (pick kinds.Merge pair_form (pick kinds.Minus pair_form (pick kinds.Window window_query_form (pick kinds.Transform transform_form (need kinds.Name done))))) c.args.tokens.now c.window_query.result c.in_default-mark-4.ensures.found
-    (RunsTo-skips kinds.Merge pair_form (pick kinds.Minus pair_form (pick kinds.Window window_query_form (pick kinds.Transform transform_form (need kinds.Name done)))) c.args.tokens.now c.window_query.result c.in_default-mark-5.ensures.found
-    (RunsTo-skips kinds.Minus pair_form (pick kinds.Window window_query_form (pick kinds.Transform transform_form (need kinds.Name done))) c.args.tokens.now c.window_query.result c.in_default-mark-6.ensures.found
-    (RunsTo-takes kinds.Window window_query_form (pick kinds.Transform transform_form (need kinds.Name done)) c.args.tokens.now c.in-Some-mark-7.rest.now c.window_query.result c.in-Some-mark-7.ensures.found c.window_query.ensures.runs)))))))
+    RunsTo-skips kinds.Where where_form after_where c.args.tokens.now c.window_query.result c.in_default.ensures.found
+    (RunsTo-skips kinds.Dissolve dissolve_form after_dissolve c.args.tokens.now c.window_query.result c.in_default-mark.ensures.found
+    (RunsTo-skips kinds.Rename rename_form after_rename c.args.tokens.now c.window_query.result c.in_default-mark-2.ensures.found
+    (RunsTo-skips kinds.Overlay pair_form after_overlay c.args.tokens.now c.window_query.result c.in_default-mark-3.ensures.found
+    (RunsTo-skips kinds.Cover pair_form after_cover c.args.tokens.now c.window_query.result c.in_default-mark-4.ensures.found
+    (RunsTo-skips kinds.Merge pair_form after_merge c.args.tokens.now c.window_query.result c.in_default-mark-5.ensures.found
+    (RunsTo-skips kinds.Minus pair_form after_minus c.args.tokens.now c.window_query.result c.in_default-mark-6.ensures.found
+    (RunsTo-takes kinds.Window window_query_form after_window c.args.tokens.now c.in-Some-mark-7.rest.now c.window_query.result c.in-Some-mark-7.ensures.found c.window_query.ensures.runs)))))))
 
 pub query-returns-in-Some-mark-8-clause-runs : goal.query-returns-in-Some-mark-8-clause-runs
 query-returns-in-Some-mark-8-clause-runs t c =
-    RunsTo-skips kinds.Where where_form (pick kinds.Dissolve dissolve_form (pick kinds.Rename rename_form (pick kinds.Overlay pair_form (pick kinds.Cover pair_form (pick kinds.Merge pair_form (pick kinds.Minus pair_form (pick kinds.Window window_query_form (pick kinds.Transform transform_form (need kinds.Name done))))))))) c.args.tokens.now c.transform_query.result c.in_default.ensures.found
-    (RunsTo-skips kinds.Dissolve dissolve_form (pick kinds.Rename rename_form (pick kinds.Overlay pair_form (pick kinds.Cover pair_form (pick kinds.Merge pair_form (pick kinds.Minus pair_form (pick kinds.Window window_query_form (pick kinds.Transform transform_form (need kinds.Name done)))))))) c.args.tokens.now c.transform_query.result c.in_default-mark.ensures.found
-    (RunsTo-skips kinds.Rename rename_form (pick kinds.Overlay pair_form (pick kinds.Cover pair_form (pick kinds.Merge pair_form (pick kinds.Minus pair_form (pick kinds.Window window_query_form (pick kinds.Transform transform_form (need kinds.Name done))))))) c.args.tokens.now c.transform_query.result c.in_default-mark-2.ensures.found
-    (RunsTo-skips kinds.Overlay pair_form (pick kinds.Cover pair_form (pick kinds.Merge pair_form (pick kinds.Minus pair_form (pick kinds.Window window_query_form (pick kinds.Transform transform_form (need kinds.Name done)))))) c.args.tokens.now c.transform_query.result c.in_default-mark-3.ensures.found
-    (RunsTo-skips kinds.Cover pair_form (pick kinds.Merge pair_form (pick kinds.Minus pair_form (pick kinds.Window window_query_form (pick kinds.Transform transform_form (need kinds.Name done))))) c.args.tokens.now c.transform_query.result c.in_default-mark-4.ensures.found
-    (RunsTo-skips kinds.Merge pair_form (pick kinds.Minus pair_form (pick kinds.Window window_query_form (pick kinds.Transform transform_form (need kinds.Name done)))) c.args.tokens.now c.transform_query.result c.in_default-mark-5.ensures.found
-    (RunsTo-skips kinds.Minus pair_form (pick kinds.Window window_query_form (pick kinds.Transform transform_form (need kinds.Name done))) c.args.tokens.now c.transform_query.result c.in_default-mark-6.ensures.found
-    (RunsTo-skips kinds.Window window_query_form (pick kinds.Transform transform_form (need kinds.Name done)) c.args.tokens.now c.transform_query.result c.in_default-mark-7.ensures.found
-    (RunsTo-takes kinds.Transform transform_form (need kinds.Name done) c.args.tokens.now c.in-Some-mark-8.rest.now c.transform_query.result c.in-Some-mark-8.ensures.found c.transform_query.ensures.runs))))))))
+    RunsTo-skips kinds.Where where_form after_where c.args.tokens.now c.transform_query.result c.in_default.ensures.found
+    (RunsTo-skips kinds.Dissolve dissolve_form after_dissolve c.args.tokens.now c.transform_query.result c.in_default-mark.ensures.found
+    (RunsTo-skips kinds.Rename rename_form after_rename c.args.tokens.now c.transform_query.result c.in_default-mark-2.ensures.found
+    (RunsTo-skips kinds.Overlay pair_form after_overlay c.args.tokens.now c.transform_query.result c.in_default-mark-3.ensures.found
+    (RunsTo-skips kinds.Cover pair_form after_cover c.args.tokens.now c.transform_query.result c.in_default-mark-4.ensures.found
+    (RunsTo-skips kinds.Merge pair_form after_merge c.args.tokens.now c.transform_query.result c.in_default-mark-5.ensures.found
+    (RunsTo-skips kinds.Minus pair_form after_minus c.args.tokens.now c.transform_query.result c.in_default-mark-6.ensures.found
+    (RunsTo-skips kinds.Window window_query_form after_window c.args.tokens.now c.transform_query.result c.in_default-mark-7.ensures.found
+    (RunsTo-takes kinds.Transform transform_form after_transform c.args.tokens.now c.in-Some-mark-8.rest.now c.transform_query.result c.in-Some-mark-8.ensures.found c.transform_query.ensures.runs))))))))
+
+pub query-returns-in-Some-mark-9-clause-runs : goal.query-returns-in-Some-mark-9-clause-runs
+query-returns-in-Some-mark-9-clause-runs t c =
+    RunsTo-skips kinds.Where where_form after_where c.args.tokens.now c.gaps_query.result c.in_default.ensures.found
+    (RunsTo-skips kinds.Dissolve dissolve_form after_dissolve c.args.tokens.now c.gaps_query.result c.in_default-mark.ensures.found
+    (RunsTo-skips kinds.Rename rename_form after_rename c.args.tokens.now c.gaps_query.result c.in_default-mark-2.ensures.found
+    (RunsTo-skips kinds.Overlay pair_form after_overlay c.args.tokens.now c.gaps_query.result c.in_default-mark-3.ensures.found
+    (RunsTo-skips kinds.Cover pair_form after_cover c.args.tokens.now c.gaps_query.result c.in_default-mark-4.ensures.found
+    (RunsTo-skips kinds.Merge pair_form after_merge c.args.tokens.now c.gaps_query.result c.in_default-mark-5.ensures.found
+    (RunsTo-skips kinds.Minus pair_form after_minus c.args.tokens.now c.gaps_query.result c.in_default-mark-6.ensures.found
+    (RunsTo-skips kinds.Window window_query_form after_window c.args.tokens.now c.gaps_query.result c.in_default-mark-7.ensures.found
+    (RunsTo-skips kinds.Transform transform_form after_transform c.args.tokens.now c.gaps_query.result c.in_default-mark-8.ensures.found
+    (RunsTo-takes kinds.Gaps gaps_form (need kinds.Name done) c.args.tokens.now c.in-Some-mark-9.rest.now c.gaps_query.result c.in-Some-mark-9.ensures.found c.gaps_query.ensures.runs)))))))))
 
 pub query-returns-in-Some-text-clause-runs : goal.query-returns-in-Some-text-clause-runs
-query-returns-in-Some-text-clause-runs t c = skips c.in_default.ensures.found (skips c.in_default-mark.ensures.found (skips c.in_default-mark-2.ensures.found (skips c.in_default-mark-3.ensures.found (skips c.in_default-mark-4.ensures.found (skips c.in_default-mark-5.ensures.found (skips c.in_default-mark-6.ensures.found (skips c.in_default-mark-7.ensures.found (skips c.in_default-mark-8.ensures.found (takes_as c.in-Some-text.ensures.found is_done)))))))))
+query-returns-in-Some-text-clause-runs t c = skips c.in_default.ensures.found (skips c.in_default-mark.ensures.found (skips c.in_default-mark-2.ensures.found (skips c.in_default-mark-3.ensures.found (skips c.in_default-mark-4.ensures.found (skips c.in_default-mark-5.ensures.found (skips c.in_default-mark-6.ensures.found (skips c.in_default-mark-7.ensures.found (skips c.in_default-mark-8.ensures.found (skips c.in_default-mark-9.ensures.found (takes_as c.in-Some-text.ensures.found is_done))))))))))
 
 pub query-returns-in-None-clause-runs : goal.query-returns-in-None-clause-runs
-query-returns-in-None-clause-runs t c = skips c.in_default.ensures.found (skips c.in_default-mark.ensures.found (skips c.in_default-mark-2.ensures.found (skips c.in_default-mark-3.ensures.found (skips c.in_default-mark-4.ensures.found (skips c.in_default-mark-5.ensures.found (skips c.in_default-mark-6.ensures.found (skips c.in_default-mark-7.ensures.found (skips c.in_default-mark-8.ensures.found (skips c.in-None.ensures.found is_fail)))))))))
+query-returns-in-None-clause-runs t c = skips c.in_default.ensures.found (skips c.in_default-mark.ensures.found (skips c.in_default-mark-2.ensures.found (skips c.in_default-mark-3.ensures.found (skips c.in_default-mark-4.ensures.found (skips c.in_default-mark-5.ensures.found (skips c.in_default-mark-6.ensures.found (skips c.in_default-mark-7.ensures.found (skips c.in_default-mark-8.ensures.found (skips c.in_default-mark-9.ensures.found (skips c.in-None.ensures.found is_fail))))))))))
 
 pub query-returns-in-Some-clause-spelled : goal.query-returns-in-Some-clause-spelled
 query-returns-in-Some-clause-spelled t c = rw c.in-Some.ensures.spelled c.where_query.ensures.spelled
@@ -338,3 +406,9 @@ query-returns-in-Some-mark-8-clause-spelled t c = rw c.in-Some-mark-8.ensures.sp
 
 pub query-returns-in-Some-mark-8-clause-shorter : goal.query-returns-in-Some-mark-8-clause-shorter
 query-returns-in-Some-mark-8-clause-shorter t c = shorter-after c.args.tokens.now c.in-Some-mark-8.rest.now c.transform_query.result c.in-Some-mark-8.ensures.shorter c.transform_query.ensures.shorter
+
+pub query-returns-in-Some-mark-9-clause-spelled : goal.query-returns-in-Some-mark-9-clause-spelled
+query-returns-in-Some-mark-9-clause-spelled t c = rw c.in-Some-mark-9.ensures.spelled c.gaps_query.ensures.spelled
+
+pub query-returns-in-Some-mark-9-clause-shorter : goal.query-returns-in-Some-mark-9-clause-shorter
+query-returns-in-Some-mark-9-clause-shorter t c = shorter-after c.args.tokens.now c.in-Some-mark-9.rest.now c.gaps_query.result c.in-Some-mark-9.ensures.shorter c.gaps_query.ensures.shorter

@@ -28,3 +28,6 @@ decreases-window_query l = 3 * length l.tokens.now + 2
 
 abbrev pub decreases-transform_query : goal.decreases-transform_query
 decreases-transform_query l = 3 * length l.tokens.now + 2
+
+abbrev pub decreases-gaps_query : goal.decreases-gaps_query
+decreases-gaps_query l = 3 * length l.tokens.now + 2

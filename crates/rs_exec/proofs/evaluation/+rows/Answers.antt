@@ -1,19 +1,22 @@
 -- What is made on each route of the operands' rows is what the plan has there.
-use Rattle.std.proofs.Common.{◌≡◌, ◌∙◌, true, List, [], ◌∷◌, map, sym, ap, subst, rules}
+use Rattle.std.proofs.Common.{◌≡◌, ◌∙◌, true, List, [], ◌∷◌, map, refl, sym, ap, subst, rules}
 use Rattle.std.proofs.lemmas.Result.{IfOk-weaker}
+use Rattle.std.specs.List.{AllZip, zip}
 use Rattle.std.specs.Prelude.{IfOk}
+use Rattle.rs_facts.specs.Query.{overlaid_kind}
 use Rattle.rs_facts.specs.Spans.{seen}
 use Rattle.rs_exec.specs.Carried.{AreSourcesOf}
 use Rattle.rs_exec.specs.Held.{AreHeld, CanOverlay, AreLaidOver}
 use Rattle.rs_exec.specs.Meaning.{PlanMeaning, meaning_of}
 use Rattle.rs_exec.specs.Operand.{operand_meaning, operands_meaning, node_meaning, together_meaning}
+use Rattle.rs_exec.specs.Pairs.{CanPair, IsPaired}
 use Rattle.rs_exec.specs.Routes.{numbers_of, list_of}
 use Rattle.rs_exec.specs.declared.pairs.Pairing.TheVariants as pairings
 use Rattle.rs_exec.proofs.Leading.{pieces-forwards, transform-none, can-carry, carried-held}
 use Rattle.rs_exec.proofs.Leavings.{leaves-then}
 use Rattle.rs_exec.proofs.Lists.{empty}
 use Rattle.rs_exec.proofs.Steps.{formed-pair}
-use Rattle.rs_exec.proofs.Holding.{earlier, laid-earlier, can-pair, shaped-of, shaped-length, in-order, changed-held, paired-held, laid-none, laid-bare, laid-next, beside-held, together-laid, overlay-held, overlay-stays, formed-overlay, seen-held, window-none, formed-together, together, can-begin, can-lay-next, can-pair-next, can-go-on}
+use Rattle.rs_exec.proofs.Holding.{earlier, laid-earlier, can-pair, shaped-of, shaped-length, in-order, changed-held, have-shapes, gaps-held, as-kinds, paired-held, laid-none, laid-bare, laid-next, beside-held, together-laid, overlay-held, overlay-stays, formed-overlay, seen-held, window-none, formed-together, together, can-begin, can-lay-next, can-pair-next, can-go-on}
 use Rattle.rs_exec.proofs.evaluation.+rows.Goals as goal
 
 -- ---- operators of one operand
@@ -26,6 +29,16 @@ pub changed_rows-returns-clause-held : goal.changed_rows-returns-clause-held
 changed_rows-returns-clause-held g t c =
     changed-held (g.S.Source.is c.args.source.now) c.args.routes.version c.args.change (operand_meaning c.args.operand) (numbers_of c.args.routes) (list_of c.in_ok-rows.rows) (list_of c.in_ok-changed.changed) c.in_ok-changed.ensures c.in_ok-rows.ensures.held
 
+pub gaps_rows-gaps_on-requires : goal.gaps_rows-gaps_on-requires
+gaps_rows-gaps_on-requires g t c = record {
+  shaped = have-shapes (g.S.Source.is c.args.source.now) c.args.routes.version (operand_meaning c.args.operand) (numbers_of c.args.routes) (list_of c.in_ok-rows.rows) c.in_ok-rows.ensures.held;
+}
+
+pub gaps_rows-returns-clause-held : goal.gaps_rows-returns-clause-held
+gaps_rows-returns-clause-held g t c =
+    gaps-held (g.S.Source.is c.args.source.now) (g.S.Source.is c.rows_on.new.source) c.args.routes.version (operand_meaning c.args.operand) (numbers_of c.args.routes) (list_of c.in_ok-rows.rows) (list_of c.in_ok-gaps.gaps)
+    c.in_ok-rows.ensures.ends.leaves.stands c.in_ok-gaps.ensures c.in_ok-rows.ensures.held
+
 -- ---- operators of two
 
 pub paired_rows-paired_on-requires : goal.paired_rows-paired_on-requires
@@ -33,9 +46,10 @@ paired_rows-paired_on-requires g t c =
     let a = operand_meaning c.args.left in
     let b = operand_meaning c.args.right in
     let numbers = numbers_of c.args.routes in
-    can-pair c.args.pairing a.kind b.kind a.width b.width numbers (list_of c.in_ok-left_rows.left_rows) (list_of c.in_ok-right_rows.right_rows) (formed-pair c.args.pairing a b c.requires.well_formed).fit
+    as-kinds (λ two. AllZip (CanPair c.args.pairing two) (list_of c.in_ok-left_rows.left_rows) (list_of c.in_ok-right_rows.right_rows)) a.kind b.kind c.kind.result c.kind-2.result (sym c.kind.ensures) (sym c.kind-2.ensures)
+    (can-pair c.args.pairing a.kind b.kind a.width b.width numbers (list_of c.in_ok-left_rows.left_rows) (list_of c.in_ok-right_rows.right_rows) (formed-pair c.args.pairing a b c.requires.well_formed).fit
     (shaped-of (g.S.Source.is c.args.source.now) c.args.routes.version a numbers (list_of c.in_ok-left_rows.left_rows) c.in_ok-left_rows.ensures.held)
-    (shaped-of (g.S.Source.is c.rows_on.new.source) c.args.routes.version b numbers (list_of c.in_ok-right_rows.right_rows) c.in_ok-right_rows.ensures.held)
+    (shaped-of (g.S.Source.is c.rows_on.new.source) c.args.routes.version b numbers (list_of c.in_ok-right_rows.right_rows) c.in_ok-right_rows.ensures.held))
 
 pub paired_rows-returns-clause-held : goal.paired_rows-returns-clause-held
 paired_rows-returns-clause-held g t c =
@@ -43,7 +57,9 @@ paired_rows-returns-clause-held g t c =
     let b = operand_meaning c.args.right in
     let numbers = numbers_of c.args.routes in
     paired-held (g.S.Source.is c.args.source.now) c.args.routes.version c.args.pairing a b numbers (list_of c.in_ok-left_rows.left_rows) (list_of c.in_ok-right_rows.right_rows) (list_of c.in_ok-paired.paired)
-    c.requires.well_formed c.in_ok-paired.ensures c.in_ok-left_rows.ensures.held
+    c.requires.well_formed
+    (as-kinds (λ two. AllZip (IsPaired c.args.pairing two) (zip (list_of c.in_ok-left_rows.left_rows) (list_of c.in_ok-right_rows.right_rows)) (list_of c.in_ok-paired.paired)) c.kind.result c.kind-2.result a.kind b.kind c.kind.ensures c.kind-2.ensures c.in_ok-paired.ensures)
+    c.in_ok-left_rows.ensures.held
     (earlier (g.S.Source.is c.args.source.now) (g.S.Source.is c.rows_on.new.source) c.args.routes.version b numbers (list_of c.in_ok-right_rows.right_rows) c.in_ok-left_rows.ensures.ends.leaves.stands c.in_ok-right_rows.ensures.held)
 
 pub paired_rows-returns-clause-ends : goal.paired_rows-returns-clause-ends
@@ -78,55 +94,63 @@ overlaid_rows-returns-clause-held g t c =
 
 pub rows_together-overlaid_with-requires : goal.rows_together-overlaid_with-requires
 rows_together-overlaid_with-requires g t c κs within =
-    let can : CanOverlay (operands_meaning c.args.others) (numbers_of c.args.routes) (list_of c.in_ok-rows.rows) =
-    can-begin (g.S.Source.is c.args.source.now) c.args.routes.version (operand_meaning c.args.first) (operands_meaning c.args.others) (numbers_of c.args.routes) (list_of c.in_ok-rows.rows) (together ((operand_meaning c.args.first) ∷ (operands_meaning c.args.others)) c.requires.well_formed) c.in_ok-rows.ensures.held in
+    let can : CanOverlay c.kind-kind.result (operands_meaning c.args.others) (numbers_of c.args.routes) (list_of c.in_ok-rows.rows) =
+    subst (λ kind. CanOverlay kind (operands_meaning c.args.others) (numbers_of c.args.routes) (list_of c.in_ok-rows.rows)) (sym c.kind-kind.ensures)
+    (can-begin (g.S.Source.is c.args.source.now) c.args.routes.version (operand_meaning c.args.first) (operands_meaning c.args.others) (numbers_of c.args.routes) (list_of c.in_ok-rows.rows) (together ((operand_meaning c.args.first) ∷ (operands_meaning c.args.others)) c.requires.well_formed) c.in_ok-rows.ensures.held) in
     search rules
 
 pub rows_together-returns-clause-held : goal.rows_together-returns-clause-held
 rows_together-returns-clause-held g t c =
     IfOk-weaker c.overlaid_with.result _ _ (λ rows laid.
     together-laid (g.S.Source.is c.args.source.now) c.args.routes.version (operand_meaning c.args.first) (operands_meaning c.args.others) (numbers_of c.args.routes) (list_of c.in_ok-rows.rows) (list_of rows) c.in_ok-rows.ensures.held
-    (laid-earlier (g.S.Source.is c.args.source.now) (g.S.Source.is c.rows_on.new.source) c.args.routes.version (operands_meaning c.args.others) (numbers_of c.args.routes) (list_of c.in_ok-rows.rows) (list_of rows) c.in_ok-rows.ensures.ends.leaves.stands laid)) c.overlaid_with.ensures.laid
+    (laid-earlier (g.S.Source.is c.args.source.now) (g.S.Source.is c.rows_on.new.source) c.args.routes.version (operand_meaning c.args.first).kind (operands_meaning c.args.others) (numbers_of c.args.routes) (list_of c.in_ok-rows.rows) (list_of rows) c.in_ok-rows.ensures.ends.leaves.stands
+    (subst (λ kind. AreLaidOver (g.S.Source.is c.rows_on.new.source) c.args.routes.version kind (operands_meaning c.args.others) (numbers_of c.args.routes) (list_of c.in_ok-rows.rows) (list_of rows)) c.kind-kind.ensures laid))) c.overlaid_with.ensures.laid
 
 pub overlaid_with-returns-then-are_none-clause-laid : goal.overlaid_with-returns-then-are_none-clause-laid
 overlaid_with-returns-then-are_none-clause-laid g t c =
     let can = c.requires.can in
-    laid-bare (g.S.Source.is c.args.source.now) c.args.routes.version (operands_meaning c.args.operands) can.kind can.width (numbers_of c.args.routes) (list_of c.args.rows) (c.are_none.ensures c.if-are_none.true) can.shaped
+    laid-bare (g.S.Source.is c.args.source.now) c.args.routes.version (operands_meaning c.args.operands) c.args.kind can.width (numbers_of c.args.routes) (list_of c.args.rows) (c.are_none.ensures c.if-are_none.true) can.shaped
 
 pub overlaid_with-returns-in_default-clause-laid : goal.overlaid_with-returns-in_default-clause-laid
 overlaid_with-returns-in_default-clause-laid g t c =
     let can = c.requires.can in
-    subst (λ (plans : List PlanMeaning). AreLaidOver (g.S.Source.is c.args.source.now) c.args.routes.version plans (numbers_of c.args.routes) (list_of c.args.rows) (list_of c.args.rows)) (sym (ap (map meaning_of) c.in_default.ensures.end))
-    (laid-none (g.S.Source.is c.args.source.now) c.args.routes.version can.kind can.width (numbers_of c.args.routes) (list_of c.args.rows) can.shaped)
+    subst (λ (plans : List PlanMeaning). AreLaidOver (g.S.Source.is c.args.source.now) c.args.routes.version c.args.kind plans (numbers_of c.args.routes) (list_of c.args.rows) (list_of c.args.rows)) (sym (ap (map meaning_of) c.in_default.ensures.end))
+    (laid-none (g.S.Source.is c.args.source.now) c.args.routes.version c.args.kind can.width (numbers_of c.args.routes) (list_of c.args.rows) can.shaped)
 
 pub overlaid_with-laid_with-requires : goal.overlaid_with-laid_with-requires
 overlaid_with-laid_with-requires g t c κs within =
-    let can : CanOverlay ((operand_meaning c.in-Some.next) ∷ []) (numbers_of c.args.routes) (list_of c.args.rows) =
-    can-lay-next (operands_meaning c.args.operands) (operand_meaning c.in-Some.next) (operands_meaning c.in-Some.others) (numbers_of c.args.routes) (list_of c.args.rows) (ap (map meaning_of) c.in-Some.ensures.first) c.requires.can in
+    let can : CanOverlay c.args.kind ((operand_meaning c.in-Some.next) ∷ []) (numbers_of c.args.routes) (list_of c.args.rows) =
+    can-lay-next c.args.kind (operands_meaning c.args.operands) (operand_meaning c.in-Some.next) (operands_meaning c.in-Some.others) (numbers_of c.args.routes) (list_of c.args.rows) (ap (map meaning_of) c.in-Some.ensures.first) c.requires.can in
     search rules
 
 pub overlaid_with-overlaid_with-requires : goal.overlaid_with-overlaid_with-requires
 overlaid_with-overlaid_with-requires g t c κs within =
-    let can : CanOverlay (operands_meaning c.in-Some.others) (numbers_of c.args.routes) (list_of c.in_ok-laid.laid) =
-    can-go-on (g.S.Source.is c.args.source.now) c.args.routes.version (operands_meaning c.args.operands) (operand_meaning c.in-Some.next) (operands_meaning c.in-Some.others) (numbers_of c.args.routes) (list_of c.args.rows) (list_of c.in_ok-laid.laid) (ap (map meaning_of) c.in-Some.ensures.first) c.requires.can c.in_ok-laid.ensures.beside in
+    let is = c.overlaid_kind-laid_kind.ensures ∙ ap (overlaid_kind c.args.kind) c.kind.ensures in
+    let can : CanOverlay c.overlaid_kind-laid_kind.result (operands_meaning c.in-Some.others) (numbers_of c.args.routes) (list_of c.in_ok-laid.laid) =
+    subst (λ kind. CanOverlay kind (operands_meaning c.in-Some.others) (numbers_of c.args.routes) (list_of c.in_ok-laid.laid)) (sym is)
+    (can-go-on (g.S.Source.is c.args.source.now) c.args.routes.version c.args.kind (operands_meaning c.args.operands) (operand_meaning c.in-Some.next) (operands_meaning c.in-Some.others) (numbers_of c.args.routes) (list_of c.args.rows) (list_of c.in_ok-laid.laid) (ap (map meaning_of) c.in-Some.ensures.first) c.requires.can c.in_ok-laid.ensures.beside) in
     search rules
 
 pub overlaid_with-returns-clause-laid : goal.overlaid_with-returns-clause-laid
 overlaid_with-returns-clause-laid g t c =
     let can = c.requires.can in
+    let is = c.overlaid_kind-laid_kind.ensures ∙ ap (overlaid_kind c.args.kind) c.kind.ensures in
     IfOk-weaker c.overlaid_with.result _ _ (λ overlaid laid.
-    subst (λ (plans : List PlanMeaning). AreLaidOver (g.S.Source.is c.args.source.now) c.args.routes.version plans (numbers_of c.args.routes) (list_of c.args.rows) (list_of overlaid)) (sym (ap (map meaning_of) c.in-Some.ensures.first))
-    (laid-next (g.S.Source.is c.args.source.now) c.args.routes.version (operand_meaning c.in-Some.next) (operands_meaning c.in-Some.others) can.kind can.width (numbers_of c.args.routes) (list_of c.args.rows) (list_of c.in_ok-laid.laid) (list_of overlaid) can.shaped c.in_ok-laid.ensures.beside
-    (laid-earlier (g.S.Source.is c.args.source.now) (g.S.Source.is c.laid_with.new.source) c.args.routes.version (operands_meaning c.in-Some.others) (numbers_of c.args.routes) (list_of c.in_ok-laid.laid) (list_of overlaid) c.in_ok-laid.ensures.ends.leaves.stands laid))) c.overlaid_with.ensures.laid
+    subst (λ (plans : List PlanMeaning). AreLaidOver (g.S.Source.is c.args.source.now) c.args.routes.version c.args.kind plans (numbers_of c.args.routes) (list_of c.args.rows) (list_of overlaid)) (sym (ap (map meaning_of) c.in-Some.ensures.first))
+    (laid-next (g.S.Source.is c.args.source.now) c.args.routes.version (operand_meaning c.in-Some.next) (operands_meaning c.in-Some.others) c.args.kind can.width (numbers_of c.args.routes) (list_of c.args.rows) (list_of c.in_ok-laid.laid) (list_of overlaid) can.shaped c.in_ok-laid.ensures.beside
+    (laid-earlier (g.S.Source.is c.args.source.now) (g.S.Source.is c.laid_with.new.source) c.args.routes.version (overlaid_kind c.args.kind (operand_meaning c.in-Some.next).kind) (operands_meaning c.in-Some.others) (numbers_of c.args.routes) (list_of c.in_ok-laid.laid) (list_of overlaid) c.in_ok-laid.ensures.ends.leaves.stands
+    (subst (λ kind. AreLaidOver (g.S.Source.is c.laid_with.new.source) c.args.routes.version kind (operands_meaning c.in-Some.others) (numbers_of c.args.routes) (list_of c.in_ok-laid.laid) (list_of overlaid)) is laid)))) c.overlaid_with.ensures.laid
 
 pub laid_with-paired_on-requires : goal.laid_with-paired_on-requires
 laid_with-paired_on-requires g t c =
-    can-pair-next (g.S.Source.is c.args.source.now) c.args.routes.version (operand_meaning c.args.next) (numbers_of c.args.routes) (list_of c.args.rows) (list_of c.in_ok-right.right) c.requires.can c.in_ok-right.ensures.held
+    as-kinds (λ two. AllZip (CanPair pairings.Overlay two) (list_of c.args.rows) (list_of c.in_ok-right.right)) c.args.kind (operand_meaning c.args.next).kind c.args.kind c.kind.result refl (sym c.kind.ensures)
+    (can-pair-next (g.S.Source.is c.args.source.now) c.args.routes.version c.args.kind (operand_meaning c.args.next) (numbers_of c.args.routes) (list_of c.args.rows) (list_of c.in_ok-right.right) c.requires.can c.in_ok-right.ensures.held)
 
 pub laid_with-returns-clause-beside : goal.laid_with-returns-clause-beside
 laid_with-returns-clause-beside g t c =
-    beside-held (g.S.Source.is c.args.source.now) c.args.routes.version (operand_meaning c.args.next) (numbers_of c.args.routes) (list_of c.args.rows) (list_of c.in_ok-right.right) (list_of c.in_ok-paired.paired) c.in_ok-right.ensures.held c.in_ok-paired.ensures
-    (shaped-length c.requires.can.kind c.requires.can.width (numbers_of c.args.routes) (list_of c.args.rows) c.requires.can.shaped)
+    beside-held (g.S.Source.is c.args.source.now) c.args.routes.version c.args.kind (operand_meaning c.args.next) (numbers_of c.args.routes) (list_of c.args.rows) (list_of c.in_ok-right.right) (list_of c.in_ok-paired.paired) c.in_ok-right.ensures.held
+    (as-kinds (λ two. AllZip (IsPaired pairings.Overlay two) (zip (list_of c.args.rows) (list_of c.in_ok-right.right)) (list_of c.in_ok-paired.paired)) c.args.kind c.kind.result c.args.kind (operand_meaning c.args.next).kind refl c.kind.ensures c.in_ok-paired.ensures)
+    (shaped-length c.args.kind c.requires.can.width (numbers_of c.args.routes) (list_of c.args.rows) c.requires.can.shaped)
 
 -- ---- by the topmost node
 
@@ -149,6 +173,11 @@ pub rows_on-returns-in-Carried-clause-held : goal.rows_on-returns-in-Carried-cla
 rows_on-returns-in-Carried-clause-held g t c =
     subst (λ (meaning : PlanMeaning). IfOk c.carried_rows.result (λ rows. AreHeld (g.S.Source.is c.args.source.now) c.args.routes.version meaning (numbers_of c.args.routes) (list_of rows)))
     (sym (c.node.ensures.means ∙ ap node_meaning c.in-Carried.is)) c.carried_rows.ensures.held
+
+pub rows_on-returns-in-Gaps-clause-held : goal.rows_on-returns-in-Gaps-clause-held
+rows_on-returns-in-Gaps-clause-held g t c =
+    subst (λ (meaning : PlanMeaning). IfOk c.gaps_rows.result (λ rows. AreHeld (g.S.Source.is c.args.source.now) c.args.routes.version meaning (numbers_of c.args.routes) (list_of rows)))
+    (sym (c.node.ensures.means ∙ ap node_meaning c.in-Gaps.is)) c.gaps_rows.ensures.held
 
 -- ---- windows
 

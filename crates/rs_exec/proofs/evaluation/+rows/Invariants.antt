@@ -29,3 +29,6 @@ decreases-seen_rows g l = 8 * operand_size l.operand + 1
 
 abbrev pub decreases-carried_rows : goal.decreases-carried_rows
 decreases-carried_rows g l = 8 * operand_size l.operand + 1
+
+abbrev pub decreases-gaps_rows : goal.decreases-gaps_rows
+decreases-gaps_rows g l = 8 * operand_size l.operand + 1

@@ -7,5 +7,5 @@ use Rattle.rs_exec.proofs.pairs.covered.Goals as goal
 pub returns : goal.returns
 returns c =
     let made = c.in_ok-spans.ensures in
-    cover-paired (map seen_lent c.args.lower.now) (map seen_lent c.args.upper.now) (map seen c.in_ok-spans.spans.items) made.sorted
-    c.args.left_width c.args.right_width c.from-first_width.result c.from-second_width.result c.from-first_width.ensures c.from-second_width.ensures made.means made.placed made.width
+    cover-paired c.args.kinds (map seen_lent c.args.lower.now) (map seen_lent c.args.upper.now) (map seen c.in_ok-spans.spans.items) made.sorted
+    c.args.widths.0 c.args.widths.1 c.from-first_width.result c.from-second_width.result c.from-first_width.ensures c.from-second_width.ensures made.means made.placed made.width

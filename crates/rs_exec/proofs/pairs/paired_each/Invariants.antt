@@ -8,6 +8,6 @@ abbrev pub invariant-loop-left : goal.invariant-loop-left
 invariant-loop-left l = record {
   left_counted : length l.left-iterator.rest.items ≡ l.left-iterator.rest.len;
   right_counted : length l.rights.rest.items ≡ l.rights.rest.len;
-  can : AllZip (CanPair l.pairing) l.left-iterator.rest.items l.rights.rest.items;
-  paired : Zips (IsPaired l.pairing) (zip l.fn.lefts.items l.fn.rights.items) (zip l.left-iterator.rest.items l.rights.rest.items) l.made.items;
+  can : AllZip (CanPair l.pairing l.kinds) l.left-iterator.rest.items l.rights.rest.items;
+  paired : Zips (IsPaired l.pairing l.kinds) (zip l.fn.lefts.items l.fn.rights.items) (zip l.left-iterator.rest.items l.rights.rest.items) l.made.items;
 }

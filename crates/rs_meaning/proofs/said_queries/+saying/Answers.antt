@@ -2,9 +2,9 @@ use Rattle.std.proofs.Common.{refl, sym, subst, arith}
 use Rattle.std.proofs.lemmas.Result.{err_from_is_err_and}
 use Rattle.rs_grammar.specs.declared.kind.TokenKind.TheVariants as kinds
 use Rattle.rs_syntax.proofs.ToldLaws.{AreToldOf-append}
-use Rattle.rs_syntax.specs.Written.{list_lexemes, name_lexemes, condition_lexemes, written_where, written_dissolve, written_rename, written_pair, written_window, written_transform, SaysCondition, SaysQuery, AreToldOf}
+use Rattle.rs_syntax.specs.Written.{list_lexemes, name_lexemes, condition_lexemes, written_where, written_dissolve, written_rename, written_pair, written_window, written_transform, written_gaps, SaysCondition, SaysQuery, AreToldOf}
 use Rattle.rs_syntax.specs.WrittenView.{condition_syntax, query_syntax}
-use Rattle.rs_meaning.proofs.OperandLaws.{operand-told, others-told, operand-length, others-length, where-whole, dissolve-whole, rename-whole, window-whole, transform-whole, pair-whole, where-is, dissolve-is, rename-is, window-is, transform-is, pair-is, query-none}
+use Rattle.rs_meaning.proofs.OperandLaws.{operand-told, others-told, operand-length, others-length, gaps-told, gaps-length, where-whole, dissolve-whole, rename-whole, window-whole, transform-whole, gaps-whole, pair-whole, where-is, dissolve-is, rename-is, window-is, transform-is, gaps-is, pair-is, query-none}
 use Rattle.rs_meaning.proofs.said_queries.+saying.Goals as goal
 
 pub query_said-operand_query_said-requires : goal.query_said-operand_query_said-requires
@@ -88,6 +88,11 @@ query_said-name-requires-in-Transform-clause-kind t c =
     let whole = transform-whole c.args.written.now c.in-Transform.operand c.in-Transform.operand.value refl c.in-Transform.alignment c.in-Transform.is in
     (others-told c.args.line.now whole c.requires.1.1).0.1
 
+pub query_said-operand_query_said-requires-in-Gaps : goal.query_said-operand_query_said-requires-in-Gaps
+query_said-operand_query_said-requires-in-Gaps t c =
+    let whole = gaps-whole c.args.written.now c.in-Gaps.operand c.deref-in-Gaps.result.now c.deref-in-Gaps.ensures c.in-Gaps.is in
+    (omega (arith, gaps-length whole), gaps-told c.args.line.now whole c.requires.1.1)
+
 pub query_said-returns-in_err-query-in-Where-clause-err : goal.query_said-returns-in_err-query-in-Where-clause-err
 query_said-returns-in_err-query-in-Where-clause-err t c =
     let p = err_from_is_err_and c.from_residual.result c.from_residual.ensures.1 in
@@ -127,3 +132,8 @@ pub query_said-returns-in_err-query-in-Transform-clause-err : goal.query_said-re
 query_said-returns-in_err-query-in-Transform-clause-err t c =
     let p = err_from_is_err_and c.from_residual-in_err-query-in-Transform.result c.from_residual-in_err-query-in-Transform.ensures.1 in
     rw (p.1, p.2) (query-none (SaysQuery c.args.line.now (query_syntax c.deref-in-Transform.result.now)) c.args.line.now c.args.written.now (written_transform (query_syntax c.deref-in-Transform.result.now) c.in-Transform.alignment) _ (transform-is c.args.written.now c.in-Transform.operand c.deref-in-Transform.result.now c.deref-in-Transform.ensures c.in-Transform.alignment c.in-Transform.is) (λ tree says. (says.0, says.1)) c.in_err-query-in-Transform.ensures.err)
+
+pub query_said-returns-in_err-query-in-Gaps-clause-err : goal.query_said-returns-in_err-query-in-Gaps-clause-err
+query_said-returns-in_err-query-in-Gaps-clause-err t c =
+    let p = err_from_is_err_and c.from_residual-in_err-query-in-Gaps.result c.from_residual-in_err-query-in-Gaps.ensures.1 in
+    rw (p.1, p.2) (query-none (SaysQuery c.args.line.now (query_syntax c.deref-in-Gaps.result.now)) c.args.line.now c.args.written.now (written_gaps (query_syntax c.deref-in-Gaps.result.now)) _ (gaps-is c.args.written.now c.in-Gaps.operand c.deref-in-Gaps.result.now c.deref-in-Gaps.ensures c.in-Gaps.is) (λ tree says. (says.0, says.1)) c.in_err-query-in-Gaps.ensures.err)

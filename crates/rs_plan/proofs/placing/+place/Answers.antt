@@ -10,7 +10,7 @@ use Rattle.rs_plan.specs.Operands.{operand_tree, operand_names, is_pair, IsAlone
 use Rattle.rs_plan.specs.PlanView.{conditions_of, window_of, named_by_window}
 use Rattle.rs_plan.proofs.QueryVariants.{table-query, table-named}
 use Rattle.rs_plan.proofs.PlacingLaws.{placed-together}
-use Rattle.rs_plan.proofs.Arms.{back, where-arm, rename-arm, window-arm, dissolve-arm, transform-arm, merge-arm, minus-arm, cover-arm, overlay-arm}
+use Rattle.rs_plan.proofs.Arms.{back, where-arm, rename-arm, window-arm, dissolve-arm, transform-arm, gaps-arm, merge-arm, minus-arm, cover-arm, overlay-arm}
 use Rattle.rs_plan.proofs.Pairs.{becomes_pair, needs_pair}
 use Rattle.rs_plan.proofs.placing.+place.Goals as goal
 
@@ -48,6 +48,12 @@ place-returns-in_ok-one-in-Transform g t c =
     c.into_inner-in-Transform.result c.in-Transform.operand c.into_inner-in-Transform.ensures c.in-Transform.name c.in-Transform.pieces c.in-Transform.is _ c.in_ok-one-in-Transform.one c.new.ensures.items c.in_ok-one-in-Transform.ensures
     (subst (λ l. IsAlone made.items (rule.under_window (map window_of c.args.asked.windows.items) (plans.transform_node c.in-Transform.name.bytes (checked.located_pieces l) (operand_tree c.in_ok-one-in-Transform.one))) c.in_ok-one-in-Transform.one.weight c.in_ok-one-in-Transform.one.width (map named_by_window c.args.asked.windows.items ++ (flat_map checked.named_by_piece l ++ operand_names c.in_ok-one-in-Transform.one))) c.as_slice-in-Transform.ensures.value alone)) c.transform.ensures
 
+pub place-returns-in_ok-one-in-Gaps : goal.place-returns-in_ok-one-in-Gaps
+place-returns-in_ok-one-in-Gaps g t c =
+    IfOk-weaker c.gaps.result _ _ (λ made alone. gaps-arm (g.C.Counts.counted c.args.counts.now) c.args.query c.args.asked.windows.items (conditions_of c.args.asked.conditions) made.items
+    c.into_inner-in-Gaps.result c.in-Gaps.operand c.into_inner-in-Gaps.ensures c.in-Gaps.is c.nothing.result.windows.items (conditions_of c.nothing.result.conditions) c.in_ok-one-in-Gaps.one
+    c.nothing.ensures.windows c.nothing.ensures.conditions c.in_ok-one-in-Gaps.ensures alone) c.gaps.ensures
+
 pub place_pair-returns-in_ok-right-in-Merge : goal.place_pair-returns-in_ok-right-in-Merge
 place_pair-returns-in_ok-right-in-Merge g t c =
     IfOk-weaker c.of_rows.result _ _ (λ made alone. merge-arm (g.C.Counts.counted c.args.counts.now) c.args.query c.args.asked.windows.items (conditions_of c.args.asked.conditions) made.items
@@ -83,7 +89,7 @@ pub place-place_pair-requires : goal.place-place_pair-requires
 place-place_pair-requires g t c κs within =
     let other = c.in_default in
     let pair : is_pair (query_of c.args.query) ≡ true =
-    becomes_pair c.args.query (record { table = other.not-Table; filtered = other.not-Where; dissolved = other.not-Dissolve; renamed = other.not-Rename; windowed = other.not-Window; transformed = other.not-Transform }) in
+    becomes_pair c.args.query (record { table = other.not-Table; filtered = other.not-Where; dissolved = other.not-Dissolve; renamed = other.not-Rename; windowed = other.not-Window; transformed = other.not-Transform; gapped = other.not-Gaps }) in
     search rules
 
 pub place_pair-unreachable-requires : goal.place_pair-unreachable-requires

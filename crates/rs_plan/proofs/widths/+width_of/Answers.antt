@@ -1,5 +1,5 @@
 use Rattle.std.proofs.Common.{◌-◌, ◌^◌, length, min, ap, ◌∙◌}
-use Rattle.rs_plan.proofs.WidthLaws.{table-wide, where-wide, rename-wide, window-wide, transform-wide, merge-wide, minus-wide, dissolve-wide, cover-wide, overlay-wide}
+use Rattle.rs_plan.proofs.WidthLaws.{table-wide, where-wide, rename-wide, window-wide, transform-wide, gaps-wide, merge-wide, minus-wide, dissolve-wide, cover-wide, overlay-wide}
 use Rattle.rs_plan.proofs.widths.+width_of.Goals as goal
 
 pub returns-in-Table : goal.returns-in-Table
@@ -27,6 +27,9 @@ returns-in-Window t c = window-wide c.args.query.now c.deref-in-Window.result.no
 
 pub returns-in-Transform : goal.returns-in-Transform
 returns-in-Transform t c = transform-wide c.args.query.now c.deref-in-Transform.result.now c.in-Transform.operand c.deref-in-Transform.ensures c.width_of-in-Transform.result c.width_of-in-Transform.ensures c.in-Transform.field-1 c.in-Transform.field-2 c.in-Transform.is
+
+pub returns-in-Gaps : goal.returns-in-Gaps
+returns-in-Gaps t c = gaps-wide c.args.query.now c.in-Gaps.field-0 c.in-Gaps.is
 
 pub returns-in-Merge : goal.returns-in-Merge
 returns-in-Merge t c = merge-wide c.args.query.now c.deref-in-Merge.result.now c.in-Merge.left c.deref-in-Merge.ensures c.width_of-in-Merge.result c.width_of-in-Merge.ensures c.in-Merge.field-1 c.in-Merge.is

@@ -1,8 +1,8 @@
 use Rattle.std.proofs.Common.{◌∙◌, map, sym, ap}
 use Rattle.rs_machine.specs.Lawful.{widened}
 use Rattle.rs_syntax.specs.QueryView.{condition_tree, query_tree, window_tree}
-use Rattle.rs_syntax.specs.Tree.{QueryTree, WindowTree, covered, dissolved, filtered, merged, overlaid, renamed, subtracted, transformed, windowed}
-use Rattle.rs_stored_catalog.proofs.QueryTrees.{cover_tree, dissolve_tree, merge_tree, minus_tree, named_tree, overlay_tree, rename_tree, transform_tree, where_tree, window_query_tree}
+use Rattle.rs_syntax.specs.Tree.{QueryTree, WindowTree, covered, dissolved, filtered, gapped, merged, overlaid, renamed, subtracted, transformed, windowed}
+use Rattle.rs_stored_catalog.proofs.QueryTrees.{cover_tree, dissolve_tree, gaps_tree, merge_tree, minus_tree, named_tree, overlay_tree, rename_tree, transform_tree, where_tree, window_query_tree}
 use Rattle.rs_stored_catalog.proofs.view_windows.+widen.Goals as goal
 
 pub returns-in-Named : goal.returns-in-Named
@@ -31,6 +31,12 @@ returns-in-Transform t c =
     transform_tree _ c.in-Transform.field-1
     ∙ ap (λ (q : QueryTree). transformed q c.in-Transform.field-1.bytes) (c.widen-in-Transform.ensures ∙ ap (λ v. widened (query_tree v)) c.deref_mut-in-Transform.ensures.value)
     ∙ sym (ap (λ q. widened (query_tree q)) c.in-Transform.is ∙ ap widened (transform_tree c.in-Transform.operand c.in-Transform.field-1))
+
+pub returns-in-Gaps : goal.returns-in-Gaps
+returns-in-Gaps t c =
+    gaps_tree _
+    ∙ ap gapped (c.widen-in-Gaps.ensures ∙ ap (λ v. widened (query_tree v)) c.deref_mut-in-Gaps.ensures.value)
+    ∙ sym (ap (λ q. widened (query_tree q)) c.in-Gaps.is ∙ ap widened (gaps_tree c.in-Gaps.operand))
 
 pub returns-in-Window : goal.returns-in-Window
 returns-in-Window t c =
