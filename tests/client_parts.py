@@ -18,7 +18,7 @@ SEED = 41
 DEFINED = (
     "DEFINE ROUTE A FROM 0 TO 10",
     "DEFINE LINE TABLE pave (surf TEXT(8))",
-    "DEFINE POINT TABLE signs (num INT, code TEXT(40))",
+    "DEFINE POINT TABLE signs (num INT, code TEXT(120))",
 )
 
 

@@ -85,16 +85,16 @@ TEXTS = ["", " ", "'", "''", "' '", "NULL", "'NULL'", "0 ROW A 1.000 1", "0 OK 1
 
 
 def random_text(chance):
-    """A text of at most 40 bytes."""
-    text = "".join(chance.choices(ALPHABET, k=chance.randrange(1, 30)))
-    while len(text.encode()) > 40:
+    """A text of at most 120 bytes."""
+    text = "".join(chance.choices(ALPHABET, k=chance.randrange(1, 90)))
+    while len(text.encode()) > 120:
         text = text[:-1]
     return text
 
 
 def values_come_back_as_they_were_sent(program):
     chance = random.Random(SEED)
-    rows = [(k, text) for k, text in enumerate(TEXTS)] + [(-(10**12), None), (10**12, "x"), (None, None), (0, "y" * 40)]
+    rows = [(k, text) for k, text in enumerate(TEXTS)] + [(-(10**12), None), (10**12, "x"), (None, None), (0, "y" * 120)]
     rows += [(chance.randrange(-(10**12), 10**12), random_text(chance)) for _ in range(300)]
     wanted = [("A", D(k) / 1000, *row) for k, row in enumerate(rows)]
     with running(program, *DEFINED) as road:

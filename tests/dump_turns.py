@@ -18,6 +18,7 @@ from whole_files import SOUND
 LIMITS = (
     "as-many-pieces-as-there-may-be",
     "definitions-over-several-pages",
+    "limit-of-a-rows-bytes",
     "limit-of-alignments",
     "limit-of-columns",
     "limit-of-depth",

@@ -1,7 +1,7 @@
 """Sound files of some to some thousand pages, and pseudo-random changes of their bytes and pages, by a seed.
 
-A grown file has something of each kind, living and dead, and beside it a table of twelve texts with an index, whose records
-fill as many pages as are asked for. A change is of one to eight bytes, of a number somewhere, or of whole pages, which are
+A grown file has something of each kind, living and dead, and beside it a table of 16 texts, 960 bytes a row, with an index, whose
+records fill as many pages as are asked for. A change is of one to eight bytes, of a number somewhere, or of whole pages, which are
 swapped, repeated, cut off, put after the last, or moved to a journal, of which some bytes are changed then. One file of five is of
 version 1. The same seed and turn give the same change.
 """
@@ -15,9 +15,9 @@ from slow_checkpoint import in_first_version, with_journal
 from whole_files import SOUND
 
 SIZES = (5, 8, 13, 20, 35, 60, 120, 300, 1_000, 3_000)  # pages
-ROWS_OF_A_PAGE = 7
+ROWS_OF_A_PAGE = 4
 PAGES_OF_OTHERS = 30  # at four cells to a leaf
-COLUMNS = [(b"c%02d" % number, 40) for number in range(12)]
+COLUMNS = [(b"c%02d" % number, longest) for number, longest in enumerate([120] * 7 + [1] * 8 + [96])]
 WAYS = ["bytes"] * 9 + ["number"] * 3 + ["swap", "repeat", "cut", "append"] + ["journal"] * 3
 
 
@@ -28,7 +28,7 @@ def grown(pages):
     if pages <= PAGES_OF_OTHERS:
         shrink(said, pages)
     else:
-        rows = (pages - PAGES_OF_OTHERS) * ROWS_OF_A_PAGE * 2 // 5
+        rows = (pages - PAGES_OF_OTHERS) * ROWS_OF_A_PAGE * 3 // 10
         said.tables.append(Table(b"zwide", 7, 1, COLUMNS, list(wide_records(rows))))
         said.indexes.append(Index(b"wide", 9, 7, 5))
         said.indexes.sort(key=lambda index: index.name)
@@ -72,9 +72,11 @@ def of_each_kind():
 def wide_records(rows):
     """Rows on the longest route, none of which touches another, each seventh of them dead."""
     for number in range(rows):
-        row = tuple(b"%d" % (number * (column + 1) % 97) for column in range(11)) + (None if number % 5 else b"x" * 40,)
+        row = [b"%d" % (number * (column + 1) % (97 if longest > 1 else 10)) for column, (_, longest) in enumerate(COLUMNS)]
+        row[6] = ("é" * 60, "€" * 40, "𝄞" * 30, "x" * 120)[number % 4].encode()
+        row[-1] = None if number % 5 else b"x" * 96
         died = 30 if number % 7 == 0 else LIVING
-        yield Record(5, 10 * number, 10 * number + 3 + number % 4, row, 9 + number % 20, died)
+        yield Record(5, 10 * number, 10 * number + 3 + number % 4, tuple(row), 9 + number % 20, died)
 
 
 class Change:

@@ -136,7 +136,8 @@ def cut_replies(words, name):
 
 ROUTES, TABLES, VIEWS, ALIGNMENTS, INDEXES, REFERENTS, PIECES, SESSIONS, CURSORS = 4_096, 128, 128, 64, 64, 1_000, 64, 64, 4
 LONGEST_LINE = 4_096
-COLUMNS = 12
+COLUMNS = 16
+TEXT_BYTES = 59  # so many of 16 columns are rows of 960 bytes
 
 
 def limit_lines():
@@ -157,7 +158,7 @@ def limit_lines():
 def definitions_up_to_the_limits():
     for number in range(ROUTES):
         yield b"0 DEFINE ROUTE r%d FROM 0 TO 0.0%02d" % (number, 10 + number % 80)
-    columns = b", ".join(b"c%d TEXT(40)" % column for column in range(COLUMNS))
+    columns = b", ".join(b"c%d TEXT(%d)" % (column, TEXT_BYTES) for column in range(COLUMNS))
     for number in range(TABLES):
         yield b"0 DEFINE %s TABLE t%d (%s)" % (b"POINT" if number % 4 == 3 else b"LINE", number, columns)
     for number in range(INDEXES):
@@ -172,7 +173,7 @@ def definitions_up_to_the_limits():
     for number in range(7, VIEWS):
         yield b"0 DEFINE VIEW v%d AS WHERE(t%d, c0 = '1')" % (number, number)
     for number in range(40):
-        values = b", ".join(b"'%s'" % (b"%d" % (number % 3) * 40)[:40 if column else 1] for column in range(COLUMNS))
+        values = b", ".join(b"'%s'" % (b"%d" % (number % 3) * (TEXT_BYTES if column else 1)) for column in range(COLUMNS))
         yield b"0 INSERT INTO t%d ON r%d FROM 0.00%d TO 0.01 VALUES (%s)" % (number % 3, number % 11, number % 10, values)
 
 

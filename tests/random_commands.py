@@ -22,10 +22,20 @@ from random_queries import Queries
 KEPT = (b"pave", b"crash")
 
 MOST_PIECES = 64
+MOST_ROW_BYTES = 960
 MOST_CURSORS = 4
 
 # After so many changes a cursor is fetched from late.
 MANY_CHANGES = 5
+
+
+def column_bytes(longest):
+    """The bytes of a value of a column in a record."""
+    return 9 if longest is None else longest + 1
+
+
+def row_bytes(types):
+    return sum(map(column_bytes, types))
 
 
 class KnownPiece(NamedTuple):
@@ -67,20 +77,34 @@ class Commands(Queries):
             return [b"INT"]
         length = b"%d" % longest
         if self.flaw(0.3):
-            length = self.pick([b"0", b"41", b"041", b"0000", b"99999999999999999999"])
+            length = self.pick([b"0", b"121", b"0121", b"0000", b"99999999999999999999"])
         return [b"TEXT", b"(", b"00" + length if self.chance(0.05) else length, b")"]
 
     def define_table(self):
         name = self.new_name(list(self.tables) + list(self.views))
         is_line = self.chance(0.55)
-        count = self.pick([1, 2, 2, 3, 4, 6, 11, 12, 12, 12])
+        count = self.pick([1, 2, 2, 3, 4, 6, 8, 15, 16, 16, 16])
         if self.flaw(4):
-            count = self.pick([13, 14])
+            count = self.pick([17, 18])
         names = self.random.sample(COLUMNS, count)
         if self.flaw(4):
             names[-1] = names[0]
-        columns = [(column, self.pick([None, None, 1, 2, 5, 8, 39, 40])) for column in names]
+        columns = list(zip(names, self.types(count)))
         return self.table_tokens(name, is_line, columns), lambda: self.know_table(name, is_line, columns)
+
+    def types(self, count):
+        """Types of so many columns, at times of rows that are as wide as they may be, or wider by a byte."""
+        types = [self.pick([None, None, 1, 2, 5, 8, 40, 119, 120]) for _ in range(count)]
+        while row_bytes(types) > MOST_ROW_BYTES:
+            types.remove(max(types, key=column_bytes))
+            types.append(None)
+        if count >= 8 and self.chance(0.4):
+            others = [1] * (count - 8)
+            types = [120] * 7 + others + [112 - row_bytes(others)]
+            types[-1] += self.flaw(8)
+            self.marks.add("%d bytes of a row" % row_bytes(types))
+            self.random.shuffle(types)
+        return types
 
     def define_index(self):
         """An index of a column of a table, at times under a name that a table or view has."""

@@ -83,9 +83,9 @@ WEIGHTS = {
     "total": {"short": 18, "long": 6, "crowded": 4},
     "define_index": {"short": 8, "long": 5, "crowded": 12},
     "drop_index": {"short": 3, "long": 2, "crowded": 4},
-    "open_cursor": {"short": 11, "long": 8, "crowded": 4},
+    "open_cursor": {"short": 12, "long": 8, "crowded": 4},
     "fetch": {"short": 25, "long": 16, "crowded": 8},
-    "close_cursor": {"short": 3, "long": 2, "crowded": 2},
+    "close_cursor": {"short": 6, "long": 2, "crowded": 2},
     "save": {"short": 1, "long": 1, "crowded": 1},
     "reopen": {"short": 1, "long": 1, "crowded": 1},
 }

@@ -31,7 +31,7 @@ TABLES = {
     b"pave": (True, [(b"surf", 3)]),
     b"speed": (True, [(b"kph", None)]),
     b"both": (True, [(b"n", None), (b"s", 8)]),
-    b"notes": (True, [(b"note", 40)]),
+    b"notes": (True, [(b"note", 120)]),
     b"lanes": (True, [(b"n", None), (b"class", 2)]),
     b"wide": (True, [(b"n", None), (b"w2", 1), (b"w3", None), (b"w4", 2), (b"w5", None), (b"w6", 1), (b"w7", None)]),
     b"crash": (False, [(b"num", None), (b"sev", None)]),
@@ -40,7 +40,7 @@ TABLES = {
 
 NEW_NAMES = (b"A1", b"A_", b"AB", b"b", b"Q7", b"START", b"STARTS", b"TOO", b"from", b"Select", b"x_1", b"Main_street")
 REFERENTS = (b"K0", b"K1", b"K2", b"k", b"STAR", b"STARTS", b"SUD", b"Z", b"_".join([b"long"] * 6) + b"END")
-COLUMNS = (b"a", b"A", b"n", b"s", b"kph", b"surf", b"lanes", b"c7", b"c8", b"c9", b"START", b"c12", b"c13", b"c14")
+COLUMNS = (b"a", b"A", b"n", b"s", b"kph", b"surf", b"lanes", b"c7", b"c8", b"c9", b"START", b"c12", b"c13", b"c14", b"c15", b"c16", b"c17", b"c18")
 RESERVED = (b"FROM", b"LINE", b"GAPS", b"NULL", b"AS", b"WINDOW", b"POINT", b"TEXT", b"TO")
 CURSORS = (b"c", b"d", b"C", b"c_1", b"pave", b"START")
 UNKNOWN = (b"none", b"a", b"PAVE", b"pav", b"K9", b"Start", b"odd_")

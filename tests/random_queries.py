@@ -10,7 +10,7 @@ from typing import NamedTuple
 
 from random_parts import COLUMNS, LONGEST_SPAN, METHODS, TABLES, UNKNOWN, Parts, listed
 
-MOST_COLUMNS = 12
+MOST_COLUMNS = 16
 MOST_NODES = 256
 DEEPEST = 32
 OPEN_BRACKETS = 32

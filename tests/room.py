@@ -30,11 +30,13 @@ MOST_PAGES = 1_048_576  # of any file
 MOST_CHANGED, MOST_CLEAN = 1_200, 256  # pages that are held after a step
 MOST_BEFORE = 1_024  # changed pages that are held where a change begins
 MOST_OF_A_ROW = 30  # pages that a row which is inserted changes
+MOST_OF_A_WIDEST_ROW = 80  # the same for a row of 960 bytes, whose trees are deep
 FEWEST_CALLS = 11  # of a checkpoint: of one page
 CLEARED = 64  # dead records that go at a change or a CLOSE, where there are as many
 
 SPANS = 100  # separate ones, all removed beside a cursor
 WIDE_ROWS = 20_000  # seven of them in a page
+WIDEST_ROWS = 10_000  # four of them in a page, and three of their entries in an index
 FEW_PAGES = 40
 FILLINGS = 100
 REPORT_ROWS, REPORT_PART = 2_000, 100
@@ -45,6 +47,9 @@ HELD = re.compile(rb"# held (\d+) (\d+) garbage (\d+)\n")
 
 ROUTE = b"0 DEFINE ROUTE A FROM 0 TO 100\n"
 TABLE = b"0 DEFINE LINE TABLE t (n INT)\n"
+WIDEST = [120] * 7 + [112]  # bytes of the texts of a row of 960
+WIDEST_TABLE = b"0 DEFINE LINE TABLE widest (%s)\n" % b", ".join(b"c%d TEXT(%d)" % column for column in enumerate(WIDEST))
+WIDEST_INDEX = b"0 DEFINE INDEX of_texts ON widest (c0)\n"
 FULL = b"0 ERR 92 file full\n"
 NO_DISK = b"0 ERR 91 disk\n"
 
@@ -169,6 +174,19 @@ def wide(number):
 
 def wide_line(number):
     return b"0 ROW A %s %s %s\n" % (measure(2 * number), measure(2 * number + 1), b" ".join(wide_values(number)))
+
+
+def widest_values(number):
+    """Texts of a row of 960 bytes."""
+    return [b"'%06d-%02d-%s'" % (number, column, b"x" * (most - 10)) for column, most in enumerate(WIDEST)]
+
+
+def widest(number):
+    return b"0 INSERT INTO widest ON A FROM %s VALUES (%s)\n" % (span(number), b", ".join(widest_values(number)))
+
+
+def widest_line(number):
+    return b"0 ROW A %s %s %s\n" % (measure(2 * number), measure(2 * number + 1), b" ".join(widest_values(number)))
 
 
 # Dead records.
@@ -322,9 +340,9 @@ class Load:
             expect("at most (%d, %d) are held, not (%d, %d)" % (most, MOST_CLEAN, one.changed, one.clean), is_few, True)
             self.told.append(one)
 
-    def insert(self, rows):
-        """Rows that are accepted."""
-        self.look(self.room.accepted(rows), MOST_OF_A_ROW)
+    def insert(self, rows, own_pages=MOST_OF_A_ROW):
+        """Rows that are accepted, each of which changes so many pages at the most."""
+        self.look(self.room.accepted(rows), own_pages)
 
     def ask(self, line):
         """The reply to a line that changes nothing."""
@@ -368,6 +386,21 @@ def few_pages_are_held(program):
         expect("REOPEN", load.ask(b"0 REOPEN\n"), b"0 OK 0\n")
         expect("the rows", load.ask(b"0 SELECT wide\n"), wide_rows_reply())
         load.insert([wide(WIDE_ROWS)])
+        expect("SAVE", load.ask(b"0 SAVE\n"), b"0 OK 0\n")
+        room.expect_end()
+
+
+def few_pages_are_held_beside_the_widest_rows(program):
+    """So also with rows of 960 bytes and an index of texts of 120, in order, so that the trees have as many levels as they may."""
+    with program.over_file() as room:
+        load = Load(room)
+        load.insert([ROUTE, WIDEST_TABLE, WIDEST_INDEX, *map(widest, range(WIDEST_ROWS))], MOST_OF_A_WIDEST_ROW)
+        expect("that many pages are held at all", max(one.changed for one in load.told) > MOST_BEFORE, True)
+        expect("REOPEN", load.ask(b"0 REOPEN\n"), b"0 OK 0\n")
+        found = b"0 SELECT WHERE(widest, c0 = %s)\n" % widest_values(WIDEST_ROWS // 2)[0]
+        expect("a row by the index", load.ask(found), rows_reply([widest_line(WIDEST_ROWS // 2)]))
+        expect("the rows", load.ask(b"0 SELECT widest\n"), rows_reply([widest_line(number) for number in range(WIDEST_ROWS)]))
+        load.insert([widest(WIDEST_ROWS)], MOST_OF_A_WIDEST_ROW)
         expect("SAVE", load.ask(b"0 SAVE\n"), b"0 OK 0\n")
         room.expect_end()
 
@@ -446,6 +479,7 @@ TESTS = [
     what_another_cursor_sees_stays,
     a_long_report_beside_a_writer,
     few_pages_are_held,
+    few_pages_are_held_beside_the_widest_rows,
     few_pages_are_held_where_calls_fail,
     a_full_file_can_be_emptied_and_filled_again,
 ]

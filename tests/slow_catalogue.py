@@ -18,7 +18,8 @@ ROUTES = 4096
 VIEWS = 128
 ALIGNMENTS = 64
 PIECES = 64
-COLUMNS = 12
+COLUMNS = 16
+ROW_BYTES = 960
 GREATEST_MEASURE = 999_999_999
 
 NAME = re.compile(rb"[A-Za-z][A-Za-z0-9_]*")
@@ -159,6 +160,12 @@ def check_table(table):
     want(1 <= len(names) <= COLUMNS, "how many columns")
     want(all(is_name(name) for name in names) and len(set(names)) == len(names), "the names of columns")
     want(all(longest <= LONGEST_TEXT for _, longest in table.columns), "the types of columns")
+    want(sum(width_of(longest) for _, longest in table.columns) <= ROW_BYTES, "the bytes of a row")
+
+
+def width_of(longest):
+    """The bytes of a column's encoded value."""
+    return 9 if longest == 0 else longest + 1
 
 
 def check_index(index, tables):

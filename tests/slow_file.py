@@ -28,7 +28,7 @@ from collections import Counter
 from functools import lru_cache
 from typing import NamedTuple
 
-from slow_catalogue import Catalogue, catalogue_of, is_name
+from slow_catalogue import Catalogue, catalogue_of, is_name, width_of
 from slow_commands import DefineView, Named, Refused, Relative, parts_of, refuse_if
 from slow_journal import Damaged, want
 from slow_pages import NO_TREE, Pages
@@ -104,11 +104,6 @@ def is_text(text):
     except UnicodeDecodeError:
         return False
     return not any(byte < 32 or byte == 127 for byte in text)
-
-
-def width_of(longest):
-    """The bytes of a column's encoded value."""
-    return 9 if longest == 0 else longest + 1
 
 
 def row_of(data, columns):

@@ -60,6 +60,7 @@ from slow_tables import Route, Table, measure_text
 
 MOST_ROUTES = 4096
 MOST_TABLES = 128
+MOST_ROW_BYTES = 960
 MOST_INDEXES = 64
 MOST_VIEWS = 128
 MOST_ALIGNMENTS = 64
@@ -242,7 +243,7 @@ class Machine:
         names = [column.name for column in command.columns]
         refuse_if(self.has_rows(command.name), 24)
         refuse_if(len(set(names)) < len(names), 41)
-        refuse_if(len(names) > MOST_COLUMNS, 27)
+        refuse_if(len(names) > MOST_COLUMNS or row_bytes(command.columns) > MOST_ROW_BYTES, 27)
         refuse_if(len(self.tables) == MOST_TABLES, 27)
         self.count_change()
         self.tables[command.name] = Table(command.is_line, command.columns)
@@ -455,6 +456,11 @@ class Machine:
         parts = [name.decode(), route.express(start, method)]
         parts += [] if finish is None else [route.express(finish, method)]
         return " ".join(parts + [value_text(value) for value in row])
+
+
+def row_bytes(columns):
+    """The bytes that a row takes in a record: 9 of a number, and of a text one more than it may have."""
+    return sum(9 if column.longest is None else column.longest + 1 for column in columns)
 
 
 def end_of_run(rows, place, row):

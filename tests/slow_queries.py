@@ -37,7 +37,7 @@ from slow_commands import (
 # No longer span is looked at, since each of its thousandths would have to be.
 LONGEST_SPAN = 2_000_000
 
-MOST_COLUMNS = 12
+MOST_COLUMNS = 16
 MOST_NODES = 256
 DEEPEST = 32
 

@@ -160,7 +160,7 @@ def add_named_views(*views):
 def beside_views(said):
     """What views may be about: a table of points, one of lines, a referent, an alignment."""
     said.tables.insert(0, Table(b"crash", 1, 0, [(b"num", 0), (b"sev", 0)]))
-    said.tables.append(Table(b"wide", 2, 1, [(b"c%d" % place, 0) for place in range(12)]))
+    said.tables.append(Table(b"wide", 2, 1, [(b"c%d" % place, 0) for place in range(16)]))
     said.referents.append(Referent(0, b"K0", 2_000, 3))
     said.alignments.append(Alignment(b"re", [(0, 0, 1_000, 0, 5_000)]))
 
@@ -181,6 +181,16 @@ def put_columns(*columns):
         said.tables = [Table(b"pave", 0, 1, list(columns))]
 
     return change
+
+
+def widest_rows(said):
+    """In place of the table one of the widest rows, in trees with as few rows to a page as there may be."""
+    columns = [(b"c%d" % place, 120) for place in range(7)] + [(b"last", 112)]
+    texts = [tuple(b"%d" % (number * place % 10) * longest for place, (_, longest) in enumerate(columns)) for number in range(30)]
+    records = [Record(0, 10 * number, 10 * number + 5, text, 3) for number, text in enumerate(texts)]
+    said.tables = [Table(b"wide", 0, 1, columns, records)]
+    said.indexes = [Index(b"i", 0, 0, 6)]
+    said.inner_entries = 3
 
 
 def put_alignment(*pieces):
@@ -241,7 +251,7 @@ ODD = {
     "a view of the reserved name of nothing": add_views(b"WHERE(pave, surf = 'START')"),
     "views of 255 nodes": add_views(*doubled(7)),
     "a view of depth 32": add_views(nested(31)),
-    "a view of twelve columns": add_views(b"OVERLAY(DISSOLVE(wide, (c0,c1,c2,c3,c4,c5,c6,c7,c8,c9,c10)), pave)"),
+    "a view of 16 columns": add_views(b"OVERLAY(DISSOLVE(wide, (c0,c1,c2,c3,c4,c5,c6,c7,c8,c9,c10,c11,c12,c13,c14)), pave)"),
     "a view over points and lines": add_views(b"OVERLAY(crash, pave)"),
     "a view of a value that no row has": add_views(b"WHERE(pave, surf = 'a text that is longer than the column''s')"),
     "128 views": add_named_views(*[(b"w%03d" % place, b"pave") for place in range(128)]),
@@ -271,7 +281,7 @@ ODD = {
     "touching points": put_points(Record(0, 5, 6, (1,), 2), Record(0, 6, 7, (1,), 2), Record(0, 6, 7, (2,), 2)),
     "touching rows that differ": add_records(Record(0, 2_500, 3_000, (b"PC",), 6), Record(0, 0, 2_500, (b"",), 6)),
     "rows one thousandth apart": add_records(Record(0, 2_501, 3_000, (b"AC",), 6)),
-    "the longest text": put_value(40, b"x" * 40),
+    "the longest text": put_value(120, b"x" * 120),
     "the greatest number": put_value(0, 10**12),
     "the least number": put_value(0, -(10**12)),
     "NULL": put_value(8, None),
@@ -291,7 +301,9 @@ ODD = {
     "two indexes of one column": put("indexes", Index(b"a", 63, 0, 0), Index(b"b", 0, 0, 0)),
     "64 indexes": put("indexes", *[Index(b"i%02d" % place, place, 0, 0) for place in range(64)]),
     "128 tables": put("tables", *[Table(b"t%03d" % place, 127 - place, 1, [(b"c", 0)]) for place in range(128)]),
-    "twelve columns": put_columns(*[(b"c%d" % place, 40) for place in range(12)]),
+    "16 columns": put_columns(*[(b"c%d" % place, 59) for place in range(16)]),
+    "rows of 960 bytes": put_columns(*[(b"c%d" % place, 120) for place in range(7)], (b"last", 112)),
+    "rows of 960 bytes in trees of three levels": widest_rows,
     "4,096 routes": put("routes", *[Route(b"r%04d" % place, place, 0, 10_000) for place in range(4_096)]),
     "the last route number": both(put("routes", Route(b"A", 4_095, 0, 9, 1)), put_records()),
     "the longest route": both(
@@ -398,7 +410,7 @@ WRONG = {
     "a view of a column named twice": add_views(b"DISSOLVE(crash, (num, num))"),
     "a view of a column renamed to another": add_views(b"RENAME(crash, num TO sev)"),
     "a view of differing kinds": add_views(b"COVER(crash, pave)"),
-    "a view of thirteen columns": add_views(b"OVERLAY(wide, pave)"),
+    "a view of 17 columns": add_views(b"OVERLAY(wide, pave)"),
     "a view on no route": add_views(b"WINDOW(pave, Z FROM 0 TO 1)"),
     "a view on the whole of no route": add_views(b"WINDOW(pave, Z)"),
     "a view of no referent": add_views(b"WINDOW(pave, A FROM 0 TO @K9)"),
@@ -436,9 +448,10 @@ WRONG = {
     "a table with a reserved name": put("tables", Table(b"TABLE", 0, 1, [(b"c", 0)])),
     "129 tables": put("tables", *[Table(b"t%03d" % place, place, 1, [(b"c", 0)]) for place in range(129)]),
     "no columns": put_columns(),
-    "thirteen columns": put_columns(*[(b"c%d" % place, 0) for place in range(13)]),
+    "17 columns": put_columns(*[(b"c%d" % place, 0) for place in range(17)]),
+    "rows of 961 bytes": put_columns(*[(b"c%d" % place, 120) for place in range(7)], (b"last", 113)),
     "a column twice": put_columns((b"c", 0), (b"c", 0)),
-    "a column of texts too long": put_columns((b"c", 41)),
+    "a column of texts too long": put_columns((b"c", 121)),
     "a column with a reserved name": put_columns((b"INT", 0)),
     "an index of no table": put("indexes", Index(b"i", 0, 1, 0)),
     "an index of no column": both(put_records(), put("indexes", Index(b"i", 0, 0, 1))),

@@ -1,4 +1,4 @@
-"""The widest table, whose rows go into a page by sevens, and lines that put rows into it; and how a line says a measure."""
+"""A wide table, whose rows go into a page by sevens, and lines that put rows into it; and how a line says a measure."""
 
 COLUMNS = 12
 WIDE_TABLE = b"0 DEFINE LINE TABLE wide (%s)\n" % b", ".join(b"c%d TEXT(40)" % column for column in range(COLUMNS))

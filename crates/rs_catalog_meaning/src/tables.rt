@@ -1,19 +1,21 @@
 //! Checks tables, their indexes, and views: each is as a line defines it.
 
-ghost use Rattle.std.specs.Prelude.{◌≡◌, ◌<◌, ◌↔◌, Contains, IsTrue, length, map};
+ghost use Rattle.std.specs.Prelude.{◌≡◌, ◌<◌, ◌≤◌, ◌↔◌, Contains, IsTrue, length, map};
 ghost use Rattle.std.specs.List.{AllByRecursion};
 ghost use Rattle.rs_catalog_pages.specs.Items.{TableItem};
 ghost use Rattle.rs_catalog_pages.specs.Said.{said_column, said_index, said_table, said_view};
-ghost use Rattle.rs_machine.specs.Checks.{column_names};
+ghost use Rattle.rs_machine.specs.Checks.{column_names, column_types};
 ghost use Rattle.rs_machine.specs.Lawful.{AreColumnsOfTable, AreDistinct};
 ghost use Rattle.rs_syntax.specs.Sound.{AreColumns, IsColumnType, IsName};
+ghost use Rattle.rs_value.specs.Encoding.{row_width, width};
+ghost use Rattle.rs_value.specs.declared.column.TheConstants.{COLUMNS};
 ghost use Rattle.rs_catalog_meaning.specs.Meaning.{AreIndexes, AreTables, AreViews, IsIndex, IsTable, IsView, column_of, columns_of};
 
 use crate::names::{are_in_order, is_free};
 use rs_catalog_pages::{INDEXES, StoredColumn, StoredIndex, StoredTable, StoredView};
 use rs_lexer::is_name;
 use rs_machine::limits::{TABLES, VIEWS};
-use rs_value::{COLUMNS, TEXT_BYTES};
+use rs_value::{COLUMNS, ColumnType, ROW_BYTES, TEXT_BYTES, column_width};
 
 /// Whether these tables pass the checks and limits of their DEFINE lines, in the order of their names.
 pub fn are_tables(tables: &[StoredTable]) -> bool
@@ -42,8 +44,33 @@ fn are_columns(columns: &[StoredColumn]) -> bool
 {
     !columns.is_empty()
         && columns.len() <= COLUMNS
+        && row_bytes(columns) <= ROW_BYTES
         && is_each_column(columns)
         && are_distinct(columns)
+}
+
+// How many bytes a row of these columns takes.
+fn row_bytes(columns: &[StoredColumn]) -> usize
+    requires few { length columns.now ≤ COLUMNS }
+    ensures { result ≡ row_width (column_types (columns_of (map said_column columns.now))) }
+{
+    let mut total = 0;
+    for column in columns {
+        total += column_bytes(column);
+    }
+    total
+}
+
+// How many bytes a value of the column takes.
+fn column_bytes(column: &StoredColumn) -> usize
+    ensures value { result ≡ width (column_of (said_column column.now)).1 }
+    ensures few { result ≤ 256 }
+{
+    if column.type_code == 0 {
+        column_width(ColumnType::Int)
+    } else {
+        column_width(ColumnType::Text(column.type_code))
+    }
 }
 
 // Whether each has a name and a type.

@@ -7,14 +7,15 @@ use Rattle.std.proofs.lemmas.Bool.Decides.{nat_tests}
 use Rattle.rs_refusal.specs.declared.refusal.Refusal.{Refusal}
 use Rattle.rs_refusal.specs.declared.refusal.Refusal.TheVariants.{NoSuchRoute, NoSuchName, NameTaken, ColumnTwice, EmptySpan, InUse, Limit}
 use Rattle.rs_value.specs.declared.column.Kind.{Kind}
-use Rattle.rs_value.specs.declared.column.TheConstants.{COLUMNS}
+use Rattle.rs_value.specs.declared.column.TheConstants.{COLUMNS, ROW_BYTES}
+use Rattle.rs_value.specs.Encoding.{row_width}
 use Rattle.rs_facts.specs.Fact.{Name}
 use Rattle.rs_facts.specs.Query.{Column, Piece, Query}
 use Rattle.rs_syntax.specs.QueryView.{query_tree}
 use Rattle.rs_syntax.specs.Tree.{QueryTree, PieceTree}
 use Rattle.rs_machine.specs.Checking.{column_place, checked}
 use Rattle.rs_machine.specs.declared.limits.TheConstants.{ROUTES, TABLES, INDEXES, VIEWS, ALIGNMENTS, PIECES}
-use Rattle.rs_machine.specs.Checks.{◌>>=◌, unless, found, some_name_twice, column_names, pieces_checked}
+use Rattle.rs_machine.specs.Checks.{◌>>=◌, unless, found, some_name_twice, column_names, column_types, pieces_checked}
 use Rattle.rs_machine.specs.Opening.{names_query, names_route, names_alignment}
 use Rattle.rs_machine.specs.State.{has, some_cursor}
 use Rattle.rs_machine.specs.Step.{Effect, counted, may_change, index_defined, index_dropped, with_index, without_index, route_defined, table_defined, route_dropped, table_dropped, view_dropped, some_table, has_fact_on, with_route, with_table, empty_table, with_view, view_defined, without_route, without_table, without_view, alignment_defined, alignment_dropped, with_alignment, without_alignment}
@@ -146,12 +147,18 @@ module _ (checks : Checks) (unseen : Unseen) (kind : Kind) (name : Name) (column
   pub table_too_wide : IsTaken false → some_name_twice (column_names columns) ≡ false → COLUMNS < length columns → Tabled (Err Limit)
   table_too_wide e f g = rw (has_either checks unseen name false e, f, upto-false (length columns) COLUMNS g)
 
-  pub table_too_many : IsTaken false → some_name_twice (column_names columns) ≡ false → length columns ≤ COLUMNS → TABLES ≤ names.len checks.catalog.now.tables → Tabled (Err Limit)
-  table_too_many e f g h = rw (has_either checks unseen name false e, f, upto-true (length columns) COLUMNS g, len-tables_from checks.catalog.now unseen.spans, below-false (names.len checks.catalog.now.tables) TABLES h)
+  pub table_rows_wide : IsTaken false → some_name_twice (column_names columns) ≡ false → length columns ≤ COLUMNS → ROW_BYTES < row_width (column_types columns) → Tabled (Err Limit)
+  table_rows_wide e f g n = rw (has_either checks unseen name false e, f, upto-true (length columns) COLUMNS g, upto-false (row_width (column_types columns)) ROW_BYTES n)
 
-  pub table_checked : IsTaken false → some_name_twice (column_names columns) ≡ false → length columns ≤ COLUMNS → names.len checks.catalog.now.tables < TABLES
+  pub table_too_many : IsTaken false → some_name_twice (column_names columns) ≡ false → length columns ≤ COLUMNS → row_width (column_types columns) ≤ ROW_BYTES → TABLES ≤ names.len checks.catalog.now.tables
+      → Tabled (Err Limit)
+  table_too_many e f g n h =
+      rw (has_either checks unseen name false e, f, upto-true (length columns) COLUMNS g, upto-true (row_width (column_types columns)) ROW_BYTES n, len-tables_from checks.catalog.now unseen.spans, below-false (names.len checks.catalog.now.tables) TABLES h)
+
+  pub table_checked : IsTaken false → some_name_twice (column_names columns) ≡ false → length columns ≤ COLUMNS → row_width (column_types columns) ≤ ROW_BYTES → names.len checks.catalog.now.tables < TABLES
       → Tabled (may_change (state_by checks unseen) >>= λ _. Ok (counted 0 (with_table (state_by checks unseen) name (empty_table kind columns))))
-  table_checked e f g h = rw (has_either checks unseen name false e, f, upto-true (length columns) COLUMNS g, len-tables_from checks.catalog.now unseen.spans, below-true (names.len checks.catalog.now.tables) TABLES h)
+  table_checked e f g n h =
+      rw (has_either checks unseen name false e, f, upto-true (length columns) COLUMNS g, upto-true (row_width (column_types columns)) ROW_BYTES n, len-tables_from checks.catalog.now unseen.spans, below-true (names.len checks.catalog.now.tables) TABLES h)
 
 -- ---- an index's definition
 

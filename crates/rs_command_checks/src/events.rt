@@ -11,7 +11,7 @@ ghost use Rattle.rs_facts.specs.Remove.{removed_facts};
 ghost use Rattle.rs_facts.specs.Spans.{seen};
 ghost use Rattle.rs_syntax.specs.View.{column_tree, location_tree, removal_tree};
 ghost use Rattle.rs_syntax.specs.QueryView.{window_tree};
-ghost use Rattle.rs_machine.specs.Checks.{same_kind, location_kind, window_route, row_fits, column_types};
+ghost use Rattle.rs_machine.specs.Checks.{same_kind, location_kind, window_route, row_fits};
 ghost use Rattle.rs_machine.specs.Checking.{removal_checked};
 ghost use Rattle.rs_machine.specs.Step.{counted, row_inserted, rows_removed, with_facts_along, with_table, without_facts};
 ghost use Rattle.rs_machine.specs.declared.limits.TheConstants.{CHANGES};
@@ -23,13 +23,14 @@ ghost use Rattle.rs_command_checks.specs.Removal.{AreThere, MayBeTaken};
 ghost use Rattle.rs_command_checks.specs.States.{Unseen, state_by};
 
 use crate::checks::Checks;
+use crate::columns::schema_of;
 use rs_catalog::RouteEntry;
 use rs_checker::check_condition;
 use rs_facts::{Condition, Span};
 use rs_methods::{Name, Position};
 use rs_refusal::Refusal;
 use rs_syntax::{Atom, ColumnDefinition, EventLocation, Window};
-use rs_value::{COLUMNS, KeptRow, Kind, Literal, Schema, Tuple, fits};
+use rs_value::{COLUMNS, KeptRow, Kind, Literal, Tuple, fits};
 use std::alloc::Global;
 
 /// Rows that a removal takes away of its table.
@@ -211,18 +212,6 @@ fn fitted(columns: &[ColumnDefinition], values: &[Literal]) -> Result<Tuple, Ref
     ensures refused { IfErr result (λ refusal. row_fits (map column_tree columns.now) (literal_row values.now) ≡ Err refusal) }
 {
     fits(&schema_of(columns), values)
-}
-
-/// The types of the columns, from the left.
-fn schema_of(columns: &[ColumnDefinition]) -> Schema
-    requires { length columns.now ≤ COLUMNS }
-    ensures { result.items ≡ column_types (map column_tree columns.now) }
-{
-    let mut schema = Schema::new();
-    for column in columns {
-        schema.push(column.column_type);
-    }
-    schema
 }
 
 /// The condition that rows of these columns are to meet, where one is written.

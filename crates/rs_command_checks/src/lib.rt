@@ -7,6 +7,7 @@
 
 mod alignments;
 pub mod checks;
+mod columns;
 mod cursors;
 mod definitions;
 mod drops;

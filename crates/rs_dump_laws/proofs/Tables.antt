@@ -6,12 +6,13 @@ use Rattle.std.specs.FinMap as names
 use Rattle.std.specs.FinMap.{get-empty}
 use Rattle.std.proofs.lemmas.Bool.{le-leb}
 use Rattle.rs_refusal.specs.declared.refusal.Refusal.TheVariants.{ColumnTwice, Limit, NameTaken}
-use Rattle.rs_value.specs.declared.column.TheConstants.{COLUMNS}
+use Rattle.rs_value.specs.Encoding.{row_width}
+use Rattle.rs_value.specs.declared.column.TheConstants.{COLUMNS, ROW_BYTES}
 use Rattle.rs_facts.specs.Fact.{Name, Names, name_cmp}
 use Rattle.rs_facts.specs.Insert.{same_name}
 use Rattle.rs_facts.specs.Query.{Table}
 use Rattle.rs_machine.specs.State.{State, has}
-use Rattle.rs_machine.specs.Checks.{column_names, has_table_or_view, some_name_twice, unless}
+use Rattle.rs_machine.specs.Checks.{column_names, column_types, has_table_or_view, some_name_twice, unless}
 use Rattle.rs_machine.specs.Lawful.{AreColumnsOfTable, AreDistinct}
 use Rattle.rs_machine.specs.Step.{empty_table, may_change, with_table}
 use Rattle.rs_machine.specs.declared.limits.TheConstants.{CHANGES, TABLES}
@@ -53,6 +54,7 @@ one_taken state table none new are few room = (
   next_is (unless _ NameTaken) tt _ (fails (has_table_or_view state table.0) NameTaken (no_name state table.0 none new))
       ∙ next_is (unless _ ColumnTwice) tt _ (fails (some_name_twice (column_names table.1.columns)) ColumnTwice (none_twice (column_names table.1.columns) are.distinct))
       ∙ next_is (unless _ Limit) tt _ (holds (nat_le (length table.1.columns) COLUMNS) Limit (le-leb (length table.1.columns) COLUMNS are.few))
+      ∙ next_is (unless _ Limit) tt _ (holds (nat_le (row_width (column_types table.1.columns)) ROW_BYTES) Limit (le-leb (row_width (column_types table.1.columns)) ROW_BYTES are.narrow))
       ∙ next_is (unless _ Limit) tt _ (is_below (names.len state.tables) TABLES Limit few)
       ∙ next_is (may_change state) tt _ (may state room),
 )

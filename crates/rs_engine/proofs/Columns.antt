@@ -7,7 +7,7 @@ use Rattle.rs_facts.specs.Insert.{same_name}
 use Rattle.rs_facts.specs.Query.{Column}
 use Rattle.std.specs.Cmp.{eq_by_cmp_equiv}
 use Rattle.rs_catalog.proofs.NameOrder.{name_cmp-total}
-use Rattle.rs_machine.specs.Checks.{◌>>=◌, column_names, has_table_or_view, some_name_twice, unless}
+use Rattle.rs_machine.specs.Checks.{◌>>=◌, column_names, column_types, has_table_or_view, some_name_twice, unless}
 use Rattle.rs_machine.specs.Lawful.{AreColumnsOfTable, AreDistinct}
 use Rattle.rs_machine.specs.State.{State}
 use Rattle.rs_machine.specs.Step.{Effect, table_defined}
@@ -15,7 +15,8 @@ use Rattle.rs_refusal.specs.declared.refusal.Refusal.{Refusal}
 use Rattle.rs_refusal.specs.declared.refusal.Refusal.TheVariants.{ColumnTwice, NameTaken}
 use Rattle.rs_syntax.specs.Sound.{AreColumns}
 use Rattle.rs_value.specs.declared.column.Kind.{Kind}
-use Rattle.rs_value.specs.declared.column.TheConstants.{COLUMNS}
+use Rattle.rs_value.specs.declared.column.TheConstants.{COLUMNS, ROW_BYTES}
+use Rattle.rs_value.specs.Encoding.{row_width}
 
 neither : (a b : Bool) → (a || b) ≡ false → (a ≡ false) × (b ≡ false)
 neither true b either = absurd (false≢true (sym either))
@@ -44,10 +45,11 @@ never_twice false false rest effect accepted = refl
 
 -- those of an accepted command are a table's
 pub columns_accepted : (state : State) (kind : Kind) (name : Name) (columns : List Column) (effect : Effect) → 1 ≤ length columns → AreColumns columns → length columns ≤ COLUMNS
-    → table_defined state kind name columns ≡ Ok effect → AreColumnsOfTable columns
-columns_accepted state kind name columns effect some sound few accepted = record {
+    → row_width (column_types columns) ≤ ROW_BYTES → table_defined state kind name columns ≡ Ok effect → AreColumnsOfTable columns
+columns_accepted state kind name columns effect some sound few narrow accepted = record {
   some = some;
   few = few;
+  narrow = narrow;
   sound = sound;
   distinct = distinct (column_names columns) (never_twice (has_table_or_view state name) (some_name_twice (column_names columns)) _ effect accepted);
 }

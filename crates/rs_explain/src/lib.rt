@@ -89,7 +89,7 @@ pub fn explain(refusal: &Refusal) -> Explanation {
             mended: "0 SELECT WHERE(traffic, aadt > 5000)",
         },
         Refusal::NumberOutOfRange => Explanation {
-            meaning: "A number of the line is out of its range: a measure has one to six digits and up to three decimals, a percentage is at most 100, a value at most 10^12, the length of a text 1 to 40, and the rows of a FETCH 1 to 1,000.",
+            meaning: "A number of the line is out of its range: a measure has one to six digits and up to three decimals, a percentage is at most 100, a value at most 10^12, the length of a text 1 to 120, and the rows of a FETCH 1 to 1,000.",
             look: "Decimals past the third, and numbers in other units.",
             refused: "0 DEFINE ROUTE SR12 FROM 0 TO 14.25001",
             mended: "0 DEFINE ROUTE SR12 FROM 0 TO 14.250",
@@ -131,10 +131,10 @@ pub fn explain(refusal: &Refusal) -> Explanation {
             mended: "0 TRANSLATE SR12 @BRIDGE AS ABSOLUTE",
         },
         Refusal::Limit => Explanation {
-            meaning: "A limit would be passed: so many routes, tables, columns, views, indexes or referents there may be, and so large a query.",
+            meaning: "A limit would be passed: so many routes, tables, columns, views, indexes or referents there may be, so wide a row, and so large a query.",
             look: "The table of limits in docs/LANGUAGE.md.",
-            refused: "0 DEFINE LINE TABLE t with thirteen columns",
-            mended: "two tables, of twelve columns and of one",
+            refused: "0 DEFINE LINE TABLE t with seventeen columns",
+            mended: "two tables, of sixteen columns and of one",
         },
         Refusal::OutsideTheRoute => Explanation {
             meaning: "The position lies before the route's start or after its end.",

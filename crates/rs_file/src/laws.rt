@@ -16,10 +16,12 @@ ghost use Rattle.rs_file.specs.declared.opened.OpenedTable.{OpenedTable};
 ghost use Rattle.rs_page_owners.specs.Counts.{◌&◌, times};
 ghost use Rattle.rs_page_owners.specs.Owners.{Moves, Shares};
 ghost use Rattle.rs_pages.specs.PageMap.{PageMap};
-ghost use Rattle.rs_value.specs.Encoding.{width};
+ghost use Rattle.rs_tree.specs.declared.limits.TheConstants.{GREATEST_WIDTH};
+ghost use Rattle.rs_value.specs.Encoding.{row_width, width};
 ghost use Rattle.rs_value.specs.declared.column.ColumnType.{ColumnType};
-ghost use Rattle.rs_value.specs.declared.column.TheConstants.{COLUMNS, TEXT_BYTES};
+ghost use Rattle.rs_value.specs.declared.column.TheConstants.{ROW_BYTES, TEXT_BYTES};
 ghost use Rattle.rs_versioned.specs.Events.{event_width};
+ghost use Rattle.rs_versioned.specs.declared.event.TheConstants.{EVENT_BYTES};
 ghost use Rattle.rs_versioned.specs.Records.{HoldsRecords};
 ghost use Rattle.rs_versioned.specs.Referents.{kept_referents};
 
@@ -122,11 +124,12 @@ pub fn table_without_roots_goes()
         → HoldsParts map accepted (record contents { tables = before ++ after }) }
 {}
 
-/// Where a table has no more columns than a line can name, and none is wider than a text can be, three entries of an inner page of
-/// its tree fit a page, and three of that of an index of each column.
+/// Where a table's rows are no wider than a row can be, three entries of an inner page of its tree fit a page; and where no column
+/// is wider than a text can be, three of that of an index of each column do. The widest cell of a tree is that of an index of the
+/// longest texts, in the widest rows.
 pub fn tables_of_lines_fit_pages()
-    ensures table { (types : List ColumnType) → length types ≤ COLUMNS → AllByRecursion (λ type. width type ≤ TEXT_BYTES + 1) types
-        → 3 * (8 + event_width types) ≤ PAGE_ROOM }
-    ensures index { (types : List ColumnType) → length types ≤ COLUMNS → AllByRecursion (λ type. width type ≤ TEXT_BYTES + 1) types
+    ensures table { (types : List ColumnType) → row_width types ≤ ROW_BYTES → 3 * (8 + event_width types) ≤ PAGE_ROOM }
+    ensures index { (types : List ColumnType) → row_width types ≤ ROW_BYTES → AllByRecursion (λ type. width type ≤ TEXT_BYTES + 1) types
         → (column : ℕ) → FitsPages types column }
+    ensures widest { TEXT_BYTES + 1 + (ROW_BYTES + EVENT_BYTES) ≡ GREATEST_WIDTH }
 {}

@@ -9,7 +9,8 @@ use Rattle.std.specs.FinMap as names
 use Rattle.std.specs.FinMap.{find, get-insert, get-remove, get-empty, get-entries}
 use Rattle.rs_refusal.specs.declared.refusal.Refusal.{Refusal}
 use Rattle.rs_refusal.specs.declared.refusal.Refusal.TheVariants.{InUse, NameTaken, NoSuchReferent, Limit, EmptySpan, PointOrLineWanted, ColumnTwice, CursorNameTaken, TooManyCursors}
-use Rattle.rs_value.specs.declared.column.TheConstants.{COLUMNS}
+use Rattle.rs_value.specs.declared.column.TheConstants.{COLUMNS, ROW_BYTES}
+use Rattle.rs_value.specs.Encoding.{row_width}
 use Rattle.rs_value.specs.Row.{Row}
 use Rattle.rs_facts.specs.Fact.{Name, Names, name_cmp}
 use Rattle.rs_facts.specs.Insert.{same_name}
@@ -21,7 +22,7 @@ use Rattle.rs_syntax.specs.Tree.{EventLocationTree, WindowTree, PieceTree, Condi
 use Rattle.rs_syntax.specs.Verdict.{Reads}
 use Rattle.rs_syntax.specs.Sound.{IsName, IsSound}
 use Rattle.rs_machine.specs.State.{State, fresh, has}
-use Rattle.rs_machine.specs.Checks.{◌>>=◌, unless, route_named, table_named, view_named, alignment_named, index_named, cursor_named, pieces_checked, has_table_or_view, has_referent, position_on, event_span, location_kind, window_span, window_route, same_kind, some_name_twice, column_names, row_fits}
+use Rattle.rs_machine.specs.Checks.{◌>>=◌, unless, route_named, table_named, view_named, alignment_named, index_named, cursor_named, pieces_checked, has_table_or_view, has_referent, position_on, event_span, location_kind, window_span, window_route, same_kind, some_name_twice, column_names, column_types, row_fits}
 use Rattle.rs_machine.specs.Opening.{some_view, names_query, names_alignment, names_route, names_referent, some_piece_on}
 use Rattle.rs_machine.specs.Checking.{column_place, checked, removal_checked, columns_in, group_checked, summed_checked}
 use Rattle.rs_machine.specs.declared.limits.TheConstants.{ROUTES, REFERENTS, TABLES, INDEXES, VIEWS, ALIGNMENTS, PIECES, CURSORS}
@@ -179,8 +180,9 @@ outcome_named state session (define_table kind name columns) sound named =
     through (unless (not (has_table_or_view state name)) NameTaken) _ (λ new.
     through (unless (not (some_name_twice (column_names columns))) ColumnTwice) _ (λ once.
     through (unless (nat_le (length columns) COLUMNS) Limit) _ (λ few.
+    through (unless (nat_le (row_width (column_types columns)) ROW_BYTES) Limit) _ (λ narrow.
     through (unless (nat_lt (names.len state.tables) TABLES) Limit) _ (λ room.
-    through (may_change state) _ (λ change. record { named = record { each = named.each } })))))
+    through (may_change state) _ (λ change. record { named = record { each = named.each } }))))))
 outcome_named state session (define_referent route name position) sound named = defined_named state route name position sound.1 named
 outcome_named state session (define_index name table column) sound named = index_defined_named state name table column named
 outcome_named state session (define_view name query text) sound named = view_defined_named state name query named

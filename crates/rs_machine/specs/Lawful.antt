@@ -8,7 +8,8 @@ use Rattle.rs_measure.specs.declared.measure.TheConstants.{GREATEST_MEASURE}
 use Rattle.rs_methods.specs.Position.{PositionExpression, absolute, beyond, before, interpolative, start_name}
 use Rattle.rs_value.specs.declared.column.Kind.{Kind}
 use Rattle.rs_value.specs.declared.column.Kind.TheVariants.{Point, Line}
-use Rattle.rs_value.specs.declared.column.TheConstants.{COLUMNS}
+use Rattle.rs_value.specs.declared.column.TheConstants.{COLUMNS, ROW_BYTES}
+use Rattle.rs_value.specs.Encoding.{row_width}
 use Rattle.rs_value.specs.Row.{Row}
 use Rattle.rs_value.specs.Values.{IsRowOf}
 use Rattle.rs_facts.specs.Fact.{Name, Names, contains}
@@ -62,10 +63,11 @@ pub record IsReferent (routes : Names RouteEnds) (route name : Name) (measure : 
 
 -- ---- tables
 
--- from 1 to COLUMNS columns, each with a name of its own and a type
+-- from 1 to COLUMNS columns, each with a name of its own and a type, whose rows take at most ROW_BYTES in a record
 pub record AreColumnsOfTable (columns : List Column) : Type 0 where
   pub some : 1 ≤ length columns
   pub few : length columns ≤ COLUMNS
+  pub narrow : row_width (column_types columns) ≤ ROW_BYTES
   pub sound : AreColumns columns
   pub distinct : AreDistinct (column_names columns)
 

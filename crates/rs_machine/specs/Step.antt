@@ -7,7 +7,8 @@ use Rattle.rs_refusal.specs.declared.refusal.Refusal.TheVariants.{InUse, NameTak
 use Rattle.rs_methods.specs.Position.{PositionExpression, start_name, expression_at, expression_text}
 use Rattle.rs_methods.specs.declared.position.Method.{Method}
 use Rattle.rs_value.specs.declared.column.Kind.{Kind}
-use Rattle.rs_value.specs.declared.column.TheConstants.{COLUMNS}
+use Rattle.rs_value.specs.declared.column.TheConstants.{COLUMNS, ROW_BYTES}
+use Rattle.rs_value.specs.Encoding.{row_width}
 use Rattle.rs_value.specs.Row.{Row}
 use Rattle.rs_facts.specs.Fact.{Name, Names, no_facts, thousandths}
 use Rattle.rs_facts.specs.Insert.{same_name, after_insert, new_facts}
@@ -23,7 +24,7 @@ use Rattle.rs_planning.specs.Explain.{explained}
 use Rattle.rs_syntax.specs.Tree.{EventLocationTree, WindowTree, PieceTree, ConditionTree, QueryTree, CommandTree, define_route, define_table, define_referent, define_index, define_view, define_alignment, move_referent, drop_route, drop_table, drop_index, drop_view, drop_alignment, drop_referent, insert, remove, translate, select, total, explain, open_cursor, fetch, close_cursor, save, reopen}
 use Rattle.rs_machine.specs.declared.limits.TheConstants.{ROUTES, REFERENTS, TABLES, INDEXES, VIEWS, ALIGNMENTS, PIECES, CHANGES, CURSORS}
 use Rattle.rs_machine.specs.State.{State, RowText, no_cursors, world_of, has, some_cursor, cursors_at}
-use Rattle.rs_machine.specs.Checks.{◌>>=◌, unless, route_named, table_named, view_named, alignment_named, index_named, cursor_named, pieces_checked, has_table_or_view, has_referent, position_on, event_span, location_kind, window_span, window_route, same_kind, some_name_twice, column_names, row_fits}
+use Rattle.rs_machine.specs.Checks.{◌>>=◌, unless, route_named, table_named, view_named, alignment_named, index_named, cursor_named, pieces_checked, has_table_or_view, has_referent, position_on, event_span, location_kind, window_span, window_route, same_kind, some_name_twice, column_names, column_types, row_fits}
 use Rattle.rs_machine.specs.Opening.{some_view, names_query, names_alignment, names_route, names_referent, some_piece_on}
 use Rattle.rs_machine.specs.Checking.{column_place, checked, removal_checked, columns_in, group_checked, summed_checked}
 
@@ -73,6 +74,7 @@ table_defined state kind name columns = do
   _ ← unless (not (has_table_or_view state name)) NameTaken
   _ ← unless (not (some_name_twice (column_names columns))) ColumnTwice
   _ ← unless (nat_le (length columns) COLUMNS) Limit
+  _ ← unless (nat_le (row_width (column_types columns)) ROW_BYTES) Limit
   _ ← unless (nat_lt (names.len state.tables) TABLES) Limit
   _ ← may_change state
   Ok (counted 0 (with_table state name (empty_table kind columns)))

@@ -6,7 +6,8 @@ use Rattle.std.proofs.lemmas.Bool.{ltb-true, leb-true, and_parts}
 use Rattle.rs_refusal.specs.declared.refusal.Refusal.{Refusal}
 use Rattle.rs_refusal.specs.declared.refusal.Refusal.TheVariants.{InUse, NameTaken, NoSuchRoute, NoSuchName, NoSuchReferent, Limit, EmptySpan, PointOrLineWanted, ColumnTwice, NoSuchCursor, CursorNameTaken, TooManyCursors}
 use Rattle.rs_value.specs.declared.column.Kind.{Kind}
-use Rattle.rs_value.specs.declared.column.TheConstants.{COLUMNS}
+use Rattle.rs_value.specs.declared.column.TheConstants.{COLUMNS, ROW_BYTES}
+use Rattle.rs_value.specs.Encoding.{row_width}
 use Rattle.rs_value.specs.Row.{Row}
 use Rattle.rs_facts.specs.Fact.{Name, Names}
 use Rattle.rs_facts.specs.Insert.{same_name}
@@ -18,7 +19,7 @@ use Rattle.rs_methods.specs.declared.position.Method.{Method}
 use Rattle.rs_syntax.specs.Tree.{EventLocationTree, WindowTree, PieceTree, ConditionTree, QueryTree, CommandTree, define_route, define_table, define_referent, define_index, define_view, define_alignment, move_referent, drop_route, drop_table, drop_index, drop_view, drop_alignment, drop_referent, insert, remove, translate, select, total, explain, open_cursor, fetch, close_cursor, save, reopen}
 use Rattle.rs_syntax.specs.Sound.{IsName, IsQuery, IsSound}
 use Rattle.rs_machine.specs.State.{State, no_cursors, has, cursors_at}
-use Rattle.rs_machine.specs.Checks.{◌>>=◌, unless, route_named, table_named, view_named, alignment_named, index_named, cursor_named, pieces_checked, has_table_or_view, has_referent, position_on, event_span, location_kind, window_span, window_route, same_kind, some_name_twice, column_names, row_fits}
+use Rattle.rs_machine.specs.Checks.{◌>>=◌, unless, route_named, table_named, view_named, alignment_named, index_named, cursor_named, pieces_checked, has_table_or_view, has_referent, position_on, event_span, location_kind, window_span, window_route, same_kind, some_name_twice, column_names, column_types, row_fits}
 use Rattle.rs_machine.specs.Opening.{some_view, names_query, names_alignment, names_route, names_referent, some_piece_on}
 use Rattle.rs_machine.specs.Checking.{column_place, checked, removal_checked, columns_in, group_checked, summed_checked}
 use Rattle.rs_machine.specs.declared.limits.TheConstants.{ROUTES, REFERENTS, TABLES, INDEXES, VIEWS, ALIGNMENTS, PIECES, CHANGES, SESSIONS, CURSORS}
@@ -154,6 +155,7 @@ table_defined-lawful state kind name columns sound lawful =
     through (unless (not (has_table_or_view state name)) NameTaken) _ (λ u new.
     through (unless (not (some_name_twice (column_names columns))) ColumnTwice) _ (λ v once.
     through (unless (nat_le (length columns) COLUMNS) Limit) _ (λ w few.
+    through (unless (nat_le (row_width (column_types columns)) ROW_BYTES) Limit) _ (λ z narrow.
     through (unless (nat_lt (names.len state.tables) TABLES) Limit) _ (λ x room.
     through (may_change state) _ (λ y change. record {
       lawful = table_put state name (empty_table kind columns) lawful
@@ -163,6 +165,7 @@ table_defined-lawful state kind name columns sound lawful =
           (table-empty state.routes name kind columns sound.0 (record {
             some = sound.1;
             few = leb-true (length columns) COLUMNS (passed _ Limit w few);
+            narrow = leb-true (row_width (column_types columns)) ROW_BYTES (passed _ Limit z narrow);
             sound = sound.2;
             distinct = distinct (column_names columns) (not_true (some_name_twice (column_names columns)) (passed _ ColumnTwice v once));
           }))
@@ -171,7 +174,7 @@ table_defined-lawful state kind name columns sound lawful =
           lawful.indexes)
           (len_more state.tables name (empty_table kind columns) TABLES (passed _ Limit x room))
           (one_change state y change);
-    })))))
+    }))))))
 
 -- a table that is there has other facts
 table_changed : (state : State) (name : Name) (table changed : Table) → IsLawful state → names.get state.tables name ≡ Some table → changed.kind ≡ table.kind → changed.columns ≡ table.columns → IsTable state.routes name changed → state.changes + 1 ≤ CHANGES → IsLawful (with_table state name changed)

@@ -13,7 +13,6 @@ use Rattle.rs_catalog.specs.Definitions.{AreDefinitions, Definitions, IsColumnOf
 use Rattle.rs_catalog_pages.specs.Items.{CatalogueItems, IndexItem, TableItem}
 use Rattle.rs_catalog_pages.proofs.Counting.{times-cons}
 use Rattle.rs_facts.specs.Fact.{Name}
-use Rattle.rs_facts.specs.Query.{Column}
 use Rattle.rs_file.specs.Contents.{index_numbers, table_numbers, type_of}
 use Rattle.rs_file.specs.Slots.{indexes_on}
 use Rattle.rs_machine.specs.Checks.{column_types}
@@ -27,9 +26,9 @@ use Rattle.rs_store.specs.Indexing.{HasIndexListed, position_among, those_before
 use Rattle.rs_store.proofs.Given.{found_once}
 use Rattle.rs_store.proofs.Placed.{at_place, columns_listed, entry_there}
 use Rattle.rs_store.proofs.Tabled.{none_wider}
-use Rattle.rs_value.specs.Encoding.{width}
+use Rattle.rs_value.specs.Encoding.{row_width, width}
 use Rattle.rs_value.specs.declared.column.ColumnType.{ColumnType}
-use Rattle.rs_value.specs.declared.column.TheConstants.{COLUMNS, TEXT_BYTES}
+use Rattle.rs_value.specs.declared.column.TheConstants.{ROW_BYTES, TEXT_BYTES}
 
 -- ---- numbers
 
@@ -134,7 +133,7 @@ index_less was now one more once =
 -- ---- the table of an index
 
 abbrev pub LinesFitIndexes : Type 0
-LinesFitIndexes = (types : List ColumnType) → length types ≤ COLUMNS → AllByRecursion (λ type. width type ≤ TEXT_BYTES + 1) types → (column : ℕ) → FitsPages types column
+LinesFitIndexes = (types : List ColumnType) → row_width types ≤ ROW_BYTES → AllByRecursion (λ type. width type ≤ TEXT_BYTES + 1) types → (column : ℕ) → FitsPages types column
 
 -- a table is listed at the place of its number
 pub table_listed : (definitions : Definitions) (name : Name) (table : catalog.TableItem) (place : ℕ) → names.get definitions.tables name ≡ Some table
@@ -166,5 +165,5 @@ index_listed law before now was name item place are listed is more of columns pl
       of_table = sym of.numbered;
       below = omega (arith, of.below, length-map of.table.columns listed_column);
       fits = subst (λ (ts : List ColumnType). FitsPages ts item.column) (sym (columns_listed of.table.columns columns.sound))
-          (law (column_types of.table.columns) (omega (arith, columns.few, length-map of.table.columns (λ (column : Column). column.1))) (none_wider of.table.columns columns.sound) item.column);
+          (law (column_types of.table.columns) columns.narrow (none_wider of.table.columns columns.sound) item.column);
     }

@@ -34,10 +34,10 @@ use Rattle.rs_stored_catalog.specs.Relisting.{HasTableMore}
 use Rattle.rs_store.proofs.Given.{place_of}
 use Rattle.rs_store.proofs.Placed.{columns_listed, comes_from}
 use Rattle.rs_syntax.specs.Sound.{AreColumns}
-use Rattle.rs_value.specs.Encoding.{width}
+use Rattle.rs_value.specs.Encoding.{row_width, width}
 use Rattle.rs_value.specs.declared.column.ColumnType.{ColumnType}
 use Rattle.rs_value.specs.declared.column.ColumnType.TheVariants.{Int, Text}
-use Rattle.rs_value.specs.declared.column.TheConstants.{COLUMNS, TEXT_BYTES}
+use Rattle.rs_value.specs.declared.column.TheConstants.{COLUMNS, ROW_BYTES, TEXT_BYTES}
 use Rattle.rs_versioned.specs.Events.{event_width}
 
 -- ---- places
@@ -117,9 +117,9 @@ changes_by oldest old new was is change other (Err why) gives changes = tt
 
 -- ---- columns
 
--- what is said of tables whose columns a line can name
+-- what is said of tables whose rows are no wider than a line can ask for
 abbrev pub LinesFit : Type 0
-LinesFit = (types : List ColumnType) → length types ≤ COLUMNS → AllByRecursion (λ type. width type ≤ TEXT_BYTES + 1) types → 3 * (8 + event_width types) ≤ 4080
+LinesFit = (types : List ColumnType) → row_width types ≤ ROW_BYTES → 3 * (8 + event_width types) ≤ 4080
 
 pub none_wider : (columns : List Column) → AreColumns columns → AllByRecursion (λ type. width type ≤ TEXT_BYTES + 1) (column_types columns)
 none_wider [] are = tt
@@ -129,7 +129,7 @@ none_wider ((name, Text most) ∷ columns) are = (omega (arith, are.1.1), none_w
 -- three entries of the tree of a table with columns that a table may have fit a page
 pub columns_fit : LinesFit → (columns : List Column) → AreColumnsOfTable columns → 3 * (8 + event_width (map type_of (map listed_column columns))) ≤ 4080
 columns_fit law columns are = subst (λ (types : List ColumnType). 3 * (8 + event_width types) ≤ 4080) (sym (columns_listed columns are.sound))
-    (law (column_types columns) (omega (arith, are.few, length-map columns (λ (column : Column). column.1))) (none_wider columns are.sound))
+    (law (column_types columns) are.narrow)
 
 -- a table that was defined is listed once more
 pub numbered_more : LinesFit → (before now : Definitions) (was : CatalogueItems) (name : Name) (item : catalog.TableItem) → listing_of before ≡ was → now ≡ with_table before name item

@@ -3,10 +3,13 @@
 use arrayvec::ArrayVec;
 
 /// How many columns a table or a query has at the most.
-pub const COLUMNS: usize = 12;
+pub const COLUMNS: usize = 16;
 
 /// How many bytes of UTF-8 a text has at the most.
-pub const TEXT_BYTES: usize = 40;
+pub const TEXT_BYTES: usize = 120;
+
+/// How many bytes a row of a table takes at the most in a record: the widths of its columns together, whatever its values are.
+pub const ROW_BYTES: usize = 960;
 
 /// Whether a table or a query holds point events, at one thousandth each, or line events, along spans.
 #[derive(Clone, Copy, PartialEq, Eq, Debug)]

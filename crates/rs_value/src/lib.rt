@@ -23,7 +23,7 @@ pub mod row_text;
 pub mod text;
 pub mod value;
 
-pub use column::{COLUMNS, ColumnType, Kind, Schema, TEXT_BYTES};
+pub use column::{COLUMNS, ColumnType, Kind, ROW_BYTES, Schema, TEXT_BYTES};
 pub use comparison::Comparison;
 pub use encoding::{column_width, decode, encode, row_width};
 pub use encoding_laws::{

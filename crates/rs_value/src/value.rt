@@ -18,8 +18,8 @@ pub enum Value {
     Text(ArrayString<TEXT_BYTES>),
 }
 
-/// A row on the stack: one value for each column, from the left. It has room for `COLUMNS` values, some 600 bytes,
-/// so it goes by reference. A row that is kept is a `KeptRow`.
+/// A row on the stack: one value for each column, from the left. It has room for `COLUMNS` values, some 2,200
+/// bytes, so it goes by reference. A row that is kept is a `KeptRow`.
 pub type Tuple = ArrayVec<Value, COLUMNS>;
 
 /// A value as a line writes it, of any length.

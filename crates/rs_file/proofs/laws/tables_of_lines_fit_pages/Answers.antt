@@ -1,4 +1,4 @@
--- The widths of so many columns, added up.
+-- Rows and columns that are not wide.
 use Rattle.rs_file.proofs.Widths.{index_fits, table_fits}
 use Rattle.rs_file.proofs.laws.tables_of_lines_fit_pages.Goals as goal
 

@@ -1,12 +1,14 @@
 -- A table that is defined.
 use Rattle.std.proofs.Common.{◌≡◌, ◌∙◌, ℕ, List, [], Err, Ok, ap, refl, subst, sym, length, ◌≤◌}
 use Rattle.std.proofs.lemmas.List.{length-map}
-use Rattle.rs_value.specs.declared.column.TheConstants.{COLUMNS}
+use Rattle.rs_value.specs.Encoding.{row_width}
+use Rattle.rs_value.specs.declared.column.TheConstants.{COLUMNS, ROW_BYTES}
 use Rattle.std.proofs.lemmas.Result.{err_from_is_err_and}
 use Rattle.rs_engine.specs.Kept.{EngineState}
 use Rattle.rs_engine.specs.Replied.{count_reply_of}
 use Rattle.rs_engine.proofs.Staying.{leaves_at_once, leaves_made, leaves_refused}
 use Rattle.rs_engine.proofs.Stepping.{IsStep, change_made, change_refused, check_refused}
+use Rattle.rs_machine.specs.Checks.{column_types}
 use Rattle.rs_machine.specs.State.{State}
 use Rattle.rs_syntax.specs.Tree as tree
 use Rattle.rs_machine.specs.Step.{counted, empty_table, outcome, with_table}
@@ -28,7 +30,9 @@ is_step kind name columns = record { beside = λ cursors state. refl; none = λ 
 
 pub define_table-requires-clause-columns : goal.define_table-requires-clause-columns
 define_table-requires-clause-columns g c = columns_accepted _ c.args.kind c.args.name.bytes (map column_tree c.args.columns.items) _ c.requires.sound.1 c.requires.sound.2
-    (subst (λ (n : ℕ). n ≤ COLUMNS) (sym (length-map c.args.columns.items column_tree)) (subst (λ (xs : List ColumnDefinition). length xs ≤ COLUMNS) c.deref.ensures.value c.in_ok-check_new_table.ensures.few_columns)) ((subst (λ (xs : List ColumnDefinition). (unseen : Unseen) → outcome (state_by c.checks.result unseen) 0 (tree.define_table c.args.kind c.args.name.bytes (map column_tree xs)) ≡ Ok (counted 0 (next_of c.args.kind c.args.name.bytes (map column_tree xs) (state_by c.checks.result unseen)))) c.deref.ensures.value c.in_ok-check_new_table.ensures.accepted) (record { spans = λ table route. []; lines = λ cursor. [] }))
+    (subst (λ (n : ℕ). n ≤ COLUMNS) (sym (length-map c.args.columns.items column_tree)) (subst (λ (xs : List ColumnDefinition). length xs ≤ COLUMNS) c.deref.ensures.value c.in_ok-check_new_table.ensures.few_columns))
+    (subst (λ (xs : List ColumnDefinition). row_width (column_types (map column_tree xs)) ≤ ROW_BYTES) c.deref.ensures.value c.in_ok-check_new_table.ensures.narrow_rows)
+    ((subst (λ (xs : List ColumnDefinition). (unseen : Unseen) → outcome (state_by c.checks.result unseen) 0 (tree.define_table c.args.kind c.args.name.bytes (map column_tree xs)) ≡ Ok (counted 0 (next_of c.args.kind c.args.name.bytes (map column_tree xs) (state_by c.checks.result unseen)))) c.deref.ensures.value c.in_ok-check_new_table.ensures.accepted) (record { spans = λ table route. []; lines = λ cursor. [] }))
 
 pub returns-in_err-check_new_table : goal.returns-in_err-check_new_table
 returns-in_err-check_new_table g c =
