@@ -244,10 +244,11 @@ pub record StayOpen (kind : Kind) (xs : List Span) (next : ℕ) (opened stay : L
 
 pub turn-push : (kind : Kind) (given xs ys : List Span) (made next : ℕ) (opened stay pushed : List ℕ) (are_all has_room both : Bool) → Turn kind given xs made next opened are_all → next < length xs
     → ((i : ℕ) (d : Span) → Contains opened i → joins kind (seen (get_or xs i d)) (seen (get_or xs next d)) ≡ false)
-    → StayOpen kind xs next opened stay has_room → (both ≡ true → (are_all ≡ true) × (has_room ≡ true)) → pushed ≡ stay ++ made ∷ []
+    → StayOpen kind xs next opened stay has_room → (both ≡ true → (are_all ≡ true) × (has_room ≡ true))
+    → ((i : ℕ) → Contains pushed i → Contains (stay ++ made ∷ []) i) → (both ≡ true → pushed ≡ stay ++ made ∷ [])
     → IsPermutation xs ys → length ys ≡ length xs → SwappedAt xs ys made next
     → Turn kind given ys (made + 1) (next + 1) pushed both
-turn-push kind given xs ys made next opened stay pushed are_all has_room both t inside none stays parts push moved long swapped =
+turn-push kind given xs ys made next opened stay pushed are_all has_room both t inside none stays parts some push moved long swapped =
     let below = t.below in
     record {
       below = omega (arith, below);
@@ -265,7 +266,7 @@ turn-push kind given xs ys made next opened stay pushed are_all has_room both t 
       rising = λ i j d from on within.
           let h = t.rising i j d (omega (arith, from)) on (omega (arith, within, long)) in
           omega (arith, h, ap (λ (s : Span). s.lo) (beyond i d from), ap (λ (s : Span). s.lo) (beyond j d (omega (arith, from, on))));
-      within = λ i among. elim (Contains-append_cases stay (made ∷ []) i (subst (λ l. Contains l i) push among)) [
+      within = λ i among. elim (Contains-append_cases stay (made ∷ []) i (some i among)) [
         | inl h ↦ let l = t.within i (stays.kept i h) in omega (arith, l)
         | inr h ↦ let e = alone made i h in omega (arith, e)
       ];
@@ -280,7 +281,7 @@ turn-push kind given xs ys made next opened stay pushed are_all has_room both t 
         ]
       ];
       closed = λ all i l. elim (cases_eq i made) [
-        | inl e ↦ inl (subst (λ l. Contains l i) (sym push) (Contains-append_right stay (made ∷ []) i (0, omega arith, sym e)))
+        | inl e ↦ inl (subst (λ l. Contains l i) (sym (push all)) (Contains-append_right stay (made ∷ []) i (0, omega arith, sym e)))
         | inr n ↦
             let l' : i < made = omega (arith, l, n) in
             elim (t.closed (parts all).0 i l') [
@@ -315,7 +316,7 @@ turn-push kind given xs ys made next opened stay pushed are_all has_room both t 
 
     shut : both ≡ true → (i : ℕ) → i < made → Contains opened i → Contains pushed i ⊎ IsClosed kind ys (next + 1) i
     shut all i l among = elim (stays.closed (parts all).1 i among) [
-      | inl h ↦ inl (subst (λ l. Contains l i) (sym push) (Contains-append_left stay (made ∷ []) i h))
+      | inl h ↦ inl (subst (λ l. Contains l i) (sym (push all)) (Contains-append_left stay (made ∷ []) i h))
       | inr h ↦ inr (λ j d from within.
           let far = h d in
           let on = t.rising next j d (omega arith) (omega (arith, from)) (omega (arith, within, long)) in

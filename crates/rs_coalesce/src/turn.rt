@@ -50,9 +50,10 @@ fn join_each(kind: Kind, spans: &mut [Span]) -> (usize, bool)
                 spans[at].hi = hi;
             }
             None => {
-                let has_room = make_room(kind, spans, &mut opened, next);
-                are_all = are_all && has_room;
-                opened.push(made);
+                are_all = are_all && make_room(kind, spans, &mut opened, next);
+                if are_all {
+                    opened.push(made);
+                }
                 spans.swap(made, next);
                 made += 1;
             }

@@ -1,6 +1,6 @@
 -- What a crash leaves of an engine while it takes steps, one after another.
 use Rattle.std.proofs.Common.{refl, subst}
-use Rattle.std.specs.Prelude.{◌≡◌, ◌⊎◌, ◌≤◌, ◌++◌, ℕ, IsTrue, List, [], ◌∷◌}
+use Rattle.std.specs.Prelude.{◌≡◌, ◌⊎◌, ◌≤◌, ◌++◌, ℕ, List, [], ◌∷◌}
 use Rattle.rs_disk.specs.Content.{Content}
 use Rattle.rs_disk.specs.declared.disk.Disk as disk
 use Rattle.rs_engine.specs.Files.{SavesWhereAsked, WhereSaved}

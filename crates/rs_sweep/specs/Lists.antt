@@ -1,5 +1,5 @@
 -- What is said of lists of spans beside their meaning: order, width, kind, and how many pairs of them share a thousandth.
-use Rattle.std.specs.Prelude.{◌≡◌, ℕ, ◌+◌, ◌≤◌, min, max, Bool, nat_lt, List, [], ◌∷◌, length, sum_by, count_by}
+use Rattle.std.specs.Prelude.{◌≡◌, ℕ, ◌≤◌, min, max, Bool, nat_lt, List, [], ◌∷◌, length, sum_by, count_by}
 use Rattle.std.specs.List.{AllByRecursion}
 use Rattle.rs_facts.specs.Runs.{Stretch}
 

@@ -1,14 +1,13 @@
 //! A value that is lent by the row that holds it.
 
 ghost use Rattle.std.specs.Prelude.{◌≡◌};
-ghost use Rattle.rs_value.specs.Kept.{IsShort, MayBeKept};
+ghost use Rattle.rs_value.specs.Kept.{IsShort};
 ghost use Rattle.rs_value.specs.Row as rows;
 ghost use Rattle.rs_value.specs.LentView.{lent_datum};
 ghost use Rattle.rs_value.specs.Values.{IsValue};
 ghost use Rattle.rs_value.specs.View.{datum_of};
 
 use crate::value::Value;
-use arrayvec::ArrayString;
 use std::str;
 
 /// A value in a column of a row, lent.
@@ -20,25 +19,6 @@ pub enum LentValue<'a> {
     Int(i64),
     /// A text, of UTF-8 without the bytes 0 to 31 and 127.
     Text(&'a [u8]),
-}
-
-impl LentValue<'_> {
-    /// The value, with a text copied.
-    pub fn value(self) -> Value
-        requires { MayBeKept (lent_datum self) }
-        ensures { datum_of result ≡ lent_datum self.entry }
-    {
-        match self {
-            LentValue::Null => Value::Null,
-            LentValue::Int(number) => Value::Int(number),
-            LentValue::Text(bytes) => {
-                match ArrayString::from(text_in(bytes)) {
-                    Ok(text) => Value::Text(text),
-                    Err(_) => unreachable!(),
-                }
-            }
-        }
-    }
 }
 
 /// The bytes of a text, as a text.

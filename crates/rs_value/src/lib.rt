@@ -40,6 +40,6 @@ pub use kept_laws::{
 pub use kept_text::push_lent;
 pub use lent::LentValue;
 pub use row_order::{row_order_is_total, tied_rows_are_equal};
-pub use row_text::{push_doubled, push_value};
+pub use row_text::push_doubled;
 pub use text::{as_text, has_control};
 pub use value::{Literal, Tuple, Value};

@@ -1,5 +1,5 @@
 -- The store stands in the state that the disk stood for, and there are no cursors; or the disk was handed back.
-use Rattle.std.proofs.Common.{Ok, ap, arith, subst, sym}
+use Rattle.std.proofs.Common.{Ok, arith, subst, sym}
 use Rattle.std.proofs.lemmas.Result.{err_from_is_err_and}
 use Rattle.rs_engine.proofs.Filing.{begins_opened, opens_err, opens_ok}
 use Rattle.rs_store_source.specs.Calls.{PreservesFile}
