@@ -11,12 +11,12 @@ use Rattle.rs_machine.specs.Request.{unreadable, no_command, command, BeginsWith
 use Rattle.rs_machine.specs.Answered.{answer}
 use Rattle.rs_serve.specs.Said.{IsSaid}
 use Rattle.rs_protocol.specs.declared.stream.Fault.{Fault}
-use Rattle.rs_protocol.specs.Inner.{Puts, PutsAnswer, IsRequest}
+use Rattle.rs_protocol.specs.Inner.{PutsLater, PutsAnswer, IsRequest}
 
 -- a line that is no line of a session
-pub answers_unreadable : (T : Type 0) (result : Result T Fault) (line : List ℕ) (refusal : Refusal) (machine : Machine) (a b : Option (List ℕ))
-    → line_refusal line ≡ Some refusal → Puts result (refusal_text 0 refusal) a b → PutsAnswer result line machine machine a b
-answers_unreadable T result line refusal machine a b is_refused puts =
+pub answers_unreadable : (T : Type 0) (result : Result T Fault) (line : List ℕ) (refusal : Refusal) (machine : Machine) (pending now : List ℕ) (a b : Option (List ℕ))
+    → line_refusal line ≡ Some refusal → PutsLater result (refusal_text 0 refusal) pending now a b → PutsAnswer result line machine machine pending now a b
+answers_unreadable T result line refusal machine pending now a b is_refused puts =
     record { given = answer 0 (refused refusal); answered = inl (unreadable refusal, is_refused, (refl, refl)); put = puts }
 
 begins_with : (line text : List ℕ) (session digits : ℕ) → IsRequest line text session digits → BeginsWith line session digits
@@ -38,10 +38,10 @@ pub request_says : (line text : List ℕ) (session digits : ℕ) (tree : Command
 request_says line text session digits tree request reads = record { line = line; asks = session_reads line text session digits (Ok tree) request reads }
 
 -- a line that is no command, or was not read
-pub answers_refused : (T : Type 0) (result : Result T Fault) (line text : List ℕ) (session digits : ℕ) (refusal : Refusal) (machine : Machine) (a b : Option (List ℕ))
+pub answers_refused : (T : Type 0) (result : Result T Fault) (line text : List ℕ) (session digits : ℕ) (refusal : Refusal) (machine : Machine) (pending now : List ℕ) (a b : Option (List ℕ))
     → IsRequest line text session digits → (refusal ≡ OutOfMemory) ⊎ Reads text digits (Err refusal)
-    → Puts result (refusal_text session refusal) a b → PutsAnswer result line machine machine a b
-answers_refused T result line text session digits refusal machine a b request why puts =
+    → PutsLater result (refusal_text session refusal) pending now a b → PutsAnswer result line machine machine pending now a b
+answers_refused T result line text session digits refusal machine pending now a b request why puts =
     record {
       given = answer session (refused refusal);
       answered = elim why [
@@ -58,10 +58,10 @@ answers_refused T result line text session digits refusal machine a b request wh
     }
 
 -- a command, served
-pub answers_command : (T : Type 0) (result : Result T Fault) (line text : List ℕ) (session digits : ℕ) (tree : CommandTree) (reply : Reply) (old new : Machine) (a b : Option (List ℕ))
+pub answers_command : (T : Type 0) (result : Result T Fault) (line text : List ℕ) (session digits : ℕ) (tree : CommandTree) (reply : Reply) (old new : Machine) (pending now : List ℕ) (a b : Option (List ℕ))
     → IsRequest line text session digits → Reads text digits (Ok tree) → Served old session tree reply new
-    → Puts result (reply_text session reply) a b → PutsAnswer result line old new a b
-answers_command T result line text session digits tree reply old new a b request reads served puts =
+    → PutsLater result (reply_text session reply) pending now a b → PutsAnswer result line old new pending now a b
+answers_command T result line text session digits tree reply old new pending now a b request reads served puts =
     record {
       given = answer session reply;
       answered = inl (command session tree, session_reads line text session digits (Ok tree) request reads, (refl, served));

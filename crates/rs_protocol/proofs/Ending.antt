@@ -19,12 +19,16 @@ abbrev pub Ended : Result End Fault → Machine → Machine → Option (List ℕ
 Ended result old new unread left before after = (told : List ℕ) × Consumes unread left told × Ends result told left old new before after
 
 pub under_way : (kept : List ℕ) (machine : Machine) (unread a : Option (List ℕ)) → kept ≡ [] → IsUnderWay kept machine machine unread unread a a
-under_way kept machine unread a none = record { told = []; consumed = Consumes-nil unread; served = IsServed-nothing kept machine a none }
+under_way kept machine unread a none = record { told = []; consumed = Consumes-nil unread; served = IsServed-nothing kept [] machine a none refl }
+
+-- what is pending is nothing
+pub served_as : (kept pending told : List ℕ) (old new : Machine) (a b : Option (List ℕ)) → pending ≡ [] → IsServed kept [] told old new a b → IsServed kept pending told old new a b
+served_as kept pending told old new a b none = subst (λ p. IsServed kept p told old new a b) (sym none)
 
 -- a piece was read and served
 pub under_way_on : (kept kept' piece : List ℕ) (old mid new : Machine) (unread mid_unread left a b c : Option (List ℕ))
     → Consumes mid_unread left piece → (way : IsUnderWay kept old mid unread mid_unread a b)
-    → IsServed kept' (way.told ++ piece) old new a c → IsUnderWay kept' old new unread left a c
+    → IsServed kept' [] (way.told ++ piece) old new a c → IsUnderWay kept' old new unread left a c
 under_way_on kept kept' piece old mid new unread mid_unread left a b c consumes way served = record {
   told = way.told ++ piece;
   consumed = Consumes-trans unread mid_unread left way.told piece way.consumed consumes;
@@ -55,7 +59,7 @@ none_of_none rest none =
     let lengths : min KEPT_BYTES (length rest) ≡ 0 = sym (length-take KEPT_BYTES rest) ∙ ap length none in
     nothing_long rest (omega (arith, lengths))
 
-pub end_kept : (kept told : List ℕ) (left : Option (List ℕ)) (old new : Machine) (a b : Option (List ℕ)) → IsAtEnd left → IsServed kept told old new a b
+pub end_kept : (kept told : List ℕ) (left : Option (List ℕ)) (old new : Machine) (a b : Option (List ℕ)) → IsAtEnd left → IsServed kept [] told old new a b
     → (empty : Bool) → (length kept == 0) ≡ empty → Ends (Ok (if empty then Whole else CutLine)) told left old new a b
 end_kept kept told left old new a b at_end served true none =
     let all = WroteAll-served kept told old new a b served in

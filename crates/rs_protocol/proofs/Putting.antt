@@ -100,19 +100,6 @@ flat_map-map : (X Y Z : Type 0) (text : Y → List Z) (seen : X → Y) (parts : 
 flat_map-map X Y Z text seen [] = refl
 flat_map-map X Y Z text seen (part ∷ parts) = ap (λ l. text (seen part) ++ l) (flat_map-map X Y Z text seen parts)
 
--- the same of parts whose texts are made of what they show
-pub Puts-stops-in : (T U X : Type 0) (fault : Fault) (text : List ℕ → List ℕ) (seen : X → List ℕ) (parts : List X) (i : ℕ) (d : X) (shown : List ℕ) (a b c : Option (List ℕ))
-    → i < length parts → shown ≡ seen (get_or parts i d) → Appends a b (flat_map text (map seen (take i parts)))
-    → Puts {T = T} (Err fault) (text shown) b c → Puts {T = U} (Err fault) (flat_map text (map seen parts)) a c
-Puts-stops-in T U X fault text seen parts i d shown a b c within shown_is first stop =
-    let made : X → List ℕ = λ part. text (seen part) in
-    let P : List ℕ → Type 0 = λ l. Puts {T = U} (Err fault) l a c in
-    let Q : List ℕ → Type 0 = λ l. Puts {T = T} (Err fault) l b c in
-    subst P (sym (flat_map-map X (List ℕ) ℕ text seen parts))
-    (Puts-stops-at T U X fault made parts i d a b c within
-    (subst (Appends a b) (flat_map-map X (List ℕ) ℕ text seen (take i parts)) first)
-    (subst Q (ap text shown_is) stop))
-
 -- ---- what is held back
 
 -- more after what was pending
@@ -140,11 +127,19 @@ PutsBut-then T (Err fault) all pending a b c first then =
       ),
     )
 
+-- nothing is pending any more
+pub PutsBut-done : (bytes : List ℕ) (a b : Option (List ℕ)) → Appends a b bytes → PutsBut bytes [] a b
+PutsBut-done bytes a b put = record { front = bytes; whole = sym (append-nil bytes); put = put }
+
 -- all of them are held back
 pub PutsLater-held : (pending bytes now : List ℕ) (a : Option (List ℕ)) → now ≡ pending ++ bytes → PutsBut (pending ++ bytes) now a a
 PutsLater-held pending bytes now a is = subst (λ l. PutsBut (pending ++ bytes) l a a) (sym is) (PutsBut-nothing (pending ++ bytes) a)
 
--- nothing is pending any more
+-- what was pending is put, and they are held back
+pub PutsLater-anew : (pending bytes now none : List ℕ) (a b : Option (List ℕ)) → none ≡ [] → now ≡ none ++ bytes → Appends a b pending → PutsBut (pending ++ bytes) now a b
+PutsLater-anew pending bytes now none a b empty is put = record { front = pending; whole = ap (λ l. pending ++ l) (sym (is ∙ ap (λ l. l ++ bytes) empty)); put = put }
+
+-- they are put after what was pending
 pub PutsLater-after : (result : Result (Unit {0}) Fault) (bytes pending now : List ℕ) (a b c : Option (List ℕ)) → now ≡ [] → Appends a b pending → Puts result bytes b c → PutsLater result bytes pending now a c
 PutsLater-after (Ok done) bytes pending now a b c none first then = record {
   front = pending ++ bytes;
@@ -153,6 +148,48 @@ PutsLater-after (Ok done) bytes pending now a b c none first then = record {
 }
 PutsLater-after (Err fault) bytes pending now a b c none first then = Puts-then (Unit {0}) (Err fault) pending bytes a b c first then
 
+-- some bytes, and then others
+pub PutsLater-then : (T : Type 0) (result : Result T Fault) (xs ys pending mid now : List ℕ) (a b c : Option (List ℕ)) → PutsBut (pending ++ xs) mid a b → PutsLater result ys mid now b c → PutsLater result (xs ++ ys) pending now a c
+PutsLater-then T (Ok done) xs ys pending mid now a b c first then = subst (λ l. PutsBut l now a c) (append_assoc pending xs ys) (PutsBut-join (pending ++ xs) mid ys now a b c first then)
+PutsLater-then T (Err fault) xs ys pending mid now a b c first then =
+    (then.0, (then.1.0, then.1.1, subst (λ l. PutsBut l then.1.0 a c) (append_assoc pending xs ys) (PutsBut-join (pending ++ xs) mid ys then.1.0 a b c first then.1.2)))
+
+-- some bytes are not put whole, and nothing after them
+pub PutsLater-stops : (T : Type 0) (fault : Fault) (xs ys pending : List ℕ) (a b : Option (List ℕ)) → Puts {T = T} (Err fault) (pending ++ xs) a b → Puts {T = T} (Err fault) (pending ++ (xs ++ ys)) a b
+PutsLater-stops T fault xs ys pending a b stop =
+    let P : List ℕ → Type 0 = λ l. Puts {T = T} (Err fault) l a b in
+    subst P (append_assoc pending xs ys) (Puts-stops T T fault (pending ++ xs) ys a b stop)
+
+-- ---- parts of which each is held back
+
+-- none of them yet
+pub PutsLater-none : (pending : List ℕ) (a : Option (List ℕ)) → PutsBut (pending ++ []) pending a a
+PutsLater-none pending a = subst (λ l. PutsBut l pending a a) (sym (append-nil pending)) (PutsBut-nothing pending a)
+
+one_more : (first done more next pending now : List ℕ) (a b c : Option (List ℕ)) → next ≡ done ++ more → PutsBut (first ++ done) pending a b → PutsBut (pending ++ more) now b c → PutsBut (first ++ next) now a c
+one_more first done more next pending now a b c is before then =
+    subst (λ l. PutsBut l now a c) (append_assoc first done more ∙ ap (λ l. first ++ l) (sym is)) (PutsBut-join (first ++ done) pending more now a b c before then)
+
+one_stops : (fault : Fault) (first done more rest all pending : List ℕ) (a b c : Option (List ℕ)) → all ≡ (done ++ more) ++ rest → PutsBut (first ++ done) pending a b
+    → Puts {T = Unit {0}} (Err fault) (pending ++ more) b c → Puts {T = Unit {0}} (Err fault) (first ++ all) a c
+one_stops fault first done more rest all pending a b c is before stop =
+    let here : Puts {T = Unit {0}} (Err fault) ((first ++ done) ++ more) a c = (stop.0, (stop.1.0, stop.1.1, PutsBut-join (first ++ done) pending more stop.1.0 a b c before stop.1.2)) in
+    let P : List ℕ → Type 0 = λ l. Puts {T = Unit {0}} (Err fault) l a c in
+    subst P (append_assoc (first ++ done) more rest ∙ append_assoc first done (more ++ rest) ∙ ap (λ l. first ++ l) (sym (append_assoc done more rest) ∙ sym is))
+    (Puts-stops (Unit {0}) (Unit {0}) fault ((first ++ done) ++ more) rest a c here)
+
+pub PutsLater-part : (X : Type 0) (text : X → List ℕ) (parts : List X) (i : ℕ) (d : X) (first pending now : List ℕ) (a b c : Option (List ℕ)) → i < length parts
+    → PutsBut (first ++ flat_map text (take i parts)) pending a b → PutsBut (pending ++ text (get_or parts i d)) now b c → PutsBut (first ++ flat_map text (take (i + 1) parts)) now a c
+PutsLater-part X text parts i d first pending now a b c within = one_more first _ (text (get_or parts i d)) _ pending now a b c (flat_map-take-more X text parts i d within)
+
+pub PutsLater-stops-at : (X : Type 0) (fault : Fault) (text : X → List ℕ) (parts : List X) (i : ℕ) (d : X) (first pending : List ℕ) (a b c : Option (List ℕ)) → i < length parts
+    → PutsBut (first ++ flat_map text (take i parts)) pending a b → Puts {T = Unit {0}} (Err fault) (pending ++ text (get_or parts i d)) b c → Puts {T = Unit {0}} (Err fault) (first ++ flat_map text parts) a c
+PutsLater-stops-at X fault text parts i d first pending a b c within =
+    one_stops fault first (flat_map text (take i parts)) (text (get_or parts i d)) (flat_map text (drop (i + 1) parts)) (flat_map text parts) pending a b c
+    (sym (ap (λ l. l ++ flat_map text (drop (i + 1) parts)) (sym (flat_map-take-more X text parts i d within))
+    ∙ sym (flat_map-append text (take (i + 1) parts) (drop (i + 1) parts)) ∙ ap (flat_map text) (take-append-drop (i + 1) parts)))
+
+-- the same of parts whose texts are made of what they show
 shown-more : (X : Type 0) (text : List ℕ → List ℕ) (seen : X → List ℕ) (parts : List X) (i : ℕ) (d : X) (shown : List ℕ) → i < length parts → shown ≡ seen (get_or parts i d)
     → flat_map text (map seen (take (i + 1) parts)) ≡ flat_map text (map seen (take i parts)) ++ text shown
 shown-more X text seen parts i d shown within is =
@@ -160,23 +197,17 @@ shown-more X text seen parts i d shown within is =
     ∙ flat_map-take-more X (λ part. text (seen part)) parts i d within
     ∙ (λ j. sym (flat_map-map X (List ℕ) ℕ text seen (take i parts)) j ++ text (sym is j))
 
--- a part after those that are put but for what is pending
-pub PutsBut-part : (X : Type 0) (text : List ℕ → List ℕ) (seen : X → List ℕ) (parts : List X) (i : ℕ) (d : X) (shown pending now : List ℕ) (a b c : Option (List ℕ)) → i < length parts → shown ≡ seen (get_or parts i d)
-    → PutsBut (flat_map text (map seen (take i parts))) pending a b → PutsBut (pending ++ text shown) now b c → PutsBut (flat_map text (map seen (take (i + 1) parts))) now a c
-PutsBut-part X text seen parts i d shown pending now a b c within is first then =
-    subst (λ l. PutsBut l now a c) (sym (shown-more X text seen parts i d shown within is)) (PutsBut-join _ pending (text shown) now a b c first then)
+pub PutsLater-shown : (X : Type 0) (text : List ℕ → List ℕ) (seen : X → List ℕ) (parts : List X) (i : ℕ) (d : X) (shown first pending now : List ℕ) (a b c : Option (List ℕ)) → i < length parts → shown ≡ seen (get_or parts i d)
+    → PutsBut (first ++ flat_map text (map seen (take i parts))) pending a b → PutsBut (pending ++ text shown) now b c → PutsBut (first ++ flat_map text (map seen (take (i + 1) parts))) now a c
+PutsLater-shown X text seen parts i d shown first pending now a b c within is = one_more first _ (text shown) _ pending now a b c (shown-more X text seen parts i d shown within is)
 
--- a part that is not put whole
-pub PutsBut-stops : (X : Type 0) (fault : Fault) (text : List ℕ → List ℕ) (seen : X → List ℕ) (parts : List X) (i : ℕ) (d : X) (shown pending : List ℕ) (a b c : Option (List ℕ)) → i < length parts → shown ≡ seen (get_or parts i d)
-    → PutsBut (flat_map text (map seen (take i parts))) pending a b → Puts {T = Unit {0}} (Err fault) (pending ++ text shown) b c → Puts {T = Unit {0}} (Err fault) (flat_map text (map seen parts)) a c
-PutsBut-stops X fault text seen parts i d shown pending a b c within is first stop =
-    let here : Puts {T = Unit {0}} (Err fault) (flat_map text (map seen (take i parts)) ++ text shown) a c = (stop.0, (stop.1.0, stop.1.1, PutsBut-join _ pending (text shown) stop.1.0 a b c first stop.1.2)) in
+pub PutsLater-stops-in : (X : Type 0) (fault : Fault) (text : List ℕ → List ℕ) (seen : X → List ℕ) (parts : List X) (i : ℕ) (d : X) (shown first pending : List ℕ) (a b c : Option (List ℕ)) → i < length parts → shown ≡ seen (get_or parts i d)
+    → PutsBut (first ++ flat_map text (map seen (take i parts))) pending a b → Puts {T = Unit {0}} (Err fault) (pending ++ text shown) b c → Puts {T = Unit {0}} (Err fault) (first ++ flat_map text (map seen parts)) a c
+PutsLater-stops-in X fault text seen parts i d shown first pending a b c within is =
     let rest = flat_map text (map seen (drop (i + 1) parts)) in
-    let all : flat_map text (map seen (take i parts)) ++ text shown ++ rest ≡ flat_map text (map seen parts) =
-    ap (λ l. l ++ rest) (sym (shown-more X text seen parts i d shown within is))
+    one_stops fault first (flat_map text (map seen (take i parts))) (text shown) rest (flat_map text (map seen parts)) pending a b c
+    (sym (ap (λ l. l ++ rest) (sym (shown-more X text seen parts i d shown within is))
     ∙ (λ j. flat_map-map X (List ℕ) ℕ text seen (take (i + 1) parts) j ++ flat_map-map X (List ℕ) ℕ text seen (drop (i + 1) parts) j)
     ∙ sym (flat_map-append (λ part. text (seen part)) (take (i + 1) parts) (drop (i + 1) parts))
     ∙ ap (flat_map (λ part. text (seen part))) (take-append-drop (i + 1) parts)
-    ∙ sym (flat_map-map X (List ℕ) ℕ text seen parts) in
-    let P : List ℕ → Type 0 = λ l. Puts {T = Unit {0}} (Err fault) l a c in
-    subst P all (Puts-stops (Unit {0}) (Unit {0}) fault _ rest a c here)
+    ∙ sym (flat_map-map X (List ℕ) ℕ text seen parts)))

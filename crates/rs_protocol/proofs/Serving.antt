@@ -6,18 +6,17 @@ use Rattle.std.proofs.lemmas.Bool.{cases_lt}
 use Rattle.std.proofs.Math.ListN.{drop_of_length-le}
 use Rattle.std.proofs.lemmas.Grind.{flat_map-append}
 use Rattle.std.proofs.lemmas.Bool.Decides.{nat_tests}
-use Rattle.std.specs.Io.KnownBytes.{Appends}
-use Rattle.std.proofs.KnownBytes.{Appends-nil, Appends-trans}
 use Rattle.rs_refusal.specs.declared.refusal.Refusal.TheVariants.{LineTooLong}
 use Rattle.rs_machine.specs.Served.{Machine}
 use Rattle.rs_machine.specs.ReplyText.{reply_text}
 use Rattle.rs_machine.specs.Request.{Request, unreadable, no_command, command, Asks, line_refusal}
 use Rattle.rs_machine.specs.Answered.{Answer, AnswersLine, Answered, answers_text}
-use Rattle.rs_machine.specs.Stream.{IsCutIntoLines, StoppedWriting, LINE_FEED}
+use Rattle.rs_machine.specs.Stream.{IsCutIntoLines, LINE_FEED}
 use Rattle.rs_protocol.specs.declared.lines.TheConstants.{KEPT_BYTES}
 use Rattle.rs_protocol.specs.declared.stream.Fault.{Fault}
-use Rattle.rs_protocol.specs.Ends.{WroteAll, WroteFront}
-use Rattle.rs_protocol.specs.Inner.{PutsBut, PutsAnswer, IsServed, GoesOn}
+use Rattle.rs_protocol.specs.Ends.{StoppedWriting, WroteAll, WroteFront}
+use Rattle.rs_protocol.specs.Inner.{Puts, PutsBut, PutsAnswer, IsServed, GoesOn}
+use Rattle.rs_protocol.proofs.Putting.{PutsBut-nothing, PutsBut-all, PutsBut-done, PutsBut-join, PutsBut-then}
 use Rattle.rs_protocol.proofs.Cuts.{IsCutIntoLines-nothing, IsCutIntoLines-byte, IsCutIntoLines-feed, IsCutIntoLines-more, CutsOn}
 
 none_is_some : {A : Type 0} {x : A} → None ≡ Some x → ⊥
@@ -87,21 +86,21 @@ kept_same kept line byte full kept_is =
     kept_is ∙ sym (take-append-le KEPT_BYTES line (byte ∷ []) enough)
 
 -- nothing is told yet
-pub IsServed-nothing : (kept : List ℕ) (machine : Machine) (a : Option (List ℕ)) → kept ≡ [] → IsServed kept [] machine machine a a
-IsServed-nothing kept machine a none = record {
+pub IsServed-nothing : (kept pending : List ℕ) (machine : Machine) (a : Option (List ℕ)) → kept ≡ [] → pending ≡ [] → IsServed kept pending [] machine machine a a
+IsServed-nothing kept pending machine a none no_reply = record {
   lines = [];
   rest = [];
   cut = IsCutIntoLines-nothing;
   answers = [];
   answered = refl;
-  put = Appends-nil a;
+  put = subst (λ l. PutsBut [] l a a) (sym no_reply) (PutsBut-nothing [] a);
   kept_is = none;
 }
 
 -- a byte of the line begun is kept
-pub IsServed-kept : (kept kept' told : List ℕ) (byte : ℕ) (old new : Machine) (a b : Option (List ℕ)) → byte ≢ LINE_FEED → length kept < 4097 → kept' ≡ kept ++ byte ∷ []
-    → IsServed kept told old new a b → IsServed kept' (told ++ byte ∷ []) old new a b
-IsServed-kept kept kept' told byte old new a b other room kept_now served = record {
+pub IsServed-kept : (kept kept' pending told : List ℕ) (byte : ℕ) (old new : Machine) (a b : Option (List ℕ)) → byte ≢ LINE_FEED → length kept < 4097 → kept' ≡ kept ++ byte ∷ []
+    → IsServed kept pending told old new a b → IsServed kept' pending (told ++ byte ∷ []) old new a b
+IsServed-kept kept kept' pending told byte old new a b other room kept_now served = record {
   lines = served.lines;
   rest = served.rest ++ byte ∷ [];
   cut = IsCutIntoLines-byte told served.lines served.rest byte served.cut other;
@@ -112,9 +111,9 @@ IsServed-kept kept kept' told byte old new a b other room kept_now served = reco
 }
 
 -- a byte of the line begun is dropped, where enough of it is kept
-pub IsServed-dropped : (kept kept' told : List ℕ) (byte : ℕ) (old new : Machine) (a b : Option (List ℕ)) → byte ≢ LINE_FEED → length kept ≡ 4097 → kept' ≡ kept
-    → IsServed kept told old new a b → IsServed kept' (told ++ byte ∷ []) old new a b
-IsServed-dropped kept kept' told byte old new a b other full kept_now served = record {
+pub IsServed-dropped : (kept kept' pending told : List ℕ) (byte : ℕ) (old new : Machine) (a b : Option (List ℕ)) → byte ≢ LINE_FEED → length kept ≡ 4097 → kept' ≡ kept
+    → IsServed kept pending told old new a b → IsServed kept' pending (told ++ byte ∷ []) old new a b
+IsServed-dropped kept kept' pending told byte old new a b other full kept_now served = record {
   lines = served.lines;
   rest = served.rest ++ byte ∷ [];
   cut = IsCutIntoLines-byte told served.lines served.rest byte served.cut other;
@@ -125,39 +124,66 @@ IsServed-dropped kept kept' told byte old new a b other full kept_now served = r
 }
 
 -- the line begun ends, and is answered
-pub GoesOn-feed : (T : Type 0) (result : Result T Fault) (kept kept' told : List ℕ) (old mid new : Machine) (a b c : Option (List ℕ)) → kept' ≡ []
-    → IsServed kept told old mid a b → PutsAnswer result kept mid new b c → GoesOn result kept' (told ++ LINE_FEED ∷ []) old new a c
-GoesOn-feed T (Ok done) kept kept' told old mid new a b c emptied served answer = record {
+pub GoesOn-feed : (T : Type 0) (result : Result T Fault) (kept kept' pending now told : List ℕ) (old mid new : Machine) (a b c : Option (List ℕ)) → kept' ≡ []
+    → IsServed kept pending told old mid a b → PutsAnswer result kept mid new pending now b c → GoesOn result kept' now (told ++ LINE_FEED ∷ []) old new a c
+GoesOn-feed T (Ok done) kept kept' pending now told old mid new a b c emptied served answer = record {
   lines = served.lines ++ served.rest ∷ [];
   rest = [];
   cut = IsCutIntoLines-feed told served.lines served.rest served.cut;
   answers = served.answers ++ answer.given ∷ [];
   answered = Answered-more old mid new served.lines served.answers served.rest answer.given served.answered (line_answered kept served.rest answer.given mid new served.kept_is answer.answered);
-  put = subst (Appends a c) (sym (answers_text-more served.answers answer.given)) (Appends-trans a b c (answers_text served.answers) (reply_text answer.given.session answer.given.reply) served.put answer.put);
+  put = subst (λ l. PutsBut l now a c) (sym (answers_text-more served.answers answer.given)) (PutsBut-join (answers_text served.answers) pending (reply_text answer.given.session answer.given.reply) now a b c served.put answer.put);
   kept_is = emptied;
 }
-GoesOn-feed T (Err fault) kept kept' told old mid new a b c emptied served answer =
-    let puts : PutsBut (reply_text answer.given.session answer.given.reply) answer.put.1.0 b c = answer.put.1.2 in (
+GoesOn-feed T (Err fault) kept kept' pending now told old mid new a b c emptied served answer =
+    let puts : PutsBut (answers_text served.answers ++ reply_text answer.given.session answer.given.reply) answer.put.1.0 a c =
+    PutsBut-join (answers_text served.answers) pending (reply_text answer.given.session answer.given.reply) answer.put.1.0 a b c served.put answer.put.1.2 in (
       answer.put.0,
       record {
-        written = answers_text served.answers ++ puts.front;
-        put = Appends-trans a b c (answers_text served.answers) puts.front served.put puts.put;
+        written = puts.front;
+        put = puts.put;
         stopped = record {
-          lines = served.lines;
-          line = served.rest;
+          lines = served.lines ++ served.rest ∷ [];
           later = [];
           rest = [];
-          cut = IsCutIntoLines-feed told served.lines served.rest served.cut;
-          answers = served.answers;
-          between = mid;
-          answered = served.answered;
-          last = answer.given;
-          last_answered = line_answered kept served.rest answer.given mid new served.kept_is answer.answered;
-          front = puts.front;
+          cut = subst (λ l. IsCutIntoLines (told ++ LINE_FEED ∷ []) l []) (sym (append-nil (served.lines ++ served.rest ∷ []))) (IsCutIntoLines-feed told served.lines served.rest served.cut);
+          answers = served.answers ++ answer.given ∷ [];
+          answered = Answered-more old mid new served.lines served.answers served.rest answer.given served.answered (line_answered kept served.rest answer.given mid new served.kept_is answer.answered);
           lost = answer.put.1.0;
           some_lost = answer.put.1.1;
-          text = refl;
-          stopped_in = puts.whole;
+          text = answers_text-more served.answers answer.given ∙ puts.whole;
+        };
+      },
+    )
+
+-- what is pending is written
+pub GoesOn-put : (T : Type 0) (result : Result T Fault) (kept pending told : List ℕ) (old new : Machine) (a b c : Option (List ℕ))
+    → IsServed kept pending told old new a b → Puts result pending b c → GoesOn result kept [] told old new a c
+GoesOn-put T (Ok done) kept pending told old new a b c served puts = record {
+  lines = served.lines;
+  rest = served.rest;
+  cut = served.cut;
+  answers = served.answers;
+  answered = served.answered;
+  put = PutsBut-done (answers_text served.answers) a c (PutsBut-then T (Ok done) (answers_text served.answers) pending a b c served.put puts);
+  kept_is = served.kept_is;
+}
+GoesOn-put T (Err fault) kept pending told old new a b c served puts =
+    let stop : Puts {T = T} (Err fault) (answers_text served.answers) a c = PutsBut-then T (Err fault) (answers_text served.answers) pending a b c served.put puts in (
+      stop.0,
+      record {
+        written = stop.1.2.front;
+        put = stop.1.2.put;
+        stopped = record {
+          lines = served.lines;
+          later = [];
+          rest = served.rest;
+          cut = subst (λ l. IsCutIntoLines told l served.rest) (sym (append-nil served.lines)) served.cut;
+          answers = served.answers;
+          answered = served.answered;
+          lost = stop.1.0;
+          some_lost = stop.1.1;
+          text = stop.1.2.whole;
         };
       },
     )
@@ -166,47 +192,41 @@ GoesOn-feed T (Err fault) kept kept' told old mid new a b c emptied served answe
 pub WroteFront-more : (told more : List ℕ) (old new : Machine) (a b : Option (List ℕ)) → WroteFront told old new a b → WroteFront (told ++ more) old new a b
 WroteFront-more told more old new a b wrote =
     let stop : StoppedWriting old told wrote.written new = wrote.stopped in
-    let on : CutsOn (told ++ more) (stop.lines ++ stop.line ∷ stop.later) = IsCutIntoLines-more told (stop.lines ++ stop.line ∷ stop.later) stop.rest more stop.cut in
+    let on : CutsOn (told ++ more) (stop.lines ++ stop.later) = IsCutIntoLines-more told (stop.lines ++ stop.later) stop.rest more stop.cut in
     record {
       written = wrote.written;
       put = wrote.put;
       stopped = record {
         lines = stop.lines;
-        line = stop.line;
         later = stop.later ++ on.later;
         rest = on.rest;
-        cut = subst (λ l. IsCutIntoLines (told ++ more) l on.rest) (append_assoc stop.lines (stop.line ∷ stop.later) on.later) on.cut;
+        cut = subst (λ l. IsCutIntoLines (told ++ more) l on.rest) (append_assoc stop.lines stop.later on.later) on.cut;
         answers = stop.answers;
-        between = stop.between;
         answered = stop.answered;
-        last = stop.last;
-        last_answered = stop.last_answered;
-        front = stop.front;
         lost = stop.lost;
         some_lost = stop.some_lost;
         text = stop.text;
-        stopped_in = stop.stopped_in;
       };
     }
 
--- every line told is answered
-pub WroteAll-served : (kept told : List ℕ) (old new : Machine) (a b : Option (List ℕ)) → IsServed kept told old new a b → (rest : List ℕ) × (kept ≡ take KEPT_BYTES rest) × WroteAll told rest old new a b
+-- every line told is answered, and nothing is pending
+pub WroteAll-served : (kept told : List ℕ) (old new : Machine) (a b : Option (List ℕ)) → IsServed kept [] told old new a b → (rest : List ℕ) × (kept ≡ take KEPT_BYTES rest) × WroteAll told rest old new a b
 WroteAll-served kept told old new a b served = (
   served.rest,
   served.kept_is,
   record {
     written = answers_text served.answers;
-    put = served.put;
+    put = PutsBut-all (answers_text served.answers) [] a b served.put refl;
     answered = record { lines = served.lines; cut = served.cut; answers = served.answers; answered = served.answered; text = refl };
   },
 )
 
-pub at_feed : (T : Type 0) (result : Result T Fault) (kept kept' line told : List ℕ) (byte : ℕ) (old mid new : Machine) (a b c : Option (List ℕ)) → byte ≡ LINE_FEED → line ≡ kept → kept' ≡ []
-    → IsServed kept told old mid a b → PutsAnswer result line mid new b c → GoesOn result kept' (told ++ byte ∷ []) old new a c
-at_feed T result kept kept' line told byte old mid new a b c is_feed line_is emptied served answer =
-    let P : ℕ → Type 0 = λ n. GoesOn result kept' (told ++ n ∷ []) old new a c in
+pub at_feed : (T : Type 0) (result : Result T Fault) (kept kept' line pending now told : List ℕ) (byte : ℕ) (old mid new : Machine) (a b c : Option (List ℕ)) → byte ≡ LINE_FEED → line ≡ kept → kept' ≡ []
+    → IsServed kept pending told old mid a b → PutsAnswer result line mid new pending now b c → GoesOn result kept' now (told ++ byte ∷ []) old new a c
+at_feed T result kept kept' line pending now told byte old mid new a b c is_feed line_is emptied served answer =
+    let P : ℕ → Type 0 = λ n. GoesOn result kept' now (told ++ n ∷ []) old new a c in
     subst P (sym is_feed)
-    (GoesOn-feed T result kept kept' told old mid new a b c emptied served (subst (λ l. PutsAnswer result l mid new b c) line_is answer))
+    (GoesOn-feed T result kept kept' pending now told old mid new a b c emptied served (subst (λ l. PutsAnswer result l mid new pending now b c) line_is answer))
 
 -- one byte more of a piece is told
 pub told_more : (told piece : List ℕ) (i : ℕ) → i < length piece → (told ++ take i piece) ++ get_or piece i 0 ∷ [] ≡ told ++ take (i + 1) piece

@@ -2,7 +2,8 @@
 use Rattle.std.specs.Prelude.{◌≡◌, ◌≢◌, ℕ, List, [], ◌++◌, Option, Result, Ok, Err}
 use Rattle.std.specs.Io.KnownBytes.{Appends, IsAtEnd}
 use Rattle.rs_machine.specs.Served.{Machine}
-use Rattle.rs_machine.specs.Stream.{AllAnswered, StoppedWriting}
+use Rattle.rs_machine.specs.Answered.{Answer, Answered, answers_text}
+use Rattle.rs_machine.specs.Stream.{AllAnswered, IsCutIntoLines}
 use Rattle.rs_protocol.specs.declared.stream.End.{End}
 use Rattle.rs_protocol.specs.declared.stream.End.TheVariants.{Whole, CutLine}
 use Rattle.rs_protocol.specs.declared.stream.Fault.{Fault}
@@ -13,6 +14,18 @@ pub record WroteAll (told rest : List ℕ) (old new : Machine) (before after : O
   pub written : List ℕ
   pub put : Appends before after written
   pub answered : AllAnswered old told rest written new
+
+-- The first lines of the bytes are answered, and of the text of their replies only a front was written: an end of it is lost.
+pub record StoppedWriting (old : Machine) (bytes written : List ℕ) (new : Machine) : Type 0 where
+  pub lines : List (List ℕ)
+  pub later : List (List ℕ)
+  pub rest : List ℕ
+  pub cut : IsCutIntoLines bytes (lines ++ later) rest
+  pub answers : List Answer
+  pub answered : Answered old lines answers new
+  pub lost : List ℕ
+  pub some_lost : lost ≢ []
+  pub text : answers_text answers ≡ written ++ lost
 
 -- The writer has grown by a front of the answers, and what was accepted stands.
 pub record WroteFront (told : List ℕ) (old new : Machine) (before after : Option (List ℕ)) : Type 0 where

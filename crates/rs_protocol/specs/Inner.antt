@@ -1,6 +1,6 @@
 -- What the functions of this crate hand to one another.
-use Rattle.std.specs.Prelude.{◌≡◌, ℕ, ◌<◌, List, ◌++◌, take, Option, None, Some, Result, Err, MatchResult}
-use Rattle.std.specs.Io.KnownBytes.{Appends, Consumes}
+use Rattle.std.specs.Prelude.{◌≡◌, ℕ, ◌<◌, List, [], ◌++◌, take, Option, None, Some, Result, Err, MatchResult}
+use Rattle.std.specs.Io.KnownBytes.{Consumes}
 use Rattle.rs_measure.specs.FixedPoint.{number_of_digits}
 use Rattle.rs_machine.specs.Served.{Machine}
 use Rattle.rs_machine.specs.ReplyText.{reply_text}
@@ -33,30 +33,30 @@ PutsLater result bytes pending now before after =
     MatchResult result (λ _. PutsBut (pending ++ bytes) now before after)
     (λ fault. Puts {T = Unit {0}} (Err fault) (pending ++ bytes) before after)
 
--- the line is answered, and its reply put into the writer
-pub record PutsAnswer {T : Type 0} (result : Result T Fault) (line : List ℕ) (old new : Machine) (before after : Option (List ℕ)) : Type 0 where
+-- the line is answered, and its reply put into the writer or pending
+pub record PutsAnswer {T : Type 0} (result : Result T Fault) (line : List ℕ) (old new : Machine) (pending now : List ℕ) (before after : Option (List ℕ)) : Type 0 where
   pub given : Answer
   pub answered : AnswersLine old line given new
-  pub put : Puts result (reply_text given.session given.reply) before after
+  pub put : PutsLater result (reply_text given.session given.reply) pending now before after
 
--- every line told is answered, and of the line begun the first bytes are kept
-pub record IsServed (kept told : List ℕ) (old new : Machine) (before after : Option (List ℕ)) : Type 0 where
+-- Every line told is answered, and its reply is in the writer but for what is pending. Of the line begun the first bytes are kept.
+pub record IsServed (kept pending told : List ℕ) (old new : Machine) (before after : Option (List ℕ)) : Type 0 where
   pub lines : List (List ℕ)
   pub rest : List ℕ
   pub cut : IsCutIntoLines told lines rest
   pub answers : List Answer
   pub answered : Answered old lines answers new
-  pub put : Appends before after (answers_text answers)
+  pub put : PutsBut (answers_text answers) pending before after
   pub kept_is : kept ≡ take KEPT_BYTES rest
 
 -- service goes on, or a write fault ends it
-abbrev pub GoesOn : {T : Type 0} → Result T Fault → List ℕ → List ℕ → Machine → Machine → Option (List ℕ) → Option (List ℕ) → Type 0
-GoesOn result kept told old new before after =
-    MatchResult result (λ _. IsServed kept told old new before after)
+abbrev pub GoesOn : {T : Type 0} → Result T Fault → List ℕ → List ℕ → List ℕ → Machine → Machine → Option (List ℕ) → Option (List ℕ) → Type 0
+GoesOn result kept pending told old new before after =
+    MatchResult result (λ _. IsServed kept pending told old new before after)
     (λ fault. (fault ≡ Write) × WroteFront told old new before after)
 
--- what the reader told so far is served
+-- what the reader told so far is served, and nothing is pending
 pub record IsUnderWay (kept : List ℕ) (old new : Machine) (unread unread_now before after : Option (List ℕ)) : Type 0 where
   pub told : List ℕ
   pub consumed : Consumes unread unread_now told
-  pub served : IsServed kept told old new before after
+  pub served : IsServed kept [] told old new before after

@@ -1,11 +1,13 @@
-//! Lines out of pieces: bytes are kept until their LF comes, and then the line is answered.
+//! Lines out of pieces: bytes are kept until their LF comes, and then the line is answered. The replies of a piece are written once it is
+//! served.
 //!
 //! Of a line that is too long only its first bytes are kept, one more than a line may have.
 
-ghost use Rattle.std.specs.Prelude.{ℕ, List, Option, [], ◌∷◌, ◌++◌};
+ghost use Rattle.std.specs.Prelude.{◌≡◌, ℕ, List, Option, [], ◌∷◌, ◌++◌, OnOk};
 ghost use Rattle.rs_machine.specs.Served.{Machine};
 ghost use Rattle.rs_protocol.specs.Inner.{PutsAnswer, IsServed, GoesOn};
 
+use crate::put::{Pending, put_pending};
 use crate::replies::{put_refusal, put_reply};
 use crate::requests::request_of;
 use crate::stream::Fault;
@@ -25,28 +27,29 @@ pub(crate) type Kept = ArrayVec<u8, KEPT_BYTES>;
 /// What ends a line.
 pub(crate) const LINE_FEED: u8 = b'\n';
 
-/// Answers one line, given without its LF.
+/// Answers one line, given without its LF. The reply is held back as far as there is room.
 pub(crate) fn answer_line<E: Serve, W: Write>(
     alloc: Global,
     engine: &mut E,
     line: &[u8],
+    pending: &mut Pending,
     writer: &mut W,
 ) -> Result<(), Fault>
     ensures served { (old : Machine) → E.is engine.old old → (new : Machine) × E.is engine.new new
-        × PutsAnswer result line.now old new (W.contents writer.old) (W.contents writer.new) }
+        × PutsAnswer result line.now old new pending.old.items pending.new.items (W.contents writer.old) (W.contents writer.new) }
     ensures becomes { E.becomes engine.old engine.new }
 {
     let request = match request_of(line) {
         Ok(request) => request,
-        Err(refusal) => return put_refusal(writer, 0, &refusal),
+        Err(refusal) => return put_refusal(writer, pending, 0, &refusal),
     };
     let session = request.session.number();
     match command_of(alloc, request.text, request.digits) {
         Ok(command) => {
             let reply = engine.step(request.session, command);
-            put_reply(writer, session, &reply)
+            put_reply(writer, pending, session, &reply)
         }
-        Err(refusal) => put_refusal(writer, session, &refusal),
+        Err(refusal) => put_refusal(writer, pending, session, &refusal),
     }
 }
 
@@ -56,12 +59,13 @@ pub(crate) fn take_byte<E: Serve, W: Write>(
     engine: &mut E,
     kept: &mut Kept,
     byte: u8,
+    pending: &mut Pending,
     writer: &mut W,
 ) -> Result<(), Fault>
     ensures served { (told : List ℕ) (first old : Machine) (before : Option (List ℕ)) → E.is engine.old old →
-        IsServed kept.old.items told first old before (W.contents writer.old) →
+        IsServed kept.old.items pending.old.items told first old before (W.contents writer.old) →
         (new : Machine) × E.is engine.new new
-        × GoesOn result kept.new.items (told ++ byte ∷ []) first new before (W.contents writer.new) }
+        × GoesOn result kept.new.items pending.new.items (told ++ byte ∷ []) first new before (W.contents writer.new) }
     ensures becomes { E.becomes engine.old engine.new }
 {
     if byte != LINE_FEED {
@@ -70,7 +74,7 @@ pub(crate) fn take_byte<E: Serve, W: Write>(
         }
         return Ok(());
     }
-    let answered = answer_line(alloc, engine, kept.as_slice(), writer);
+    let answered = answer_line(alloc, engine, kept.as_slice(), pending, writer);
     kept.clear();
     answered
 }
@@ -81,16 +85,37 @@ pub(crate) fn take_piece<E: Serve, W: Write>(
     engine: &mut E,
     kept: &mut Kept,
     piece: &[u8],
+    pending: &mut Pending,
     writer: &mut W,
 ) -> Result<(), Fault>
     ensures served { (told : List ℕ) (first old : Machine) (before : Option (List ℕ)) → E.is engine.old old →
-        IsServed kept.old.items told first old before (W.contents writer.old) →
+        IsServed kept.old.items pending.old.items told first old before (W.contents writer.old) →
         (new : Machine) × E.is engine.new new
-        × GoesOn result kept.new.items (told ++ piece.now) first new before (W.contents writer.new) }
+        × GoesOn result kept.new.items pending.new.items (told ++ piece.now) first new before (W.contents writer.new) }
     ensures becomes { E.becomes engine.old engine.new }
 {
     for byte in piece {
-        take_byte(alloc, engine, kept, *byte, writer)?;
+        take_byte(alloc, engine, kept, *byte, pending, writer)?;
     }
     Ok(())
+}
+
+/// Serves the lines that end in a piece, and writes their replies.
+pub(crate) fn serve_piece<E: Serve, W: Write>(
+    alloc: Global,
+    engine: &mut E,
+    kept: &mut Kept,
+    piece: &[u8],
+    pending: &mut Pending,
+    writer: &mut W,
+) -> Result<(), Fault>
+    ensures none { OnOk result (pending.new.items ≡ []) }
+    ensures served { (told : List ℕ) (first old : Machine) (before : Option (List ℕ)) → E.is engine.old old →
+        IsServed kept.old.items pending.old.items told first old before (W.contents writer.old) →
+        (new : Machine) × E.is engine.new new
+        × GoesOn result kept.new.items [] (told ++ piece.now) first new before (W.contents writer.new) }
+    ensures becomes { E.becomes engine.old engine.new }
+{
+    take_piece(alloc, engine, kept, piece, pending, writer)?;
+    put_pending(writer, pending)
 }

@@ -2,7 +2,7 @@
 //!
 //! What is put is written whole, or a front of it and then a fault.
 
-ghost use Rattle.std.specs.Prelude.{◌≡◌, ◌++◌, true, false, flat_map, IfSome};
+ghost use Rattle.std.specs.Prelude.{◌≡◌, [], ◌++◌, true, false, flat_map, IfSome, OnOk};
 ghost use Rattle.rs_protocol.specs.Puts.{Puts};
 ghost use Rattle.rs_protocol.specs.Inner.{PutsLater};
 
@@ -13,8 +13,8 @@ use std::io::Write;
 /// How many bytes are gathered into one write, at the most.
 const GATHERED_BYTES: usize = 256;
 
-/// How many bytes of rows are held back and then written at once, at the most.
-const PENDING_BYTES: usize = 4_096;
+/// How many bytes of replies are held back and then written at once, at the most.
+const PENDING_BYTES: usize = 16_384;
 
 /// Bytes that are still to be written.
 pub(crate) type Pending = ArrayVec<u8, PENDING_BYTES>;
@@ -66,18 +66,31 @@ pub fn put_parts<W: Write>(writer: &mut W, parts: &[&[u8]]) -> Result<(), Fault>
     }
 }
 
-/// Adds the parts to what is pending, if all of them are short enough and fit; else it changes nothing.
-fn holds_back(pending: &mut Pending, parts: &[&[u8]]) -> bool
-    ensures held { result ≡ true → pending.new.items ≡ pending.old.items ++ flat_map (λ part. part.now) parts.now }
+/// Adds the bytes to what is pending, if they fit; else it changes nothing.
+fn holds_back(pending: &mut Pending, bytes: &[u8]) -> bool
+    ensures held { result ≡ true → pending.new.items ≡ pending.old.items ++ bytes.now }
     ensures unchanged { result ≡ false → pending.new.items ≡ pending.old.items }
 {
-    match gathered(parts) {
-        Some(piece) => pending.try_extend_from_slice(piece.as_slice()).is_ok(),
-        None => false,
-    }
+    pending.try_extend_from_slice(bytes).is_ok()
 }
 
-/// Holds the parts back, or writes what is pending and then them. After a fault a front of it all is out.
+/// Holds the bytes back where there is room for them, once what is pending was written, and else writes them too. After a
+/// fault a front of it all is out.
+fn hold<W: Write>(writer: &mut W, pending: &mut Pending, bytes: &[u8]) -> Result<(), Fault>
+    ensures { PutsLater result bytes.now pending.old.items pending.new.items (W.contents writer.old) (W.contents writer.new) }
+{
+    if holds_back(pending, bytes) {
+        return Ok(());
+    }
+    put(writer, pending.as_slice())?;
+    pending.clear();
+    if holds_back(pending, bytes) {
+        return Ok(());
+    }
+    put(writer, bytes)
+}
+
+/// The same of parts, one after another.
 pub(crate) fn put_later<W: Write>(
     writer: &mut W,
     pending: &mut Pending,
@@ -86,10 +99,18 @@ pub(crate) fn put_later<W: Write>(
     ensures { PutsLater result (flat_map (λ part. part.now) parts.now) pending.old.items pending.new.items
         (W.contents writer.old) (W.contents writer.new) }
 {
-    if holds_back(pending, parts) {
-        return Ok(());
+    for part in parts {
+        hold(writer, pending, part)?;
     }
+    Ok(())
+}
+
+/// Writes what is pending. After a fault a front of it is out.
+pub(crate) fn put_pending<W: Write>(writer: &mut W, pending: &mut Pending) -> Result<(), Fault>
+    ensures puts { Puts result pending.old.items (W.contents writer.old) (W.contents writer.new) }
+    ensures none { OnOk result (pending.new.items ≡ []) }
+{
     put(writer, pending.as_slice())?;
     pending.clear();
-    put_parts(writer, parts)
+    Ok(())
 }

@@ -1,20 +1,20 @@
-//! The text of a reply: the rows of an answer and its count, or its refusal.
+//! The text of a reply: the rows of an answer and its count, or its refusal. It is held back, as far as there is room.
 //!
 //! Digits are made on the stack, so that a reply takes no memory.
 
 ghost use Rattle.std.specs.Prelude.{flat_map};
 ghost use Rattle.rs_machine.specs.ReplyText.{row_text, ok_text, refusal_text, reply_text};
 ghost use Rattle.rs_serve.specs.ReplyView.{reply_of, rows_of};
-ghost use Rattle.rs_protocol.specs.Inner.{Puts, PutsLater};
+ghost use Rattle.rs_protocol.specs.Inner.{PutsLater};
 
-use crate::put::{Pending, put, put_later, put_parts};
+use crate::put::{Pending, put_later};
 use crate::stream::Fault;
 use itoa::Buffer;
 use rs_refusal::Refusal;
 use rs_serve::{Finish, Reply};
 use std::io::Write;
 
-/// Writes `S ROW` and what follows it, or holds it back.
+/// Puts `S ROW` and what follows it.
 fn put_row<W: Write>(
     writer: &mut W,
     pending: &mut Pending,
@@ -33,24 +33,32 @@ fn put_row<W: Write>(
     )
 }
 
-/// Writes `S OK n`.
-pub(crate) fn put_count<W: Write>(writer: &mut W, session: u8, count: u128) -> Result<(), Fault>
-    ensures { Puts result (ok_text session count) (W.contents writer.old) (W.contents writer.new) }
+/// Puts `S OK n`.
+pub(crate) fn put_count<W: Write>(
+    writer: &mut W,
+    pending: &mut Pending,
+    session: u8,
+    count: u128,
+) -> Result<(), Fault>
+    ensures { PutsLater result (ok_text session count) pending.old.items pending.new.items
+        (W.contents writer.old) (W.contents writer.new) }
 {
     let mut session_digits = Buffer::new();
     let mut count_digits = Buffer::new();
     let session_text = session_digits.format(session).as_bytes();
     let count_text = count_digits.format(count).as_bytes();
-    put_parts(writer, &[session_text, b" OK ", count_text, b"\n"])
+    put_later(writer, pending, &[session_text, b" OK ", count_text, b"\n"])
 }
 
-/// Writes `S ERR n words`.
+/// Puts `S ERR n words`.
 pub(crate) fn put_refusal<W: Write>(
     writer: &mut W,
+    pending: &mut Pending,
     session: u8,
     refusal: &Refusal,
 ) -> Result<(), Fault>
-    ensures { Puts result (refusal_text session refusal.now) (W.contents writer.old) (W.contents writer.new) }
+    ensures { PutsLater result (refusal_text session refusal.now) pending.old.items pending.new.items
+        (W.contents writer.old) (W.contents writer.new) }
 {
     let mut session_digits = Buffer::new();
     let mut number_digits = Buffer::new();
@@ -58,36 +66,44 @@ pub(crate) fn put_refusal<W: Write>(
     let number_text = number_digits.format(refusal.number()).as_bytes();
     let words = refusal.words();
     let words_text = words.as_str().as_bytes();
-    put_parts(
+    put_later(
         writer,
+        pending,
         &[session_text, b" ERR ", number_text, b" ", words_text, b"\n"],
     )
 }
 
-/// Writes the ROW lines, many of them at once.
-pub(crate) fn put_rows<W: Write>(writer: &mut W, session: u8, rows: &[String]) -> Result<(), Fault>
-    ensures { Puts result (flat_map (row_text session) (rows_of rows.now))
+/// Puts the ROW lines.
+pub(crate) fn put_rows<W: Write>(
+    writer: &mut W,
+    pending: &mut Pending,
+    session: u8,
+    rows: &[String],
+) -> Result<(), Fault>
+    ensures { PutsLater result (flat_map (row_text session) (rows_of rows.now)) pending.old.items pending.new.items
         (W.contents writer.old) (W.contents writer.new) }
 {
-    if rows.is_empty() {
-        return Ok(());
-    }
-    let mut pending = Pending::new();
     for row in rows {
-        put_row(writer, &mut pending, session, row.as_str())?;
+        put_row(writer, pending, session, row.as_str())?;
     }
-    put(writer, pending.as_slice())
+    Ok(())
 }
 
-/// Writes a reply whole.
-pub(crate) fn put_reply<W: Write>(writer: &mut W, session: u8, reply: &Reply) -> Result<(), Fault>
-    ensures { Puts result (reply_text session (reply_of reply.now)) (W.contents writer.old) (W.contents writer.new) }
+/// Puts a reply whole.
+pub(crate) fn put_reply<W: Write>(
+    writer: &mut W,
+    pending: &mut Pending,
+    session: u8,
+    reply: &Reply,
+) -> Result<(), Fault>
+    ensures { PutsLater result (reply_text session (reply_of reply.now)) pending.old.items pending.new.items
+        (W.contents writer.old) (W.contents writer.new) }
 {
     match &reply.finish {
         Finish::Done(count) => {
-            put_rows(writer, session, reply.rows.as_slice())?;
-            put_count(writer, session, *count)
+            put_rows(writer, pending, session, reply.rows.as_slice())?;
+            put_count(writer, pending, session, *count)
         }
-        Finish::Refused(refusal) => put_refusal(writer, session, refusal),
+        Finish::Refused(refusal) => put_refusal(writer, pending, session, refusal),
     }
 }

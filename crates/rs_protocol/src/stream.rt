@@ -1,6 +1,6 @@
 //! The server's loop: what a reader tells is cut into lines, and each line is answered into a writer.
 //!
-//! Its own buffers are on the stack: only the reading of a command and the engine ask for memory. It flushes no
+//! Its own buffers are on the stack, 25 KB in all: only the reading of a command and the engine ask for memory. It flushes no
 //! writer, and tries no failed call again.
 
 ghost use Rattle.std.specs.Prelude.{◌≡◌, ◌==◌, ◌+◌, ◌<◌, ◌≤◌, ◌⊎◌, ℕ, List, if◌then◌else◌, IfOk, IfErr, IsTrue, false, is_err};
@@ -11,7 +11,8 @@ ghost use Rattle.rs_machine.specs.Served.{Machine};
 ghost use Rattle.rs_protocol.specs.declared.stream.End.TheVariants.{Whole, CutLine};
 ghost use Rattle.rs_protocol.specs.Ends.{Ends, AnswersInput, StopsInInput};
 
-use crate::lines::{Kept, take_piece};
+use crate::lines::{Kept, serve_piece};
+use crate::put::Pending;
 use rs_serve::Serve;
 use std::alloc::Global;
 use std::io::{self, Read, Write};
@@ -55,10 +56,10 @@ pub enum Fault {
 /// Serves the lines that the reader tells, until its end or a fault. Whichever reference machine the engine is, the
 /// answers are that machine's.
 ///
-/// As soon as a piece of the input has a line's LF, that line is served and its reply written; only then
-/// is more read. So `Read` leaves no whole line without its reply. `Write` may leave a reply cut off at any byte, while
-/// the engine keeps what it had accepted by then. `alloc` is for tokens and commands: a line that finds no
-/// memory for them gets `Refusal::OutOfMemory` (90), and the next one is served.
+/// As soon as a piece of the input has a line's LF, that line is served. The replies of a piece are gathered, 16 KB at the most, and
+/// written before more is read. So `Read` leaves no whole line without its reply. `Write` may leave the replies cut off at any byte,
+/// while the engine keeps what it had accepted by then, of the further lines of that piece too. `alloc` is for tokens and commands: a
+/// line that finds no memory for them gets `Refusal::OutOfMemory` (90), and the next one is served.
 pub fn run<E: Serve, R: Read, W: Write>(
     alloc: Global,
     engine: &mut E,
@@ -119,11 +120,19 @@ fn serve_pieces<E: Serve, R: Read, W: Write>(
     ensures becomes { E.becomes engine.old engine.new }
 {
     let mut kept = Kept::new();
+    let mut pending = Pending::new();
     let mut piece = [0u8; PIECE_BYTES];
     while reads.made < READS {
         match reads.read(reader, &mut piece) {
             Ok(0) => return Ok(end_of(&kept)),
-            Ok(count) => take_piece(alloc, engine, &mut kept, &piece[..count], writer)?,
+            Ok(count) => serve_piece(
+                alloc,
+                engine,
+                &mut kept,
+                &piece[..count],
+                &mut pending,
+                writer,
+            )?,
             Err(_) => return Err(Fault::Read),
         }
     }

@@ -7,7 +7,7 @@ pub returns-in-Err-clause-served : goal.returns-in-Err-clause-served
 returns-in-Err-clause-served g c old is = (
   old,
   is,
-  answers_unreadable (Unit {0}) c.put_refusal.result c.args.line.now c.in-Err.refusal old
+  answers_unreadable (Unit {0}) c.put_refusal.result c.args.line.now c.in-Err.refusal old c.args.pending.now.items c.put_refusal.new.pending.items
       (g.W.Write.contents c.args.writer.now) (g.W.Write.contents c.put_refusal.new.writer) c.in-Err.ensures c.put_refusal.ensures,
 )
 
@@ -24,7 +24,7 @@ returns-in-Ok-command_of-clause-served g c old is =
       served.0,
       served.1,
       answers_command (Unit {0}) c.put_reply.result c.args.line.now c.in-Ok.request.text.now c.in-Ok.request.session c.in-Ok.request.digits
-          (tree_of c.in-Ok-command_of.command) (reply_of c.step-reply.result) old served.0
+          (tree_of c.in-Ok-command_of.command) (reply_of c.step-reply.result) old served.0 c.args.pending.now.items c.put_reply.new.pending.items
           (g.W.Write.contents c.args.writer.now) (g.W.Write.contents c.put_reply.new.writer) c.in-Ok.ensures c.in-Ok-command_of.ensures.ok served.2
           (rw (← c.number-session.ensures.value) c.put_reply.ensures),
     )
@@ -34,7 +34,7 @@ returns-in-Err-command_of-clause-served g c old is = (
   old,
   is,
   answers_refused (Unit {0}) c.put_refusal-in-Err-command_of.result c.args.line.now c.in-Ok.request.text.now c.in-Ok.request.session c.in-Ok.request.digits
-      c.in-Err-command_of.refusal old
+      c.in-Err-command_of.refusal old c.args.pending.now.items c.put_refusal-in-Err-command_of.new.pending.items
       (g.W.Write.contents c.args.writer.now) (g.W.Write.contents c.put_refusal-in-Err-command_of.new.writer) c.in-Ok.ensures c.in-Err-command_of.ensures.err
       (rw (← c.number-session.ensures.value) c.put_refusal-in-Err-command_of.ensures),
 )

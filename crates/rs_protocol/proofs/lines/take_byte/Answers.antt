@@ -9,7 +9,7 @@ returns-then-not-is_full-clause-served g c told first old before is served =
     let room : length c.args.kept.now.items < 4097 = omega (arith, apart, c.is_full.ensures.fits) in (
       old,
       is,
-      IsServed-kept c.args.kept.now.items c.push.new.self.items told c.args.byte first old before (g.W.Write.contents c.args.writer.now)
+      IsServed-kept c.args.kept.now.items c.push.new.self.items c.args.pending.now.items told c.args.byte first old before (g.W.Write.contents c.args.writer.now)
           c.if-byte-ne-LINE_FEED.true room c.push.ensures.items served,
     )
 
@@ -18,7 +18,7 @@ returns-else-not-is_full-clause-served g c told first old before is served =
     let full : length c.args.kept.now.items ≡ 4097 = eqb-true _ _ (sym c.if-not-is_full.ensures.value) in (
       old,
       is,
-      IsServed-dropped c.args.kept.now.items c.args.kept.now.items told c.args.byte first old before (g.W.Write.contents c.args.writer.now)
+      IsServed-dropped c.args.kept.now.items c.args.kept.now.items c.args.pending.now.items told c.args.byte first old before (g.W.Write.contents c.args.writer.now)
           c.if-byte-ne-LINE_FEED.true full refl served,
     )
 
@@ -27,7 +27,7 @@ returns-clause-served g c told first old before is served =
     let answered = c.answer_line-answered.ensures.served old is in (
       answered.0,
       answered.1,
-      at_feed (Unit {0}) c.answer_line-answered.result c.args.kept.now.items c.clear.new.self.items c.as_slice.result.now told c.args.byte first
+      at_feed (Unit {0}) c.answer_line-answered.result c.args.kept.now.items c.clear.new.self.items c.as_slice.result.now c.args.pending.now.items c.answer_line-answered.new.pending.items told c.args.byte first
           old answered.0 before (g.W.Write.contents c.args.writer.now)
           (g.W.Write.contents c.answer_line-answered.new.writer) c.if-byte-ne-LINE_FEED.false c.as_slice.ensures.value c.clear.ensures served answered.2,
     )

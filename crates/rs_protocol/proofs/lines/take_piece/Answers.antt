@@ -11,7 +11,7 @@ loop-byte-init g c = (
   λ told first old before is served. (
     old,
     is,
-    subst (λ t. IsServed c.args.kept.now.items t first old before (g.W.Write.contents c.args.writer.now)) (sym (append-nil told)) served,
+    subst (λ t. IsServed c.args.kept.now.items c.args.pending.now.items t first old before (g.W.Write.contents c.args.writer.now)) (sym (append-nil told)) served,
   ),
 )
 
@@ -38,7 +38,7 @@ loop-byte-preserved g c = (
       let next = c.in_ok-take_byte.ensures.served (told ++ take c.loop-byte.byte-index c.args.piece.now) first so.0 before so.1 so.2 in (
         next.0,
         next.1,
-        subst (λ t. IsServed c.take_byte.new.kept.items t first next.0 before (g.W.Write.contents c.take_byte.new.writer))
+        subst (λ t. IsServed c.take_byte.new.kept.items c.take_byte.new.pending.items t first next.0 before (g.W.Write.contents c.take_byte.new.writer))
             (told_more told c.args.piece.now c.loop-byte.byte-index c.loop-byte-test.true) next.2,
       ),
 )
@@ -48,7 +48,7 @@ returns-clause-served g c told first old before is served =
     let so = c.loop-byte.invariant.1 told first old before is served in (
       so.0,
       so.1,
-      subst (λ t. IsServed c.loop-byte.kept.items t first so.0 before (g.W.Write.contents c.loop-byte.writer))
+      subst (λ t. IsServed c.loop-byte.kept.items c.loop-byte.pending.items t first so.0 before (g.W.Write.contents c.loop-byte.writer))
           (ap (λ l. told ++ l) (take_all c.loop-byte.byte-index c.args.piece.now (omega (arith, c.loop-byte-test.false)))) so.2,
     )
 
