@@ -32,7 +32,7 @@ pub(crate) fn picked_spans(
     ensures rows { IfOk result (λ spans. AllByRecursion (λ span. IsRowOf schema.now.items span.row) (map seen spans.items)) }
     ensures refused { IfErr result (λ why. (why ≡ Refusal.OutOfMemory) ⊎ ((why ≡ Refusal.DamagedFile) × SayNone schema.now.items (map (drop wide) (listed found.now)))) }
 {
-    let mut spans = Vec::new(alloc);
+    let mut spans = Vec::with_capacity(alloc, found.len())?;
     for place in 0..found.len() {
         let cell = &found.get(place)[wide..];
         if let Some(span) = picked_span(alloc, schema, cell, window)? {

@@ -25,7 +25,7 @@ slice_bounds-cell-start c = omega (arith, cell_wide c.args.found.now c.loop-plac
 pub loop-place-init : goal.loop-place-init
 loop-place-init c =
     let types = c.args.schema.now.items in
-    let none = sym c.new-spans.ensures.items in
+    let none = sym c.in_ok-spans.ensures.items in
     record {
       picks = subst (λ (items : List Span). PicksSpans types c.args.window [] (map seen items)) none (picks_none types c.args.window);
       placed = subst (λ (items : List Span). ArePlaced c.args.window.kind (map seen items)) none tt;
@@ -45,7 +45,7 @@ picked_span-requires c = record {
 
 pub returns-in_err-span-clause-refused : goal.returns-in_err-span-clause-refused
 returns-in_err-span-clause-refused c =
-    let p = err_from_is_err_and c.from_residual.result c.from_residual.ensures.1 in
+    let p = err_from_is_err_and c.from_residual-in_err-span.result c.from_residual-in_err-span.ensures.1 in
     let wide = c.args.wide in
     let there : slice_get (map (drop wide) (listed c.args.found.now)) c.loop-place.place ≡ Some (take (length c.get.result.now - wide) (drop wide c.get.result.now)) =
     map_at (drop wide) (listed c.args.found.now) c.loop-place.place c.get.result.now c.get.ensures ∙ ap Some (sym (rest_is wide c.get.result.now)) in
@@ -66,7 +66,7 @@ loop-place-preserved c =
     let spans = map seen c.loop-place.spans.items in
     let cell = take (length c.get.result.now - wide) (drop wide c.get.result.now) in
     let there : slice_get cells place ≡ Some cell = map_at (drop wide) (listed c.args.found.now) place c.get.result.now c.get.ensures ∙ ap Some (sym (rest_is wide c.get.result.now)) in
-    elim c.match-branch-2.branch [
+    elim c.match-branch-3.branch [
       | in-Some+in_ok-push w ↦
           let span = w.in-Some.span in
           let are : map seen w.push.new.self.items ≡ spans ++ seen span ∷ [] = ap (map seen) w.in_ok-push.ensures.items ∙ map-append seen c.loop-place.spans.items (span ∷ []) in
