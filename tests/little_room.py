@@ -7,8 +7,11 @@ The program runs with an address space of so many megabytes, over a file and wit
 (bench/load.py), an overlay, a total and a SELECT of all, and then the rows and a total of some routes. Each line is
 answered, as by the slow machine after the lines that were accepted, or by 90, and by 91 where it is the disk in memory that
 wants it; and the status is 0. The file that is left has to hold what was accepted, by the slow reader of files; where the end is
-refused by 90 too, as it may be, what was accepted up to some line. The load has 10,000 lines by default, and 100,000 with --all. It
-prints for each run how many lines were refused, what is not as wanted, and at last `N passed, M failed`, counted in runs.
+refused by 90 too, as it may be, what was accepted up to some line. The load has 10,000 lines by default, and 100,000 with --all.
+
+Then it runs with a small stack, and answers the deepest queries as with a large one: all that a line can have, in 512 KB, and those
+through as many views as there may be, in 1,536 KB. It prints for each run how many lines were refused, what is not as wanted, and at
+last `N passed, M failed`, counted in runs.
 """
 
 import os
@@ -34,6 +37,10 @@ ROOMS, SHARE_OF_ROOMS = (24, 32, 64, 256), (5, 6, 24)  # megabytes
 LEAST_ROOM = 24  # megabytes in which it starts wherever it is built
 ROUTES, EACH_ROUTE = 100, 20  # of so many routes one is asked for at the end
 LONGEST = 600  # seconds
+
+OPERATORS, BRACKETS, VIEWS = 31, 31, 128  # over a table, in a condition, and in all
+LONGEST_CONDITION = 560  # comparisons with OR between them
+STACK_OF_LINES, STACK_OF_VIEWS, LARGE_STACK = 512, 1_536, 8_192  # kilobytes
 
 NO_MEMORY = b"roadseg: ERR 90 out of memory\n"
 EXHAUSTED, DISK = b"90 out of memory\n", b"91 disk\n"
@@ -121,6 +128,84 @@ def judge(words, room, is_over_file):
     return "%d lines, %s%s" % (len(lines), told, ", and the end" if done.is_cut else "")
 
 
+# The stack.
+
+
+def inventory():
+    """A few rows on a route, and what the operators need beside them."""
+    yield from ["DEFINE ROUTE R FROM 0 TO 100", "DEFINE LINE TABLE p (surf TEXT(12), n INT)", "DEFINE LINE TABLE q (m INT)",
+                "DEFINE ALIGNMENT a (R FROM 0 TO 50 INTO R AT 40)", "DEFINE INDEX i ON p (n)", "DEFINE VIEW g AS DISSOLVE(q, ())"]
+    for at in range(6):
+        yield "INSERT INTO p ON R FROM %d TO %d VALUES ('gravel', %d)" % (10 * at, 10 * at + 8, at % 3)
+        yield "INSERT INTO q ON R FROM %d TO %d VALUES (%d)" % (9 * at, 9 * at + 9, at % 3)
+
+
+def nested(form, query, times):
+    for _time in range(times):
+        query = form % query
+    return query
+
+
+def deepest_conditions():
+    yield nested("NOT (%s)", "n = 1", BRACKETS)
+    yield nested("(n = 2 OR n < 9 AND %s)", "n = 1", BRACKETS)
+    yield nested("(%s AND n < 9 OR n = 2)", "n = 1", BRACKETS)
+    yield " OR ".join(["n=7"] * LONGEST_CONDITION)
+
+
+def deepest_queries():
+    """The deepest queries that a line can have, of each operator on each side; `g` has a depth of two by itself."""
+    for form in ("GAPS(%s)", "WHERE(%s, n < 9)", "DISSOLVE(%s, (surf, n))", "RENAME(%s, n TO n)", "WINDOW(%s, R FROM 0 TO 90)",
+                 "TRANSFORM(%s, a)", "MERGE(%s, p)", "MERGE(p, %s)", "MINUS(p, %s)"):
+        yield nested(form, "p", OPERATORS)
+    for form in ("OVERLAY(%s, g)", "OVERLAY(g, %s)", "COVER(%s, g)", "COVER(g, %s)"):
+        yield nested(form, "p", OPERATORS - 1)
+    yield from ("WHERE(p, %s)" % condition for condition in deepest_conditions())
+
+
+def asked(query):
+    """A query in each command that takes one."""
+    return ["SELECT " + query, "TOTAL %s BY ()" % query, "EXPLAIN " + query, "OPEN c FOR " + query, "FETCH c 5", "CLOSE c"]
+
+
+def deep_lines():
+    for query in deepest_queries():
+        yield from asked(query)
+        yield from ["DEFINE VIEW v AS " + query, "SELECT v", "SAVE", "REOPEN", "SELECT v", "DROP VIEW v"]
+
+
+def view_lines():
+    """As many views as there may be, of which each names the one before it: the deepest condition first, the operators last."""
+    yield from ["DROP VIEW g", "DEFINE VIEW v0 AS WHERE(p, %s)" % next(deepest_conditions())]
+    for view in range(1, VIEWS):
+        yield "DEFINE VIEW v%d AS %s" % (view, ("GAPS(v%d)" if view > VIEWS - OPERATORS else "v%d") % (view - 1))
+    last = "v%d" % (VIEWS - 1)
+    yield from asked(last) + ["SAVE", "REOPEN", "SELECT " + last]
+
+
+def outcome(words, lines, stack, file):
+    """The status and the streams of a run with a stack of so many kilobytes."""
+    if file:
+        subprocess.run([words.program, "create", "--file", file], check=True)
+    limits = (stack * 1024, stack * 1024)
+    done = subprocess.run([words.program, "run", *(["--file", file] if file else [])], input=b"".join(lines), capture_output=True,
+                          preexec_fn=partial(resource.setrlimit, resource.RLIMIT_STACK, limits), timeout=LONGEST)  # fmt: skip
+    return done.returncode, done.stdout, done.stderr
+
+
+def judge_stack(words, stack, is_over_file, commands):
+    """A run in a small stack, beside one in a large one: what is told of it."""
+    lines = [b"0 %s\n" % command.encode() for command in [*inventory(), *commands]]
+    files = [os.path.join(words.folder, "stack %d %d" % (size, stack)) if is_over_file else None for size in (stack, LARGE_STACK)]
+    wanted = outcome(words, lines, LARGE_STACK, files[1])
+    if wanted[0] or len(replies_of(wanted[1])) != len(lines) or b" ERR " in wanted[1]:
+        raise Wrong("with a large stack it ends with status %d, or refuses a line: %.300r" % (wanted[0], wanted[1][-300:]))
+    got = outcome(words, lines, stack, files[0])
+    expect("its status", got[0], wanted[0])
+    expect("its streams", got[1:], wanted[1:])
+    return "%d lines" % len(lines)
+
+
 def rooms_of(text):
     return [float(part) for part in text.split(",")]
 
@@ -138,13 +223,16 @@ def arguments():
 
 def main():
     words = arguments()
+    runs = [("%g MB" % room, judge, room) for room in words.rooms]
+    runs += [("%d KB of stack" % stack, partial(judge_stack, commands=list(commands())), stack)
+             for stack, commands in ((STACK_OF_LINES, deep_lines), (STACK_OF_VIEWS, view_lines))]  # fmt: skip
     passed = failed = 0
     with scratch_folder() as words.folder:
-        for room in words.rooms:
+        for limit, judged_by, size in runs:
             for is_over_file in (True, False):
-                title = "%g MB, %s" % (room, "over a file" if is_over_file else "in memory")
+                title = "%s, %s" % (limit, "over a file" if is_over_file else "in memory")
                 try:
-                    print("%s: %s" % (title, judge(words, room, is_over_file)), flush=True)
+                    print("%s: %s" % (title, judged_by(words, size, is_over_file)), flush=True)
                     passed += 1
                 except Wrong as fault:
                     print("%s: %s" % (title, fault), flush=True)
