@@ -491,7 +491,7 @@ def a_file_in_use_is_not_opened(program):
 def a_fault_of_the_streams_closes_the_file(program):
     file = program.created()
     expect("no room for answers", run_into_full(program, DEFINED, "run", "--file", file), (1, WRITE_FAULT))
-    program.expect(["run", "--file", file], TRANSLATED + SELECTED, PLACE + b"0 ERR 21 no such name\n")
+    program.expect(["run", "--file", file], TRANSLATED + SELECTED, PLACE + b"0 OK 0\n")
     folder = os.open(program.folder, os.O_RDONLY)
     words = [program.path, "run", "--file", file]
     done = subprocess.run(words, stdin=folder, capture_output=True, timeout=LONGEST)
