@@ -1,7 +1,7 @@
 /* Counts the heap of the program that it is loaded before (LD_PRELOAD): what the C library gave for what the program holds.
  *
- * SIGUSR1 begins a count: what is held then is what it begins with, and the most so far. SIGUSR2 prints both, in bytes, as one line
- * on the errors stream.
+ * SIGUSR1 begins a count: what is held then is what it begins with, and the most so far. SIGUSR2 leaves the count as it is. Each
+ * prints both, in bytes, as one line on the errors stream.
  */
 
 #define _GNU_SOURCE
@@ -40,16 +40,16 @@ void free(void *memory) {
     __libc_free(memory);
 }
 
-static void begin(int number) {
-    (void)number;
-    begun = most = held;
-}
-
 static void tell(int number) {
     (void)number;
     char line[64];
     int length = snprintf(line, sizeof line, "%ld %ld\n", begun, most);
     if (write(2, line, length) != length) _exit(1);
+}
+
+static void begin(int number) {
+    begun = most = held;
+    tell(number);
 }
 
 __attribute__((constructor)) static void ready(void) {

@@ -160,6 +160,7 @@ def peaks(builds, words, library):
                 replies(live, len(whole[first : first + 200]))
             for title, asked in questions:
                 live.send_signal(signal.SIGUSR1)
+                live.stderr.readline()
                 live.stdin.write(lines_of(asked))
                 live.stdin.flush()
                 replies(live, len(asked))

@@ -49,7 +49,7 @@ loop-reads-preserved g c = (
   λ old is.
       let so = c.loop-reads.invariant.2 old is in
       let next = c.in_ok-serve_piece-in-Ok.ensures.served so.2.told old so.0 (g.W.Write.contents c.args.writer.now) so.1
-    (served_as c.loop-reads.kept.items c.loop-reads.pending.items so.2.told old so.0 (g.W.Write.contents c.args.writer.now) (g.W.Write.contents c.loop-reads.writer) c.loop-reads.invariant.0 so.2.served) in (
+      (served_as c.loop-reads.kept.items c.loop-reads.pending.items so.2.told old so.0 (g.W.Write.contents c.args.writer.now) (g.W.Write.contents c.loop-reads.writer) c.loop-reads.invariant.0 so.2.served) in (
         next.0,
         next.1,
         under_way_on c.loop-reads.kept.items c.serve_piece.new.kept.items (take c.in-Ok.count c.read.new.piece)
