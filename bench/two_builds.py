@@ -159,6 +159,10 @@ def peaks(builds, words, library):
                 live.stdin.flush()
                 replies(live, len(whole[first : first + 200]))
             for title, asked in questions:
+                # a short answer first: what the question before took is given back once the next line is answered
+                live.stdin.write(b"0 SAVE\n")
+                live.stdin.flush()
+                replies(live, 1)
                 live.send_signal(signal.SIGUSR1)
                 live.stderr.readline()
                 live.stdin.write(lines_of(asked))
