@@ -13,6 +13,7 @@ import re
 import subprocess
 import sys
 import tempfile
+import time
 from decimal import ROUND_HALF_EVEN, Decimal
 
 import refusing
@@ -378,30 +379,127 @@ def check_explained():
         expect("explain %s" % number, said, (0, True, True, b""))
     expect("what the page has", out.decode() in language, True)
     expect("a number of no refusal", run("explain", "5")[:2], (2, b""))
+    check_options(out.decode())
     return len(numbers)
 
 
+def check_options(explained):
+    """Each option of `csv` that an explanation leads to is one of its help, and each line that is shown as refused is refused so."""
+    options = set(re.findall(r"--[a-z-]+", run("csv", "--help")[1].decode()))
+    parts = dict(re.findall(r"^([0-9]+) (.*(?:\n    .*)+)", explained, re.MULTILINE))
+    led = {number: re.findall(r"^    By csv:  .*?(--[a-z-]+)", part, re.MULTILINE) for number, part in parts.items()}
+    wanted = {"3": "--session", "12": "--round", "20": "--routes", "24": "--no-define", "30": "--routes", "31": "--at"}
+    expect("the options", {number: found[0] for number, found in led.items() if found}, wanted)
+    expect("options of csv", set(wanted.values()) - options, set())
+    for number, words in (("10", [" ; ", " * ", ' " ', " != ", " . "]), ("33", ["comparison", "SUM"]), ("3", ["Comments", "blank lines", "quit"])):
+        expect("what %s names" % number, [word for word in words if word not in parts[number]], [])
+    expect("the head of 11", parts["11"].splitlines()[0], "syntax at C")
+
+
+def told_of_lines(lines, replies):
+    """What `--report` tells of lines and of their last replies: the first ten refused of each number, and how many there were."""
+    told, counts, words = [], {}, {}
+    for number, (line, reply) in enumerate(zip(lines, replies), 1):
+        refusal = reply.split(b" ", 1)[1].strip()
+        if not refusal.startswith(b"ERR "):
+            continue
+        code = int(refusal.split()[1])
+        counts[code] = counts.get(code, 0) + 1
+        words[code] = re.sub(rb" at [0-9]+", b" at C", refusal[4:])
+        if counts[code] <= 10:
+            told.append(b"roadseg: line %d: %s: %s\n" % (number, refusal, shown_line(line)))
+    told.append(b"roadseg: lines answered: %d, refused: %d\n" % (len(replies), sum(counts.values())))
+    told += [b"roadseg: refused %s: %d\n" % (words[code], counts[code]) for code in sorted(counts)]
+    return b"".join(told)
+
+
+def shown_line(line):
+    """A line as it is told: without the CR at its end, up to what is no text of a line, and at most 4,096 bytes of it."""
+    kept = line[:4096]
+    text = kept[:-1] if kept.endswith(b"\r") else kept
+    plain = re.match(rb"[^\0-\x1f\x7f]*", text).group().decode(errors="surrogateescape")
+    shown = re.match("[^\udc80-\udcff]*", plain).group().encode()
+    return shown if len(shown) == len(text) and len(line) <= 4096 else shown + b".."
+
+
+def last_replies(out):
+    """The last line of each reply, which is no ROW."""
+    return [line for line in out.splitlines(keepends=True) if line.split(b" ")[1] != b"ROW"]
+
+
+UNENDED = b"roadseg: the last line lacks its line feed and was not answered\n"
+
+
 def check_watched():
-    """`--bail` stops at the first refused line, and `--report` says which were refused."""
+    """`--bail` stops at the first refused line, and `--report` shows the refused ones."""
     lines = b"0 DEFINE ROUTE SR1 FROM 0 TO 1\n0 SELECT nothing\n0 DEFINE ROUTE SR2 FROM 0 TO 1\n0 bad"
     replies = [b"0 OK 0\n", b"0 ERR 21 no such name\n", b"0 OK 0\n"]
     expect("without options", run("run", data=lines), (0, b"".join(replies), b""))
     expect("--bail", run("run", "--bail", data=lines), (1, b"".join(replies[:2]), b""))
-    told = b"roadseg: lines answered: 3, refused: 1\nroadseg: line 2: 0 ERR 21 no such name\n"
-    unended = b"roadseg: the last line lacks its line feed and was not answered\n"
-    expect("--report", run("run", "--report", data=lines), (0, b"".join(replies), told + unended))
-    expect("--report of whole lines", run("run", "--report", data=lines[:-5]), (0, b"".join(replies), told))
-    expect("both", run("run", "--bail", "--report", data=lines), (1, b"".join(replies[:2]), told.replace(b"3", b"2", 1)))
-    many = b"0 SELECT nothing\n" * 30
-    status, _, told = run("run", "--report", data=many)
-    first = told.startswith(b"roadseg: lines answered: 30, refused: 30\n")
-    expect("how many are told", (status, told.count(b"\n"), first), (0, 11, True))
+    accepted = b"".join(lines.splitlines(keepends=True)[::2][:2])
+    expect("--bail of lines that are accepted", run("run", "--bail", data=accepted), (0, b"0 OK 0\n" * 2, b""))
+    shown = b"roadseg: line 2: ERR 21 no such name: 0 SELECT nothing\n"
+    counts = b"roadseg: lines answered: 3, refused: 1\nroadseg: refused 21 no such name: 1\n"
+    expect("--report", run("run", "--report", data=lines), (1, b"".join(replies), shown + counts + UNENDED))
+    expect("--report of whole lines", run("run", "--report", data=lines[:-5]), (1, b"".join(replies), shown + counts))
+    expect("both", run("run", "--bail", "--report", data=lines), (1, b"".join(replies[:2]), shown + counts.replace(b"3", b"2", 1)))
+    none = b"roadseg: lines answered: 2, refused: 0\n"
+    expect("--report where none is refused", run("run", "--report", data=accepted), (0, b"0 OK 0\n" * 2, none))
+    expect("--report of no line", run("run", "--report", data=b""), (0, b"", none.replace(b"2", b"0", 1)))
     with tempfile.TemporaryDirectory() as folder:
         path = os.path.join(folder, "roads.seg")
         expect("create", run("create", "--file", path)[0], 0)
         expect("--bail over a file", run("run", "--file", path, "--bail", data=lines)[0], 1)
         kept = run("run", "--file", path, data=b"0 DEFINE ROUTE SR1 FROM 0 TO 1\n0 DEFINE ROUTE SR2 FROM 0 TO 1\n")
         expect("what the file keeps", kept, (0, b"0 ERR 24 name taken\n0 OK 0\n", b""))
+        again = run("run", "--file", path, "--report", data=lines[:-5])
+        expect("--report over a file", again[::2], (1, told_of_lines(lines.split(b"\n"), last_replies(again[1]))))
+
+
+def refused_lines():
+    """Lines with what may be wrong with them: bytes that are no text, a length at the limit and past it, CRs, rows between them."""
+    rows = [b"0 DEFINE LINE TABLE t (s TEXT(120))", b"0 DEFINE ROUTE SR1 FROM 0 TO 100"]
+    rows += [b"0 INSERT INTO t ON SR1 FROM %d TO %d VALUES ('%s')" % (place, place + 1, b"it''s 0 ERR 21 no such name") for place in range(50)]
+    odd = [
+        b"", b"\r", b"0", b"64 SELECT t", b"quit", b"0 SELECT t;\r", b"0 SELECT\tt", b"0 SELECT caf\xc3\xa9", b"0 SELECT caf\xc3", b"\xff", b"0 SELECT \x7f", b"0 SELECT \r\r",
+        b"0 SELECT t", b"63 SELECT none", b"7 SELECT WHERE(t, s = 1)", b"0 FETCH c 0", b"0 SELECT " + b"x" * 4087, b"0 SELECT " + b"x" * 4088, b"0 SELECT " + b"x" * 9000,
+        b"0 SELECT " + b"x" * 4085 + b"\xc3\xa9\xc3\xa9", b"0 SELECT " + b"x" * 4086 + b"\xc3\xa9", b"0 SELECT " + b"x" * 4086 + b"\r", b"0 SELECT " + b"x" * 4087 + b"\r",
+    ]
+    return rows + odd
+
+
+def check_reported():
+    """Pseudo-random lines of all these, in one piece and in pieces: each is told with its number and its text."""
+    chance = random.Random(8)
+    odd = refused_lines()
+    for count in (len(odd), 3_000):
+        lines = odd if count == len(odd) else odd[:2] + [chance.choice(odd) for _ in range(count)]
+        data = b"".join(line + b"\n" for line in lines)
+        plain = run("run", data=data)
+        status, out, errors = run("run", "--report", data=data)
+        expect("the replies with --report", out, plain[1])
+        expect("what is told of %d lines" % len(lines), errors, told_of_lines(lines, last_replies(out)))
+        expect("the status with --report", status, 1)
+        expect("how many are told", len(errors.splitlines()) < 200, True)
+    with subprocess.Popen([PROGRAM, "run", "--report"], stdin=subprocess.PIPE, stdout=subprocess.PIPE, stderr=subprocess.PIPE) as process:
+        process.stdin.write(b"0 SELECT no")
+        process.stdin.flush()
+        time.sleep(0.1)
+        process.stdin.write(b"thing\n")
+        process.stdin.flush()
+        expect("a line in two pieces", process.stdout.readline(), b"0 ERR 21 no such name\n")
+        expect("told at once", process.stderr.readline(), b"roadseg: line 1: ERR 21 no such name: 0 SELECT nothing\n")
+        process.stdin.close()
+        process.stderr.read()
+        expect("the status then", process.wait(LONGEST), 1)
+
+
+def check_nowhere():
+    """Where the errors stream takes nothing, the replies and the status are the same."""
+    lines = b"0 SELECT nothing\n" * 30
+    with open("/dev/full", "wb") as full:
+        done = subprocess.run([PROGRAM, "run", "--report"], input=lines, stdout=subprocess.PIPE, stderr=full, timeout=LONGEST)
+    expect("without room for errors", (done.returncode, done.stdout), (1, b"0 ERR 21 no such name\n" * 30))
 
 
 def check_refused_growths():
@@ -433,6 +531,8 @@ def main():
         check_loading()
         refusals = check_explained()
         check_watched()
+        check_reported()
+        check_nowhere()
         check_refused_growths()
     except Unexpected as fault:
         print("csv_lines: %s" % fault)

@@ -25,6 +25,7 @@ FROM_CSV = "How do two CSV files become a payment table and a diagram?"
 BY_SHELL = "How does a CSV become a table, and that a payment table, in the shell?"
 AS_TEXT = "How is the inventory kept as plain text, and what changed between two days?"
 KEPT = "How does an office keep its inventory?"
+SENT_AGAIN = "Which lines of a load were refused, and how are they sent again?"
 BACKED_UP = "How is the inventory backed up?"
 LONGER = "How is a route made longer?"
 REFUSED = "What is to be done about `95 file not closed` and `94 damaged file`?"
@@ -167,6 +168,11 @@ def the_inventory_is_kept_as_plain_text(program):
     expect("scripts", run_section(program, COOKBOOK, AS_TEXT), 5)
 
 
+def refused_lines_are_mended_and_sent_again(program):
+    prepare(program)
+    expect("scripts", run_section(program, COOKBOOK, SENT_AGAIN), 2)
+
+
 def an_office_keeps_a_file_its_copies_and_a_longer_one(program):
     os.symlink(os.path.join(ROOT, "examples"), program.file("examples"))
     rows = "0 ROW SR12 0.000 7.750 'asphalt' 2011\n0 ROW SR12 7.750 9.100 'concrete' 1998\n0 ROW SR12 9.100 14.250 'asphalt' 2019\n"
@@ -205,12 +211,13 @@ def each_script_of_the_cookbook_is_run(_program):
     with open(COOKBOOK, encoding="utf-8") as file:
         headings = [line[3:].rstrip("\n") for line in file if line.startswith("## ")]
     with_scripts = [one for one in headings if any(block.language in ("python", "sh") for block in blocks_of(COOKBOOK, one))]
-    run = {ASKED, DRAWN, LOOKED_AT, PAGED, FROM_CSV, BY_SHELL, AS_TEXT, KEPT, BACKED_UP, LONGER, REFUSED, NETWORKED}
+    run = {ASKED, DRAWN, LOOKED_AT, PAGED, FROM_CSV, BY_SHELL, AS_TEXT, KEPT, SENT_AGAIN, BACKED_UP, LONGER, REFUSED, NETWORKED}
     expect("sections with scripts", set(with_scripts), run)
 
 
 DOCUMENT_TESTS = [
     an_office_keeps_a_file_its_copies_and_a_longer_one,
+    refused_lines_are_mended_and_sent_again,
     a_report_is_asked_for_over_the_network,
     each_script_of_the_cookbook_is_run,
     the_inventory_is_asked_from_python,

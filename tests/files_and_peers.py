@@ -13,6 +13,7 @@ import os
 import random
 import re
 import resource
+import shutil
 import signal
 import socket
 import struct
@@ -27,7 +28,7 @@ from typing import NamedTuple
 from conversations import conversations_of, exchanges_of, path_of
 from file_writer import PAGE_BYTES, written
 from harness import bytes_at, expect, run_tests
-from programs import PROGRAM, Ended, ended_as_nobody
+from programs import PROGRAM, ROOT, Ended, ended_as_nobody
 from slow_checkpoint import being_written, in_first_version
 from slow_file import lines_of, read
 from slow_journal import GATE, NO_PAGES, VERSION
@@ -592,9 +593,33 @@ def words_are_looked_at_first(program):
     expect("files that were made", os.listdir(program.folder), [])
 
 
+NAMED = b"roadseg: a file is named by --file, as: roadseg run --file roads.seg\n"
+
+
+def a_file_without_its_option_is_told_of(program):
+    """Where a word has a point or a slash, and none is --file, csv or explain."""
+    file = program.file()
+    for words in (["run", "roads.seg"], ["run", file], ["run", "--bail", "x/y"], ["create", "roads.seg"], ["dump", file], ["serve", "roads.seg"], ["roads.seg"]):
+        done = program.run(*words, sent=DEFINED)
+        expect(" ".join(words), (done.status, done.out, done.errors.startswith(b"error: "), done.errors.endswith(b"\n" + NAMED)), (2, b"", True, True))
+        expect("a line once", done.errors.count(NAMED), 1)
+    table = "DEFINE LINE TABLE t (a INT)"
+    for words in (["run", "roads"], ["walk"], [], ["run", "--file", file, "roads.seg"], ["run", "--file=" + file, "x.y"], ["csv", table, "t.csv"], ["explain", "1", "2.1"]):
+        done = program.run(*words, sent=DEFINED)
+        expect(" ".join(words), (done.status, done.out, done.errors.startswith(b"error: "), NAMED in done.errors), (2, b"", True, False))
+    expect("files that were made", os.listdir(program.folder), [])
+
+
 def help_and_the_version_are_shown(program):
     done = program.run("--version")
-    expect("--version", (done.status, done.out.split(b" ")[0], done.errors), (0, b"roadseg", b""))
+    version = re.fullmatch(rb"(roadseg (0\.[0-9]+\.0) \(for (.+)\))\n", done.out)
+    expect("--version", (done.status, version is not None, done.errors), (0, True, b""))
+    shown, number, kit = (part.decode() for part in version.groups())
+    expect("the kit of the README", "Proved with `%s` (`rt version`)" % kit in bytes_at(os.path.join(ROOT, "README.md")).decode(), True)
+    language = bytes_at(os.path.join(ROOT, "docs", "LANGUAGE.md")).decode()
+    expect("the version in the page", ("`%s`" % shown in language, "\n| %s |" % number in language), (True, True))
+    if shutil.which("rt"):
+        expect("the kit", subprocess.run(["rt", "version"], capture_output=True, timeout=LONGEST).stdout.decode().strip(), kit)
     expect("the address in its help", b"127.0.0.1:7400" in program.run("serve", "--help").out, True)
     for words in (["--help"], ["create", "--help"], ["run", "--help"], ["serve", "--help"]):
         done = program.run(*words, sent=DEFINED)
@@ -986,6 +1011,7 @@ TESTS = [
     lines_may_come_in_pieces,
     answers_are_cut_where_there_is_no_room,
     words_are_looked_at_first,
+    a_file_without_its_option_is_told_of,
     help_and_the_version_are_shown,
     words_that_ask_nothing_read_nothing,
     the_status_is_the_same_where_errors_go_nowhere,

@@ -223,7 +223,7 @@ fn roadseg_command<'a>(alloc: Global) -> Result<Command<'a>, AllocError>
         .about(
             "Answers queries on routes and events by linear reference. A line is a session from 0 to 63 and a command, as: 0 DEFINE ROUTE SR12 FROM 0 TO 18.5, or: 0 SELECT WHERE(pavement, surface = 'gravel'). The page docs/LANGUAGE.md has them all",
         )
-        .version("0.1.0")
+        .version("0.2.0 (for rattle-kit-13f logic dac8208d650f15bf)")
         .subcommand_required(true)
         .subcommand(create_command(alloc)?)?
         .subcommand(run_command(alloc)?)?
@@ -264,7 +264,7 @@ fn run_command<'a>(alloc: Global) -> Result<Command<'a>, AllocError>
         .arg(flag(
             alloc,
             "report",
-            "Say at the end how many lines were refused, and the first ten of them",
+            "Show each refused line, of each number the first ten, and count them at the end; with status 1 where there are any",
         ))
 }
 

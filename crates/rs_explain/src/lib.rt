@@ -1,4 +1,5 @@
-//! What each refusal means: what to look at, and an example that is refused and then mended.
+//! What each refusal means: what to look at, an example that is refused and then mended, and which option of `csv` makes lines that
+//! are not refused so.
 //!
 //! It is one table, by the refusals themselves, so that none is missing: the program prints it, and docs/LANGUAGE.md has what it prints.
 #![tactic(auto)]
@@ -71,19 +72,19 @@ pub fn explain(refusal: &Refusal) -> Explanation {
             mended: "two views, the second of which names the first",
         },
         Refusal::SessionNumber => Explanation {
-            meaning: "The line does not begin with a number from 0 to 63 and a blank.",
-            look: "The beginning of the line. If you are alone, write 0.",
+            meaning: "The line does not begin with a number from 0 to 63 and a blank. Comments, blank lines and quit do not either.",
+            look: "The beginning of the line. If you are alone, write 0. To quit, end the input: in a terminal with Ctrl-D.",
             refused: "SELECT pavement",
             mended: "0 SELECT pavement",
         },
         Refusal::UnknownCharacter => Explanation {
-            meaning: "A character begins no word, number, text or sign of the language, or a quote is not closed.",
-            look: "Quotes round texts: single ones, and each quote within doubled.",
+            meaning: "A character begins no word, number, text or sign of the language, as ; * \" != and a . that is not between digits, or a quote is not closed.",
+            look: "Quotes round texts: single ones, and each quote within doubled. A line ends without ; and a query has no *; write <> for != and 0.5 for .5.",
             refused: "0 INSERT INTO signs ON SR12 AT 2 VALUES ('St. John's')",
             mended: "0 INSERT INTO signs ON SR12 AT 2 VALUES ('St. John''s')",
         },
         Refusal::Syntax(_) => Explanation {
-            meaning: "The line is no command. The number after 'at' is the column of the first word that fits no rule, counted from 1 in bytes.",
+            meaning: "The line is no command. C is the column of the first word that fits no rule, counted from 1 in bytes.",
             look: "The word at that column, and the command's form in docs/LANGUAGE.md. Words of the language are in capitals.",
             refused: "0 SELECT traffic WHERE aadt > 5000",
             mended: "0 SELECT WHERE(traffic, aadt > 5000)",
@@ -155,7 +156,7 @@ pub fn explain(refusal: &Refusal) -> Explanation {
             mended: "0 INSERT INTO pavement ON SR12 FROM 4 TO 5 VALUES ('asphalt', 2011)",
         },
         Refusal::WrongValues => Explanation {
-            meaning: "The number of the values is not that of the columns, or a value has the wrong type.",
+            meaning: "The number of the values is not that of the columns, or a value has the wrong type; a comparison has a number on one side and a text on the other; or SUM names a column of texts.",
             look: "The columns of the table in their order: numbers without quotes, texts with them.",
             refused: "0 INSERT INTO pavement ON SR12 FROM 0 TO 1 VALUES ('asphalt', '2011')",
             mended: "0 INSERT INTO pavement ON SR12 FROM 0 TO 1 VALUES ('asphalt', 2011)",
@@ -238,5 +239,31 @@ pub fn explain(refusal: &Refusal) -> Explanation {
             refused: "roadseg run --file old.seg, which an older program was writing when it was killed",
             mended: "roadseg run --file backup.seg",
         },
+    }
+}
+
+/// Which option of `csv` makes lines that are not refused so, or what `csv` does by itself, where one does.
+pub fn cure_by_csv(refusal: &Refusal) -> Option<&'static str> {
+    match refusal {
+        Refusal::SessionNumber => {
+            Some("--session 7 begins each line with 7; without it they begin with 0.")
+        }
+        Refusal::UnknownCharacter => {
+            Some("without an option it puts texts into quotes, and doubles those within.")
+        }
+        Refusal::NumberOutOfRange => {
+            Some("--round takes measures with more decimals to the nearest thousandth.")
+        }
+        Refusal::NoSuchRoute => Some(
+            "--routes defines the routes too, each from the least to the greatest measure met on it.",
+        ),
+        Refusal::NameTaken => {
+            Some("--no-define leaves out the line that defines the table, which is there.")
+        }
+        Refusal::OutsideTheRoute => {
+            Some("--routes defines routes that are not there yet, as long as the records need.")
+        }
+        Refusal::EmptySpan => { Some("--at names the column of the measure, for a POINT TABLE.") }
+        _ => None,
     }
 }

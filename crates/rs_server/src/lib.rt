@@ -13,6 +13,7 @@ pub mod reasons;
 mod reopened;
 pub mod report;
 pub mod service;
+pub mod tally;
 pub mod watch;
 pub mod words;
 

@@ -20,7 +20,8 @@ use crate::reopened::Reopened;
 use crate::report::{
     FAILED, Failure, MISUSE, SUCCESS, failure_to_make, failure_to_open, report_failure,
 };
-use crate::watch::{Ended, LineByLine, Tally, Watched, tell_unended};
+use crate::tally::Tally;
+use crate::watch::{Line, LineByLine, Watched};
 use crate::words::{convert, explain_refusal};
 use clap::Error;
 use clap::error::ErrorKind;
@@ -29,11 +30,11 @@ use rs_disk::{FileDisk, MemoryDisk};
 use rs_dump::Wanted;
 use rs_engine::Engine;
 use rs_engine::engine::laws::machine_is_the_only_one;
-use rs_protocol::{Fault, run};
+use rs_protocol::{Fault, put_parts, run};
 use rs_refusal::Refusal;
 use rs_serve::Serve;
 use std::alloc::{AllocGlobal, Global};
-use std::cell::Cell;
+use std::cell::RefCell;
 use std::convert::AsStr;
 use std::fmt::Display;
 use std::fs::File;
@@ -46,8 +47,9 @@ use std::time::Clock;
 /// Runs the program on its words, the program's own name first, and gives its exit status.
 ///
 /// 0 also after help or the version, which are shown on the output, and after an input that ends inside a line; 1 for a failure, which
-/// is said in one line on the errors stream, and for want of memory in reading the words; 2 where the words are no command line, of
-/// which `clap` says on the errors stream what is wrong. A write to the errors stream that fails changes nothing.
+/// is said in one line on the errors stream, for want of memory in reading the words, and where `--bail` or `--report` watches a run
+/// that refused a line; 2 where the words are no command line, of which `clap` says on the errors stream what is wrong. A write to the
+/// errors stream that fails changes nothing.
 pub fn program<
     P: AllocGlobal + Clock + Files<File = File> + Net<Listener = TcpListener, Stream = TcpStream>,
     S: AsStr,
@@ -61,18 +63,27 @@ pub fn program<
     ensures quiet { result ≡ SUCCESS → Keeps (E.contents errors.old) (E.contents errors.new) ⊎ SaysMore (asked_of (map S.text words.now)) }
 {
     let asked = read_words(rt.alloc(), words);
-    do_as_asked(rt, asked, input, output, errors)
+    do_as_asked(rt, asked, words, input, output, errors)
 }
 
 /// Does what the words ask, as they were read, and gives the exit status.
 ///
-/// It does it wherever they ask it; want of memory is said where reading them answered it, and nowhere else.
+/// It does it wherever they ask it; want of memory is said where reading them answered it, and nowhere else. Of words that are refused
+/// the errors stream says more where they name a file without `--file`.
 pub fn do_as_asked<
     P: AllocGlobal + Clock + Files<File = File> + Net<Listener = TcpListener, Stream = TcpStream>,
+    S: AsStr,
     R: Read,
     W: Write,
     E: Write,
->(rt: &P, asked: Result<Asked<'_>, Error>, input: &mut R, output: &mut W, errors: &mut E) -> u8
+>(
+    rt: &P,
+    asked: Result<Asked<'_>, Error>,
+    words: &[S],
+    input: &mut R,
+    output: &mut W,
+    errors: &mut E,
+) -> u8
     ensures ends { EndsAs asked.entry result (R.remaining input.old) (R.remaining input.new)
         (W.contents output.old) (W.contents output.new) (E.contents errors.old) (E.contents errors.new) }
     ensures quiet { result ≡ SUCCESS → IsQuietAs asked.entry (E.contents errors.old) (E.contents errors.new) }
@@ -88,7 +99,7 @@ pub fn do_as_asked<
                 let failure = show_help(&error, output);
                 end_with(errors, failure)
             }
-            _ => refuse_words(&error, errors),
+            _ => refuse_words(&error, words, errors),
         },
     }
 }
@@ -176,8 +187,8 @@ fn run_file<'a, P: AllocGlobal + Files<File = File>, R: Read, W: Write>(
     }
 }
 
-/// Serves the input on the output over memory or over a file, and counts the replies: it stops at the first refused line, or tells of
-/// them at the end.
+/// Serves the input on the output over memory or over a file, and watches it, as `--bail` and `--report` ask. The status is 1 where a line
+/// was refused.
 fn run_watched<P: AllocGlobal + Files<File = File>, R: Read, W: Write, E: Write>(
     rt: &P,
     file: Option<&str>,
@@ -188,41 +199,56 @@ fn run_watched<P: AllocGlobal + Files<File = File>, R: Read, W: Write, E: Write>
 ) -> u8
     ensures { flags.1 ≡ false → result ≡ SUCCESS → Keeps (E.contents errors.old) (E.contents errors.new) }
 {
-    let (bails, reports) = flags;
-    let mut tally = Tally::new();
-    let is_ended = Cell::new(true);
-    let mut ended = Ended::new(input, &is_ended);
-    let failure = serve_watched(rt, file, bails, &mut ended, output, &mut tally);
-    if reports {
-        let _ = tally.report(errors);
-        if !is_ended.get() && !(bails && tally.has_refused()) {
-            let _ = tell_unended(errors);
-        }
-    }
+    let (has_refused, failure) = watch(rt, file, flags, input, output, errors);
     let status = end_with(errors, failure);
-    if bails && tally.has_refused() {
-        FAILED
+    if has_refused { FAILED } else { status }
+}
+
+/// Serves the input on the output, stops at the first refused line where that is asked, and reports on the errors stream where that is.
+/// It gives whether a line was refused, and what failed.
+fn watch<'a, P: AllocGlobal + Files<File = File>, R: Read, W: Write, E: Write>(
+    rt: &P,
+    file: Option<&'a str>,
+    flags: (bool, bool),
+    input: &mut R,
+    output: &mut W,
+    errors: &mut E,
+) -> (bool, Option<Failure<'a>>)
+    ensures { flags.1 ≡ false → Keeps (E.contents errors.old) (E.contents errors.new) }
+{
+    let (bails, reports) = flags;
+    if reports {
+        let (tally, failure) = serve_watched(rt, file, bails, input, output, errors);
+        let _ = tally.report(errors);
+        (tally.has_refused(), failure)
     } else {
-        status
+        let mut nowhere = io::sink();
+        let (tally, failure) = serve_watched(rt, file, bails, input, output, &mut nowhere);
+        (tally.has_refused(), failure)
     }
 }
 
-/// Serves the input on the output over memory or over a file, and counts the replies.
-fn serve_watched<'a, P: AllocGlobal + Files<File = File>, R: Read, W: Write>(
+/// Serves the input on the output over memory or over a file, counts the replies, and tells the refused lines. It gives the counts, and
+/// what failed.
+fn serve_watched<'a, P: AllocGlobal + Files<File = File>, R: Read, W: Write, T: Write>(
     rt: &P,
     file: Option<&'a str>,
     bails: bool,
     input: &mut R,
     output: &mut W,
-    tally: &mut Tally,
-) -> Option<Failure<'a>> {
-    let has_refused = Cell::new(false);
-    let mut watched = Watched::new(output, &has_refused, tally);
-    if bails {
-        let mut lines = LineByLine::new(input, &has_refused);
-        return run_on(rt, file, &mut lines, &mut watched);
+    told: &mut T,
+) -> (Tally, Option<Failure<'a>>) {
+    let line = RefCell::new(Line::new());
+    let mut lines = LineByLine::new(input, &line, bails);
+    let mut watched = Watched::new(output, told, &line);
+    let failure = run_on(rt, file, &mut lines, &mut watched);
+    let mut tally = watched.into_tally();
+    if let Ok(line) = line.try_borrow()
+        && line.is_unended()
+    {
+        tally.leave_unended();
     }
-    run_on(rt, file, input, &mut watched)
+    (tally, failure)
 }
 
 /// Serves the input on the output over a file, where there is one, and else over memory.
@@ -331,12 +357,32 @@ fn end_with<E: Write>(errors: &mut E, failure: Option<Failure<'_>>) -> u8
     }
 }
 
-/// Says on the errors stream what is wrong with the words, and gives the exit status.
-fn refuse_words<E: Write>(error: &Error, errors: &mut E) -> u8
+/// Says on the errors stream what is wrong with the words, and how a file is named where one of them may be a file's name, and gives the
+/// exit status.
+fn refuse_words<S: AsStr, E: Write>(error: &Error, words: &[S], errors: &mut E) -> u8
     ensures { result ≡ MISUSE }
 {
     let _ = write!(errors, "{error}");
+    if lacks_file_option(words) {
+        let _ = put_parts(
+            errors,
+            &[b"roadseg: a file is named by --file, as: roadseg run --file roads.seg\n"],
+        );
+    }
     MISUSE
+}
+
+/// Whether a word has a point or a slash, as a file's name may, and none begins with `--file`. `csv` and `explain` take no file.
+fn lacks_file_option<S: AsStr>(words: &[S]) -> bool {
+    let mut has_path = false;
+    for word in words.iter().skip(1) {
+        let text = word.as_str();
+        if text == "csv" || text == "explain" || text.starts_with("--file") {
+            return false;
+        }
+        has_path = has_path || text.contains('.') || text.contains('/');
+    }
+    has_path
 }
 
 /// Shows the help or the version that was asked for. It is a write fault where it is not out whole.

@@ -8,7 +8,7 @@ use crate::report::{FAILED, Failure, MISUSE, SUCCESS, report_failure};
 use itoa::Buffer;
 use rs_command_line::CsvWords;
 use rs_csv::{Stop, Wanted, write_lines};
-use rs_explain::{ALL, explain};
+use rs_explain::{ALL, cure_by_csv, explain};
 use rs_protocol::{Fault, put_parts};
 use rs_refusal::Refusal;
 use std::alloc::Global;
@@ -110,10 +110,23 @@ fn say<W: Write>(refusal: &Refusal, output: &mut W) -> Result<(), Fault> {
     let mut digits = Buffer::new();
     let number = digits.format(refusal.number()).as_bytes();
     let words = refusal.words();
+    let form = form_of(refusal, words.as_str());
     let said = explain(refusal);
-    put_parts(output, &[number, b" ", words.as_str().as_bytes(), b"\n"])?;
+    put_parts(output, &[number, b" ", form.as_bytes(), b"\n"])?;
     put_parts(output, &[b"    ", said.meaning.as_bytes(), b"\n"])?;
     put_parts(output, &[b"    Look at: ", said.look.as_bytes(), b"\n"])?;
     put_parts(output, &[b"    Refused: ", said.refused.as_bytes(), b"\n"])?;
-    put_parts(output, &[b"    Mended:  ", said.mended.as_bytes(), b"\n"])
+    put_parts(output, &[b"    Mended:  ", said.mended.as_bytes(), b"\n"])?;
+    match cure_by_csv(refusal) {
+        Some(cure) => put_parts(output, &[b"    By csv:  ", cure.as_bytes(), b"\n"]),
+        None => Ok(()),
+    }
+}
+
+/// The words of a refusal, with C in the place of the column of a syntax fault.
+pub(crate) fn form_of<'a>(refusal: &Refusal, words: &'a str) -> &'a str {
+    match refusal {
+        Refusal::Syntax(_) => "syntax at C",
+        _ => words,
+    }
 }
