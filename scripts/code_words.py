@@ -81,6 +81,6 @@ class Code:
         """The word that a token of a contract means: a ghost member of a parameter's trait, or what a `use` brings."""
         head, _dot, member = token.partition(".")
         trait = self.word(crate, file, bounds[head]) if head in bounds and member else None
-        if trait:
-            return trait._replace(name="%s.%s" % (trait.name, member))
+        if trait:  # by its own name a trait is all of its members
+            return trait if member == trait.name else trait._replace(name="%s.%s" % (trait.name, member))
         return specs.word_at(*imports.names[head]) if head in imports.names else None

@@ -7,7 +7,8 @@ It reads which words each definition of `crates/*/specs` uses (spec_words.py), a
 two clauses of the headline, `served` of `rs_protocol::run` and `ends` of `rs_server::program`, it walks to all that they reach by
 `Ends`, `EndsBy` and what stands beside these. Each word reached has to be in a row of "What has to be believed", with its file in the
 row's last column, but for a helper: a definition that one definition alone uses, of the same file. No other word may be there, and no word
-reached in another list. Each word and file that MODEL names has to be there. The sentences of the rows are written by hand.
+reached in another list. Each word and file that MODEL names has to be there. The sentences of the rows are written by hand. The walk ends
+where `EndsBy` speaks of a file that was opened: what is said of one has a section of its own.
 
 `--reached` prints the words that have to be believed, by file, helpers in brackets. Else each difference is printed with what to do, and
 at last `N passed, M failed`, counted in words and files.
@@ -30,6 +31,7 @@ from harness import summary  # noqa: E402
 MODEL = os.path.join(ROOT, "docs", "MODEL.md")
 BELIEVED = "What has to be believed"
 CLAUSES = [("rs_protocol", "src/stream.rt", "run", "served"), ("rs_server", "src/service.rt", "program", "ends")]
+OF_FILES = ("rs_server", "specs/Opened")  # what comes of a file that was opened
 HEADLINE = {Word("rs_protocol", "specs/Ends", "Ends"), Word("rs_server", "specs/Ending", "EndsBy")}
 
 QUOTED = re.compile(r"`([^`]+)`")
@@ -107,7 +109,7 @@ class Reached:
         waiting = list(roots)
         while waiting:
             word = waiting.pop()
-            if word not in self.words:
+            if word not in self.words and word[:2] != OF_FILES:
                 self.words.add(word)
                 uses = specs.uses.get(word) or code.uses_of(word)
                 waiting += uses

@@ -12,6 +12,9 @@ use Rattle.rs_command_line.specs.Asked.{Said, csv_said, given_text, said_by}
 use Rattle.rs_command_line.specs.declared.command_line.CsvWords.{CsvWords}
 use Rattle.rs_command_line.specs.declared.command_line.Asked.{Asked}
 use Rattle.rs_command_line.specs.declared.command_line.Asked.TheVariants as asked
+use Rattle.rs_disk.specs.declared.disk.Disk as disk
+use Rattle.rs_server.specs.declared.file_system.Opening.{Opening}
+use Rattle.rs_server.specs.declared.report.Failure.{Failure}
 use Rattle.rs_server.specs.declared.report.TheConstants.{MISUSE}
 use Rattle.rs_server.specs.Ending.{ShowsHelp, RefusesWords, LacksMemory, EndsBy, EndsOn, EndsAs, IsQuiet, IsQuietAs, SaysMore}
 
@@ -24,8 +27,9 @@ only kind other (inr none) = absurd none
 among_all : (all : Kinds) (kind other : ErrorKind) → IsAmong other all → IsAmong kind (other ∷ []) → IsAmong kind all
 among_all all kind other among one = subst (λ k. IsAmong k all) (sym (only kind other one)) among
 
-module _ (all : Kinds) (Asks : Asked → Type 0) (status : ℕ) (a b c d e f : Option (List ℕ)) where
-  shows : (kind : ErrorKind) → IsAmong kind all → ShowsHelp (kind ∷ []) status a b e f → EndsBy all Asks status a b c d e f
+module _ {D : Type 0} (g : disk.Ghosts D) (Gives : Opening → List ℕ → Result D Failure → Type 0) (all : Kinds) (Asks : Asked → Type 0) (status : ℕ)
+    (a b c d e f : Option (List ℕ)) where
+  shows : (kind : ErrorKind) → IsAmong kind all → ShowsHelp (kind ∷ []) status a b e f → EndsBy g Gives all Asks status a b c d e f
   shows kind among help = inr (inl (record {
     asked = elim help.asked [
       | inl is ↦ inl (among_all all kinds.DisplayHelp kind among is)
@@ -35,7 +39,7 @@ module _ (all : Kinds) (Asks : Asked → Type 0) (status : ℕ) (a b c d e f : O
     input = help.input;
   }))
 
-  refuses : (kind : ErrorKind) → IsAmong kind all → RefusesWords (kind ∷ []) status a b c d → EndsBy all Asks status a b c d e f
+  refuses : (kind : ErrorKind) → IsAmong kind all → RefusesWords (kind ∷ []) status a b c d → EndsBy g Gives all Asks status a b c d e f
   refuses kind among words = inr (inr (inl (record {
     kind = words.kind;
     is_fault = among_all all words.kind kind among words.is_fault;
@@ -46,7 +50,7 @@ module _ (all : Kinds) (Asks : Asked → Type 0) (status : ℕ) (a b c d e f : O
     output = words.output;
   })))
 
-  on_kind : (kind : ErrorKind) → (kind ≡ kinds.OutOfMemory) ⊎ IsAmong kind all → EndsOn kind status a b c d e f → EndsBy all Asks status a b c d e f
+  on_kind : (kind : ErrorKind) → (kind ≡ kinds.OutOfMemory) ⊎ IsAmong kind all → EndsOn kind status a b c d e f → EndsBy g Gives all Asks status a b c d e f
   on_kind kinds.OutOfMemory why ends = inr (inr (inr ends))
   on_kind kinds.DisplayHelp (inl is) ends = cc
   on_kind kinds.DisplayHelp (inr among) ends = shows kinds.DisplayHelp among ends
@@ -55,7 +59,7 @@ module _ (all : Kinds) (Asks : Asked → Type 0) (status : ℕ) (a b c d e f : O
   on_kind kind (inl is) ends = cc
   on_kind kind (inr among) ends = refuses kind among ends
 
-  pub ends_by : (asked : Result Asked Error) → FailsBy all asked → IfOk asked Asks → EndsAs asked status a b c d e f → EndsBy all Asks status a b c d e f
+  pub ends_by : (asked : Result Asked Error) → FailsBy all asked → IfOk asked Asks → EndsAs g Gives asked status a b c d e f → EndsBy g Gives all Asks status a b c d e f
   ends_by (Ok asked) none asks ends = inl (none, (asked, asks, ends))
   ends_by (Err error) why asks ends = on_kind (kind_of error) why ends
 

@@ -6,3 +6,4 @@ mod Reopenings
 mod Dumps
 mod Unopened
 mod Surviving
+mod Openings

@@ -1,5 +1,6 @@
 -- What comes of a file on a disk: it is made, or opened, served and closed.
 use Rattle.std.specs.Prelude.{◌≡◌, ◌≢◌, ◌⊎◌, ℕ, List, Option, Some, None, Result, Ok, Err, IfSome, IsTrue}
+use Rattle.std.specs.Borrow.{Bor}
 use Rattle.std.specs.Io.KnownBytes.{Consumes, Keeps}
 use Rattle.rs_disk.specs.Content.{Content}
 use Rattle.rs_disk.specs.declared.disk.Disk as disk
@@ -17,6 +18,7 @@ use Rattle.rs_protocol.specs.declared.stream.End.{End}
 use Rattle.rs_protocol.specs.declared.stream.Fault.{Fault}
 use Rattle.rs_refusal.specs.declared.refusal.Refusal.{Refusal}
 use Rattle.rs_refusal.specs.declared.refusal.Refusal.TheVariants as refusal
+use Rattle.rs_server.specs.Connections.{ServesAddress}
 use Rattle.rs_server.specs.declared.report.Failure.{Failure}
 use Rattle.rs_server.specs.declared.report.Failure.TheVariants.{Refused, Stream}
 use Rattle.rs_engine.specs.Crashes.{Call, GoThrough, IsOfAFront}
@@ -122,6 +124,27 @@ module _ {D : Type 0} (d : disk.Ghosts D) where
   abbrev pub ServesFile : ℕ → D → Result D (Option D × Failure) → Option (List ℕ) → Option (List ℕ) → Option (List ℕ) → Option (List ℕ) → Type 0
   ServesFile limit old result unread unread_now before after =
       ServesState limit old result unread unread_now before after ⊎ RefusesFile limit old result unread unread_now before after
+
+  -- ---- connections in place of the input
+
+  -- Connections at an address were served by this machine, and then the file was closed; the first failure is told.
+  pub record ServesAtAndCloses (limit : ℕ) (address : Bor (List ℕ)) (connections : ℕ) (first : Machine) (result : Result D (Option D × Failure)) (before after : Option (List ℕ)) : Type 0 where
+    pub failure : Option Failure
+    pub last : Machine
+    pub served : ServesAddress address connections failure first last before after
+    pub closes : Closes limit last failure result
+
+  -- the disk stood for a state, from which on they were served, with the disk's count of failures
+  pub record ServesStateAt (limit : ℕ) (address : Bor (List ℕ)) (connections : ℕ) (old : D) (result : Result D (Option D × Failure)) (before after : Option (List ℕ)) : Type 0 where
+    pub first : Machine
+    pub stood : Stands limit (d.seen old) first.state
+    pub failures : first.failures ≡ d.failures old
+    pub serves : ServesAtAndCloses limit address connections first result before after
+
+  -- what comes of the file that an honest disk holds, where no input is read
+  abbrev pub ServesFileAt : ℕ → Bor (List ℕ) → ℕ → D → Result D (Option D × Failure) → Option (List ℕ) → Option (List ℕ) → Type 0
+  ServesFileAt limit address connections old result before after =
+      ServesStateAt limit address connections old result before after ⊎ RefusesFile limit old result None None before after
 
   -- ---- a file that is made
 

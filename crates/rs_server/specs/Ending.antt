@@ -1,6 +1,7 @@
 -- How the program ends.
 use Rattle.std.specs.Prelude.{◌≡◌, ◌≢◌, ◌⊎◌, ℕ, List, [], ◌∷◌, Option, Some, None, Result, Ok, Err, Bool, true, false}
 use Rattle.std.specs.Io.KnownBytes.{Consumes, Keeps}
+use Rattle.std.specs.Option.{option_map}
 use Rattle.clap.specs.Words.{IsAmong, Kinds}
 use Rattle.clap.specs.declared.error.kind.ErrorKind.{ErrorKind}
 use Rattle.clap.specs.declared.error.kind.ErrorKind.TheVariants.{DisplayHelp, DisplayVersion, OutOfMemory}
@@ -12,6 +13,7 @@ use Rattle.rs_command_line.specs.declared.command_line.Asked.TheVariants.{Create
 use Rattle.rs_csv.specs.Output.{Ends, IsAsked}
 use Rattle.rs_csv.specs.declared.filter.Stop.{Stop}
 use Rattle.rs_csv.specs.declared.filter.Wanted.{Wanted}
+use Rattle.rs_disk.specs.declared.disk.Disk as disk
 use Rattle.rs_machine.specs.Served.{Machine}
 use Rattle.rs_machine.specs.State.{fresh}
 use Rattle.rs_protocol.specs.declared.stream.End.{End}
@@ -20,7 +22,9 @@ use Rattle.rs_protocol.specs.declared.stream.Fault.TheVariants.{Write}
 use Rattle.rs_refusal.specs.declared.refusal.Refusal.{Refusal}
 use Rattle.rs_refusal.specs.declared.refusal.Refusal.TheVariants as refusals
 use Rattle.rs_server.specs.Disks.{ServesInput, failure_of}
+use Rattle.rs_server.specs.Opened.{CreatesNamed, DumpsNamed, ServesNamed, ServesNamedAt}
 use Rattle.rs_server.specs.Saying.{SaysFront, failure_line}
+use Rattle.rs_server.specs.declared.file_system.Opening.{Opening}
 use Rattle.rs_server.specs.declared.report.Failure.{Failure}
 use Rattle.rs_server.specs.declared.report.Failure.TheVariants.{Refused, Stream}
 use Rattle.rs_server.specs.declared.report.TheConstants.{FAILED, MISUSE, SUCCESS}
@@ -76,26 +80,47 @@ WritesLines status unread unread_now before after =
     ⊎ ((wanted : Wanted) × (table : CommandTree) × (IsAsked wanted table ⊎ Keeps before after) × (outcome : Result Bool Stop) × (told : List ℕ) × Consumes unread unread_now told
     × Ends wanted table outcome told unread_now before after × (status ≡ SUCCESS → outcome ≡ Ok false))
 
--- What is done as it is asked, where this failed or nothing did. Of a file and of the network nothing is known.
-abbrev pub Does : Asked → Option Failure → Option (List ℕ) → Option (List ℕ) → Option (List ℕ) → Option (List ℕ) → Type 0
-Does Run failure unread unread_now before after = Runs failure unread unread_now before after
-Does (RunFile file) failure unread unread_now before after = Unit {0}
-Does (Create file) failure unread unread_now before after = Keeps unread unread_now × Keeps before after
-Does (Serve file address connections) failure unread unread_now before after = Keeps unread unread_now
-Does (RunWatched file bails reports) failure unread unread_now before after = Unit {0}
-Does (Csv words) failure unread unread_now before after = (status : ℕ) × WritesLines status unread unread_now before after
-Does (Dump file table omits_rows) failure unread unread_now before after = Keeps unread unread_now
-Does (Explain refusal) failure unread unread_now before after = Keeps unread unread_now
+-- ---- what is done, where this is what opening a file of a name may give
 
--- The program does what is asked, and its status and the errors stream say what failed. Of `run` with options nothing is known, nor
--- of what `csv`, `dump` and `explain` say on the errors stream.
-abbrev pub EndsDoing : Asked → ℕ → Option (List ℕ) → Option (List ℕ) → Option (List ℕ) → Option (List ℕ) → Option (List ℕ) → Option (List ℕ) → Type 0
-EndsDoing (RunWatched file bails reports) status unread unread_now before after errors errors_now = Unit {0}
-EndsDoing (Csv words) status unread unread_now before after errors errors_now = WritesLines status unread unread_now before after
-EndsDoing (Dump file table omits_rows) status unread unread_now before after errors errors_now = Keeps unread unread_now
-EndsDoing (Explain refusal) status unread unread_now before after errors errors_now = Keeps unread unread_now
-EndsDoing asked status unread unread_now before after errors errors_now =
-    (failure : Option Failure) × Does asked failure unread unread_now before after × EndsWith failure status errors errors_now
+module _ {D : Type 0} (d : disk.Ghosts D) (Gives : Opening → List ℕ → Result D Failure → Type 0) where
+  -- `run` over a file, where there is one
+  abbrev pub RunsOver : Option (List ℕ) → Option Failure → Option (List ℕ) → Option (List ℕ) → Option (List ℕ) → Option (List ℕ) → Type 0
+  RunsOver None failure unread unread_now before after = Runs failure unread unread_now before after
+  RunsOver (Some file) failure unread unread_now before after = ServesNamed d Gives file failure unread unread_now before after
+
+  -- some streams in its place: nothing is known of the streams of `run` with options, as they are wrapped
+  abbrev pub RunsWatched : Option (List ℕ) → Option Failure → Type 0
+  RunsWatched file failure =
+      (unread : Option (List ℕ)) × (unread_now : Option (List ℕ)) × (before : Option (List ℕ)) × (after : Option (List ℕ)) × RunsOver file failure unread unread_now before after
+
+  -- the status is that of the failure, or 1 where a line was refused
+  pub record EndsWatched (file : Option (List ℕ)) (status : ℕ) : Type 0 where
+    pub failure : Option Failure
+    pub runs : RunsWatched file failure
+    pub status_is : (status ≡ status_of failure) ⊎ (status ≡ FAILED)
+
+  -- What is done as it is asked, where this failed or nothing did. What a peer tells and is told is not known.
+  abbrev pub Does : Asked → Option Failure → Option (List ℕ) → Option (List ℕ) → Option (List ℕ) → Option (List ℕ) → Type 0
+  Does Run failure unread unread_now before after = Runs failure unread unread_now before after
+  Does (RunFile file) failure unread unread_now before after = ServesNamed d Gives file.now failure unread unread_now before after
+  Does (Create file) failure unread unread_now before after = CreatesNamed d Gives file.now failure × Keeps unread unread_now × Keeps before after
+  Does (Serve file address connections) failure unread unread_now before after =
+      ServesNamedAt d Gives file.now address connections failure before after × Keeps unread unread_now
+  Does (RunWatched file bails reports) failure unread unread_now before after = Unit {0}
+  Does (Csv words) failure unread unread_now before after = (status : ℕ) × WritesLines status unread unread_now before after
+  Does (Dump file table omits_rows) failure unread unread_now before after = Keeps unread unread_now
+  Does (Explain refusal) failure unread unread_now before after = Keeps unread unread_now
+
+  -- The program does what is asked, and its status and the errors stream say what failed. What is said on the errors stream by `run` with
+  -- options, `csv` and `explain` is not known, nor by `dump` of a file that was opened.
+  abbrev pub EndsDoing : Asked → ℕ → Option (List ℕ) → Option (List ℕ) → Option (List ℕ) → Option (List ℕ) → Option (List ℕ) → Option (List ℕ) → Type 0
+  EndsDoing (RunWatched file bails reports) status unread unread_now before after errors errors_now = EndsWatched (option_map (λ t. t.now) file) status
+  EndsDoing (Csv words) status unread unread_now before after errors errors_now = WritesLines status unread unread_now before after
+  EndsDoing (Dump file table omits_rows) status unread unread_now before after errors errors_now =
+      DumpsNamed d Gives file.now (option_map (λ t. t.now) table) omits_rows status before after errors errors_now × Keeps unread unread_now
+  EndsDoing (Explain refusal) status unread unread_now before after errors errors_now = Keeps unread unread_now
+  EndsDoing asked status unread unread_now before after errors errors_now =
+      (failure : Option Failure) × Does asked failure unread unread_now before after × EndsWith failure status errors errors_now
 
 -- it says nothing on the errors stream, but where it is asked to report, or to round
 abbrev pub IsQuiet : Asked → Option (List ℕ) → Option (List ℕ) → Type 0
@@ -143,15 +168,16 @@ EndsOn DisplayHelp status unread unread_now before after errors errors_now = Sho
 EndsOn DisplayVersion status unread unread_now before after errors errors_now = ShowsHelp (DisplayVersion ∷ []) status unread unread_now errors errors_now
 EndsOn kind status unread unread_now before after errors errors_now = RefusesWords (kind ∷ []) status unread unread_now before after
 
--- how it ends as the words were read: it does what they ask wherever they ask it
-abbrev pub EndsAs : Result Asked Error → ℕ → Option (List ℕ) → Option (List ℕ) → Option (List ℕ) → Option (List ℕ) → Option (List ℕ) → Option (List ℕ) → Type 0
-EndsAs (Ok asked) status unread unread_now before after errors errors_now = EndsDoing asked status unread unread_now before after errors errors_now
-EndsAs (Err error) status unread unread_now before after errors errors_now = EndsOn (kind_of error) status unread unread_now before after errors errors_now
+module _ {D : Type 0} (d : disk.Ghosts D) (Gives : Opening → List ℕ → Result D Failure → Type 0) where
+  -- how it ends as the words were read: it does what they ask wherever they ask it
+  abbrev pub EndsAs : Result Asked Error → ℕ → Option (List ℕ) → Option (List ℕ) → Option (List ℕ) → Option (List ℕ) → Option (List ℕ) → Option (List ℕ) → Type 0
+  EndsAs (Ok asked) status unread unread_now before after errors errors_now = EndsDoing d Gives asked status unread unread_now before after errors errors_now
+  EndsAs (Err error) status unread unread_now before after errors errors_now = EndsOn (kind_of error) status unread unread_now before after errors errors_now
 
--- how it ends on words with these kinds of fault, none of them where they ask this
-abbrev pub EndsBy : Kinds → (Asked → Type 0) → ℕ → Option (List ℕ) → Option (List ℕ) → Option (List ℕ) → Option (List ℕ) → Option (List ℕ) → Option (List ℕ) → Type 0
-EndsBy kinds Asks status unread unread_now before after errors errors_now =
-    ((kinds ≡ []) × ((asked : Asked) × Asks asked × EndsDoing asked status unread unread_now before after errors errors_now))
-    ⊎ ShowsHelp kinds status unread unread_now errors errors_now
-    ⊎ RefusesWords kinds status unread unread_now before after
-    ⊎ LacksMemory status unread unread_now before after errors errors_now
+  -- how it ends on words with these kinds of fault, none of them where they ask this
+  abbrev pub EndsBy : Kinds → (Asked → Type 0) → ℕ → Option (List ℕ) → Option (List ℕ) → Option (List ℕ) → Option (List ℕ) → Option (List ℕ) → Option (List ℕ) → Type 0
+  EndsBy kinds Asks status unread unread_now before after errors errors_now =
+      ((kinds ≡ []) × ((asked : Asked) × Asks asked × EndsDoing d Gives asked status unread unread_now before after errors errors_now))
+      ⊎ ShowsHelp kinds status unread unread_now errors errors_now
+      ⊎ RefusesWords kinds status unread unread_now before after
+      ⊎ LacksMemory status unread unread_now before after errors errors_now

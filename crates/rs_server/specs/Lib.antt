@@ -5,3 +5,5 @@ pub mod Damage
 pub mod Reopenings
 pub mod Saying
 pub mod Dumping
+pub mod Opened
+pub mod Files

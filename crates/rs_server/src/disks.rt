@@ -10,16 +10,19 @@ ghost use Rattle.rs_machine.specs.Served.{Machine};
 ghost use Rattle.rs_machine.specs.State.{State};
 ghost use Rattle.rs_machine.specs.Step.{without_cursors};
 ghost use Rattle.rs_pages.specs.declared.pages.TheConstants.{GREATEST_LIMIT};
-ghost use Rattle.rs_server.specs.Disks.{Closes, CreatesFile, ServesAndCloses, ServesFile, disk_of, failure_of};
+ghost use Rattle.rs_server.specs.Disks.{Closes, CreatesFile, ServesAndCloses, ServesAtAndCloses, ServesFile, ServesFileAt, disk_of, failure_of};
 
+use crate::listening::serve_address;
 use crate::reopened::Reopened;
 use crate::report::Failure;
 use rs_disk::Disk;
 use rs_engine::Engine;
 use rs_engine::engine::laws::{machine_is_the_only_one, steps_leave_a_front};
 use rs_protocol::{End, Fault, run};
-use std::alloc::Global;
+use std::alloc::{AllocGlobal, Global};
 use std::io::{Read, Write};
+use std::net::{Net, TcpListener, TcpStream};
+use std::time::Clock;
 
 /// Writes the file in which nothing is defined in place of all that the disk holds, and closes it.
 pub fn create_on<D: Disk + Drop>(alloc: Global, disk: D) -> Result<D, (Option<D>, Failure<'static>)>
@@ -68,6 +71,50 @@ fn serve_and_close<D: Disk + Drop, R: Read, W: Write>(
     close_after(engine, failure)
 }
 
+/// Opens the file that the disk holds, serves so many connections at the address, one after another, and closes it, after a failure too.
+pub fn serve_disk_at<
+    'a,
+    P: AllocGlobal + Clock + Net<Listener = TcpListener, Stream = TcpStream>,
+    D: Disk + Drop,
+    W: Write,
+>(
+    rt: &P,
+    disk: D,
+    address: &'a str,
+    connections: u32,
+    output: &mut W,
+) -> Result<D, (Option<D>, Failure<'a>)>
+    ensures { IsTrue (D.is_honest disk) → ServesFileAt D.Disk GREATEST_LIMIT address.entry connections disk result (W.contents output.old) (W.contents output.new) }
+{
+    machine_is_the_only_one::<D>();
+    match Engine::open(rt.alloc(), disk) {
+        Ok(engine) => serve_at_and_close(rt, engine, address, connections, output),
+        Err((disk, refusal)) => Err((Some(disk), Failure::Refused(refusal))),
+    }
+}
+
+/// Serves so many connections at the address, and closes the file, after a failure too.
+fn serve_at_and_close<
+    'a,
+    P: AllocGlobal + Clock + Net<Listener = TcpListener, Stream = TcpStream>,
+    D: Disk + Drop,
+    W: Write,
+>(
+    rt: &P,
+    engine: Engine<D>,
+    address: &'a str,
+    connections: u32,
+    output: &mut W,
+) -> Result<D, (Option<D>, Failure<'a>)>
+    ensures { (machine : Machine) → IsOneMachine D.Disk engine machine
+        → ServesAtAndCloses D.Disk GREATEST_LIMIT address.entry connections machine result (W.contents output.old) (W.contents output.new) }
+{
+    let mut reopened = Reopened::new(engine);
+    let failure = serve_address(rt, &mut reopened, address, connections, output);
+    let (engine, failure) = reopened.end(failure);
+    close_after(engine, failure)
+}
+
 /// The failure of a service, where there was one.
 pub(crate) fn failure_after(outcome: Result<End, Fault>) -> Option<Failure<'static>>
     ensures { result ≡ failure_of outcome }
@@ -79,7 +126,7 @@ pub(crate) fn failure_after(outcome: Result<End, Fault>) -> Option<Failure<'stat
 }
 
 /// Closes the file. Where that is refused (90, 91) the disk is not handed back, and the refusal is told where nothing failed before.
-pub(crate) fn close_after<'a, D: Disk + Drop>(
+fn close_after<'a, D: Disk + Drop>(
     engine: Engine<D>,
     failure: Option<Failure<'a>>,
 ) -> Result<D, (Option<D>, Failure<'a>)>

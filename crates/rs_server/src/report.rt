@@ -5,6 +5,7 @@
 ghost use Rattle.std.specs.Prelude.{◌≡◌, ◌≢◌, ◌++◌};
 ghost use Rattle.std.specs.IoError.{error_kind};
 ghost use Rattle.rs_protocol.specs.Puts.{Puts};
+ghost use Rattle.rs_server.specs.Files.{IsNotMade, IsNotOpened};
 ghost use Rattle.rs_server.specs.Saying.{failure_line, place_line, refusal_line, SaysFront};
 
 use crate::reasons::{Reason, why_not_made, why_not_opened};
@@ -48,7 +49,9 @@ pub(crate) fn failure_to_open<'a, R: Files<File = File>>(
     rt: &R,
     file: &'a str,
     error: OpenError,
-) -> Failure<'a> {
+) -> Failure<'a>
+    ensures { IsNotOpened file.now result }
+{
     let why = why_not_opened(rt, file, error);
     Failure::CannotOpen { file, why }
 }
@@ -58,7 +61,9 @@ pub(crate) fn failure_to_make<'a, R: Files<File = File>>(
     rt: &R,
     file: &'a str,
     error: OpenError,
-) -> Failure<'a> {
+) -> Failure<'a>
+    ensures { IsNotMade file.now result }
+{
     match error {
         OpenError::Exists => Failure::FileExists,
         OpenError::FolderNotSynced => Failure::Refused(Refusal::Disk),

@@ -3,45 +3,38 @@
 //! The status says how it ended: 0, 1 for a failure, 2 for a command line that is refused. The first failure alone is told.
 
 ghost use Rattle.std.specs.Prelude.{◌≡◌, ◌⊎◌, Option, None, Some, false, true, map, IfSome, OnOk};
+ghost use Rattle.std.specs.Option.{option_map};
 ghost use Rattle.std.specs.Io.KnownBytes.{Appends, Keeps};
 ghost use Rattle.clap.specs.Words.{fault_of};
 ghost use Rattle.rs_command_line.specs.Asked.{asked_of, said_by};
 ghost use Rattle.rs_command_line.specs.CommandLine.{command_line};
 ghost use Rattle.rs_command_line.specs.declared.command_line.Asked.{Asked};
-ghost use Rattle.rs_server.specs.Disks.{told_of};
-ghost use Rattle.rs_server.specs.Ending.{EndsAs, EndsBy, EndsDoing, EndsWith, IsQuiet, IsQuietAs, Runs, SaysMore};
+ghost use Rattle.rs_server.specs.Ending.{EndsAs, EndsBy, EndsDoing, EndsWatched, EndsWith, IsQuiet, IsQuietAs, Runs, RunsOver, RunsWatched, SaysMore};
+ghost use Rattle.rs_server.specs.Opened.{CreatesNamed, DumpsNamed, ServesNamed, ServesNamedAt};
 
-use crate::connection::{CannotAccept, serve_connections};
-use crate::disks::{close_after, create_on, failure_after, serve_disk};
-use crate::dumping::dump_on;
-use crate::listening::{bound, say_listening};
-use crate::reasons::why_not_bound;
-use crate::reopened::Reopened;
-use crate::report::{
-    FAILED, Failure, MISUSE, SUCCESS, failure_to_make, failure_to_open, report_failure,
-};
+use crate::disks::failure_after;
+use crate::file_system::{FileSystem, Opening};
+use crate::opened::{create_opened, dump_opened, serve_opened, serve_opened_at};
+use crate::report::{FAILED, Failure, MISUSE, SUCCESS, report_failure};
 use crate::tally::Tally;
 use crate::watch::{Line, LineByLine, Watched};
 use crate::words::{convert, explain_refusal};
 use clap::Error;
 use clap::error::ErrorKind;
 use rs_command_line::{Asked, read_words};
-use rs_disk::{FileDisk, MemoryDisk};
+use rs_disk::{Disk, MemoryDisk};
 use rs_dump::Wanted;
 use rs_engine::Engine;
 use rs_engine::engine::laws::machine_is_the_only_one;
 use rs_protocol::{Fault, put_parts, run};
 use rs_refusal::Refusal;
-use rs_serve::Serve;
 use std::alloc::{AllocGlobal, Global};
 use std::cell::RefCell;
 use std::convert::AsStr;
 use std::fmt::Display;
-use std::fs::File;
 use std::io;
 use std::io::{Read, Write};
 use std::net::{Net, TcpListener, TcpStream};
-use std::rt::Files;
 use std::time::Clock;
 
 /// Runs the program on its words, the program's own name first, and gives its exit status.
@@ -51,13 +44,14 @@ use std::time::Clock;
 /// that refused a line; 2 where the words are no command line, of which `clap` says on the errors stream what is wrong. A write to the
 /// errors stream that fails changes nothing.
 pub fn program<
-    P: AllocGlobal + Clock + Files<File = File> + Net<Listener = TcpListener, Stream = TcpStream>,
+    P: AllocGlobal + Clock + FileSystem<Held = D> + Net<Listener = TcpListener, Stream = TcpStream>,
+    D: Disk + Drop,
     S: AsStr,
     R: Read,
     W: Write,
     E: Write,
 >(rt: &P, words: &[S], input: &mut R, output: &mut W, errors: &mut E) -> u8
-    ensures ends { EndsBy (fault_of command_line (map S.text words.now)) (λ asked. asked_of (map S.text words.now) ≡ Some (said_by asked)) result
+    ensures ends { EndsBy D.Disk (P.gives rt.now) (fault_of command_line (map S.text words.now)) (λ asked. asked_of (map S.text words.now) ≡ Some (said_by asked)) result
         (R.remaining input.old) (R.remaining input.new) (W.contents output.old) (W.contents output.new)
         (E.contents errors.old) (E.contents errors.new) }
     ensures quiet { result ≡ SUCCESS → Keeps (E.contents errors.old) (E.contents errors.new) ⊎ SaysMore (asked_of (map S.text words.now)) }
@@ -71,7 +65,8 @@ pub fn program<
 /// It does it wherever they ask it; want of memory is said where reading them answered it, and nowhere else. Of words that are refused
 /// the errors stream says more where they name a file without `--file`.
 pub fn do_as_asked<
-    P: AllocGlobal + Clock + Files<File = File> + Net<Listener = TcpListener, Stream = TcpStream>,
+    P: AllocGlobal + Clock + FileSystem<Held = D> + Net<Listener = TcpListener, Stream = TcpStream>,
+    D: Disk + Drop,
     S: AsStr,
     R: Read,
     W: Write,
@@ -84,7 +79,7 @@ pub fn do_as_asked<
     output: &mut W,
     errors: &mut E,
 ) -> u8
-    ensures ends { EndsAs asked.entry result (R.remaining input.old) (R.remaining input.new)
+    ensures ends { EndsAs D.Disk (P.gives rt.now) asked.entry result (R.remaining input.old) (R.remaining input.new)
         (W.contents output.old) (W.contents output.new) (E.contents errors.old) (E.contents errors.new) }
     ensures quiet { result ≡ SUCCESS → IsQuietAs asked.entry (E.contents errors.old) (E.contents errors.new) }
 {
@@ -106,12 +101,13 @@ pub fn do_as_asked<
 
 /// Does what is asked, and gives the exit status.
 fn do_it<
-    P: AllocGlobal + Clock + Files<File = File> + Net<Listener = TcpListener, Stream = TcpStream>,
+    P: AllocGlobal + Clock + FileSystem<Held = D> + Net<Listener = TcpListener, Stream = TcpStream>,
+    D: Disk + Drop,
     R: Read,
     W: Write,
     E: Write,
 >(rt: &P, asked: Asked<'_>, input: &mut R, output: &mut W, errors: &mut E) -> u8
-    ensures ends { EndsDoing asked.entry result (R.remaining input.old) (R.remaining input.new) (W.contents output.old) (W.contents output.new)
+    ensures ends { EndsDoing D.Disk (P.gives rt.now) asked.entry result (R.remaining input.old) (R.remaining input.new) (W.contents output.old) (W.contents output.new)
         (E.contents errors.old) (E.contents errors.new) }
     ensures quiet { result ≡ SUCCESS → IsQuiet asked.entry (E.contents errors.old) (E.contents errors.new) }
 {
@@ -149,14 +145,13 @@ fn do_it<
 }
 
 /// Makes a file in which nothing is defined, and syncs its folder first, so that the file is there after a power cut (91).
-fn create_file<'a, P: AllocGlobal + Files<File = File>>(
+fn create_file<'a, P: AllocGlobal + FileSystem<Held = D>, D: Disk + Drop>(
     rt: &P,
     file: &'a str,
-) -> Option<Failure<'a>> {
-    match FileDisk::create_synced(rt, file) {
-        Ok(disk) => failure_in(create_on(rt.alloc(), disk)),
-        Err(error) => Some(failure_to_make(rt, file, error)),
-    }
+) -> Option<Failure<'a>>
+    ensures { CreatesNamed D.Disk (P.gives rt.now) file.now result }
+{
+    create_opened(rt.alloc(), rt.open_file(file, Opening::New))
 }
 
 /// Serves the input on the output over a disk in memory, in which nothing is defined at first.
@@ -175,21 +170,25 @@ fn run_in_memory<R: Read, W: Write>(
 }
 
 /// Serves the input on the output over a file, and closes it.
-fn run_file<'a, P: AllocGlobal + Files<File = File>, R: Read, W: Write>(
+fn run_file<'a, P: AllocGlobal + FileSystem<Held = D>, D: Disk + Drop, R: Read, W: Write>(
     rt: &P,
     file: &'a str,
     input: &mut R,
     output: &mut W,
-) -> Option<Failure<'a>> {
-    match FileDisk::open(rt, file) {
-        Ok(disk) => failure_in(serve_disk(rt.alloc(), disk, input, output)),
-        Err(error) => Some(failure_to_open(rt, file, error)),
-    }
+) -> Option<Failure<'a>>
+    ensures { ServesNamed D.Disk (P.gives rt.now) file.now result (R.remaining input.old) (R.remaining input.new) (W.contents output.old) (W.contents output.new) }
+{
+    serve_opened(
+        rt.alloc(),
+        rt.open_file(file, Opening::Writing),
+        input,
+        output,
+    )
 }
 
 /// Serves the input on the output over memory or over a file, and watches it, as `--bail` and `--report` ask. The status is 1 where a line
 /// was refused.
-fn run_watched<P: AllocGlobal + Files<File = File>, R: Read, W: Write, E: Write>(
+fn run_watched<P: AllocGlobal + FileSystem<Held = D>, D: Disk + Drop, R: Read, W: Write, E: Write>(
     rt: &P,
     file: Option<&str>,
     flags: (bool, bool),
@@ -197,7 +196,8 @@ fn run_watched<P: AllocGlobal + Files<File = File>, R: Read, W: Write, E: Write>
     output: &mut W,
     errors: &mut E,
 ) -> u8
-    ensures { flags.1 ≡ false → result ≡ SUCCESS → Keeps (E.contents errors.old) (E.contents errors.new) }
+    ensures ends { EndsWatched D.Disk (P.gives rt.now) (option_map (λ t. t.now) file.entry) result }
+    ensures quiet { flags.1 ≡ false → result ≡ SUCCESS → Keeps (E.contents errors.old) (E.contents errors.new) }
 {
     let (has_refused, failure) = watch(rt, file, flags, input, output, errors);
     let status = end_with(errors, failure);
@@ -206,7 +206,7 @@ fn run_watched<P: AllocGlobal + Files<File = File>, R: Read, W: Write, E: Write>
 
 /// Serves the input on the output, stops at the first refused line where that is asked, and reports on the errors stream where that is.
 /// It gives whether a line was refused, and what failed.
-fn watch<'a, P: AllocGlobal + Files<File = File>, R: Read, W: Write, E: Write>(
+fn watch<'a, P: AllocGlobal + FileSystem<Held = D>, D: Disk + Drop, R: Read, W: Write, E: Write>(
     rt: &P,
     file: Option<&'a str>,
     flags: (bool, bool),
@@ -214,7 +214,8 @@ fn watch<'a, P: AllocGlobal + Files<File = File>, R: Read, W: Write, E: Write>(
     output: &mut W,
     errors: &mut E,
 ) -> (bool, Option<Failure<'a>>)
-    ensures { flags.1 ≡ false → Keeps (E.contents errors.old) (E.contents errors.new) }
+    ensures runs { RunsWatched D.Disk (P.gives rt.now) (option_map (λ t. t.now) file.entry) result.1 }
+    ensures quiet { flags.1 ≡ false → Keeps (E.contents errors.old) (E.contents errors.new) }
 {
     let (bails, reports) = flags;
     if reports {
@@ -230,14 +231,23 @@ fn watch<'a, P: AllocGlobal + Files<File = File>, R: Read, W: Write, E: Write>(
 
 /// Serves the input on the output over memory or over a file, counts the replies, and tells the refused lines. It gives the counts, and
 /// what failed.
-fn serve_watched<'a, P: AllocGlobal + Files<File = File>, R: Read, W: Write, T: Write>(
+fn serve_watched<
+    'a,
+    P: AllocGlobal + FileSystem<Held = D>,
+    D: Disk + Drop,
+    R: Read,
+    W: Write,
+    T: Write,
+>(
     rt: &P,
     file: Option<&'a str>,
     bails: bool,
     input: &mut R,
     output: &mut W,
     told: &mut T,
-) -> (Tally, Option<Failure<'a>>) {
+) -> (Tally, Option<Failure<'a>>)
+    ensures { RunsWatched D.Disk (P.gives rt.now) (option_map (λ t. t.now) file.entry) result.1 }
+{
     let line = RefCell::new(Line::new());
     let mut lines = LineByLine::new(input, &line, bails);
     let mut watched = Watched::new(output, told, &line);
@@ -252,12 +262,15 @@ fn serve_watched<'a, P: AllocGlobal + Files<File = File>, R: Read, W: Write, T: 
 }
 
 /// Serves the input on the output over a file, where there is one, and else over memory.
-fn run_on<'a, P: AllocGlobal + Files<File = File>, R: Read, W: Write>(
+fn run_on<'a, P: AllocGlobal + FileSystem<Held = D>, D: Disk + Drop, R: Read, W: Write>(
     rt: &P,
     file: Option<&'a str>,
     input: &mut R,
     output: &mut W,
-) -> Option<Failure<'a>> {
+) -> Option<Failure<'a>>
+    ensures { RunsOver D.Disk (P.gives rt.now) (option_map (λ t. t.now) file.entry) result
+        (R.remaining input.old) (R.remaining input.new) (W.contents output.old) (W.contents output.new) }
+{
     match file {
         Some(file) => run_file(rt, file, input, output),
         None => run_in_memory(rt.alloc(), input, output),
@@ -265,85 +278,37 @@ fn run_on<'a, P: AllocGlobal + Files<File = File>, R: Read, W: Write>(
 }
 
 /// Writes the lines that rebuild what a file holds, and gives the exit status. The file is opened for reading alone, beside other dumps.
-fn dump_file<P: AllocGlobal + Files<File = File>, W: Write, E: Write>(
+fn dump_file<P: AllocGlobal + FileSystem<Held = D>, D: Disk + Drop, W: Write, E: Write>(
     rt: &P,
     file: &str,
     wanted: Wanted<'_>,
     output: &mut W,
     errors: &mut E,
 ) -> u8
-    ensures { result ≡ SUCCESS → Keeps (E.contents errors.old) (E.contents errors.new) }
+    ensures dumps { DumpsNamed D.Disk (P.gives rt.now) file.now (option_map (λ t. t.now) wanted.entry.table) wanted.entry.omits_rows result
+        (W.contents output.old) (W.contents output.new) (E.contents errors.old) (E.contents errors.new) }
+    ensures quiet { result ≡ SUCCESS → Keeps (E.contents errors.old) (E.contents errors.new) }
 {
-    match FileDisk::open_for_reading(rt, file) {
-        Ok(disk) => dump_on(rt.alloc(), disk, wanted, output, errors),
-        Err(error) => end_with(errors, Some(failure_to_open(rt, file, error))),
-    }
+    dump_opened(
+        rt.alloc(),
+        rt.open_file(file, Opening::Reading),
+        wanted,
+        output,
+        errors,
+    )
 }
 
 /// Serves so many connections over a file, one after another, and closes it.
 fn serve_file<
     'a,
-    P: AllocGlobal + Clock + Files<File = File> + Net<Listener = TcpListener, Stream = TcpStream>,
+    P: AllocGlobal + Clock + FileSystem<Held = D> + Net<Listener = TcpListener, Stream = TcpStream>,
+    D: Disk + Drop,
     W: Write,
->(
-    rt: &P,
-    file: &'a str,
-    address: &'a str,
-    connections: u32,
-    output: &mut W,
-) -> Option<Failure<'a>> {
-    let disk = match FileDisk::open(rt, file) {
-        Ok(disk) => disk,
-        Err(error) => return Some(failure_to_open(rt, file, error)),
-    };
-    match Engine::open(rt.alloc(), disk) {
-        Ok(engine) => {
-            let mut reopened = Reopened::new(engine);
-            let failure = serve_address(rt, &mut reopened, address, connections, output);
-            let (engine, failure) = reopened.end(failure);
-            failure_in(close_after(engine, failure))
-        }
-        Err((_, refusal)) => Some(Failure::Refused(refusal)),
-    }
-}
-
-/// Binds the address, says so on the output, and serves so many connections.
-fn serve_address<
-    'a,
-    P: AllocGlobal + Clock + Net<Listener = TcpListener, Stream = TcpStream>,
-    E: Serve,
-    W: Write,
->(
-    rt: &P,
-    engine: &mut E,
-    address: &'a str,
-    connections: u32,
-    output: &mut W,
-) -> Option<Failure<'a>> {
-    let (listener, port) = match bound(rt, address) {
-        Ok(bound) => bound,
-        Err(error) => {
-            let why = why_not_bound(&error);
-            return Some(Failure::CannotListen { address, why });
-        }
-    };
-    match say_listening(output, port) {
-        Ok(()) => match serve_connections(rt, rt.alloc(), engine, &listener, connections) {
-            Ok(()) => None,
-            Err(CannotAccept) => Some(Failure::CannotAccept),
-        },
-        Err(fault) => Some(Failure::Stream(fault)),
-    }
-}
-
-/// What failed, if anything did.
-fn failure_in<'a, D: Drop>(ended: Result<D, (Option<D>, Failure<'a>)>) -> Option<Failure<'a>>
-    ensures { result ≡ told_of ended.entry }
+>(rt: &P, file: &'a str, address: &'a str, connections: u32, output: &mut W) -> Option<Failure<'a>>
+    ensures { ServesNamedAt D.Disk (P.gives rt.now) file.now address.entry connections result (W.contents output.old) (W.contents output.new) }
 {
-    match ended {
-        Ok(_) => None,
-        Err((_, failure)) => Some(failure),
-    }
+    let opened = rt.open_file(file, Opening::Writing);
+    serve_opened_at(rt, opened, address, connections, output)
 }
 
 /// Says what failed, if anything did, and gives the exit status.

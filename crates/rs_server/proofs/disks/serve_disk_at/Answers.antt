@@ -1,0 +1,23 @@
+-- Connections are served from the state that the disk stood for; or it was not opened.
+use Rattle.std.proofs.Common.{None, inl, inr}
+use Rattle.rs_engine.specs.Files.{machine_with}
+use Rattle.rs_pages.specs.declared.pages.TheConstants.{GREATEST_LIMIT}
+use Rattle.rs_server.proofs.Unopened.{refuses_file}
+use Rattle.rs_server.proofs.disks.serve_disk_at.Goals as goal
+
+pub returns-in-Ok : goal.returns-in-Ok
+returns-in-Ok g c = λ honest.
+    let d = g.D.Disk in
+    let opens = (c.in-Ok.ensures.opens honest).opens in
+    let first = machine_with d opens.state c.in-Ok.engine in
+    inl (record {
+      first = first;
+      stood = opens.stood;
+      failures = c.in-Ok.ensures.hands.count;
+      serves = c.serve_at_and_close.ensures first (c.machine_is_the_only_one.ensures c.in-Ok.engine first opens.is);
+    })
+
+pub returns-in-Err : goal.returns-in-Err
+returns-in-Err g c = λ honest.
+    inr (refuses_file g.D.Disk GREATEST_LIMIT c.args.disk c.in-Err.disk c.in-Err.refusal None _ (c.in-Err.ensures.opens honest) c.in-Err.ensures.refused
+    c.in-Err.ensures.hands.count (c.in-Err.ensures.preserves honest))

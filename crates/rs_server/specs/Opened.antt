@@ -1,0 +1,64 @@
+-- What comes of a file as it was opened: of a disk, or of the failure that says why there is none.
+use Rattle.std.specs.Prelude.{◌≡◌, ◌⊎◌, ℕ, Bool, false, List, Option, Some, Result, Ok, Err, IsTrue}
+use Rattle.std.specs.Borrow.{Bor}
+use Rattle.std.specs.Io.KnownBytes.{Keeps}
+use Rattle.rs_disk.specs.declared.disk.Disk as disk
+use Rattle.rs_file_dump.specs.Files.{DumpsDisk}
+use Rattle.rs_pages.specs.declared.pages.TheConstants.{GREATEST_LIMIT}
+use Rattle.rs_server.specs.Disks.{CreatesFile, ServesFile, ServesFileAt, told_of}
+use Rattle.rs_server.specs.Dumping.{FailsToDump}
+use Rattle.rs_server.specs.Saying.{SaysFront, failure_line}
+use Rattle.rs_server.specs.declared.file_system.Opening.{Opening}
+use Rattle.rs_server.specs.declared.file_system.Opening.TheVariants.{New, Reading, Writing}
+use Rattle.rs_server.specs.declared.report.Failure.{Failure}
+use Rattle.rs_server.specs.declared.report.TheConstants.{FAILED, SUCCESS}
+
+module _ {D : Type 0} (d : disk.Ghosts D) where
+  -- There is no disk, and the failure is told. Or what comes of a file that is made on an honest one is what was told: no failure only where
+  -- it was made and closed.
+  abbrev pub CreatesOpened : Result D Failure → Option Failure → Type 0
+  CreatesOpened (Err failure) told = told ≡ Some failure
+  CreatesOpened (Ok disk) told = IsTrue (d.is_honest disk)
+      → (ended : Result D (Option D × Failure)) × CreatesFile d GREATEST_LIMIT disk ended × (told ≡ told_of ended)
+
+  -- There is no disk: the failure is told, and nothing of the streams was read or written. Or the file on an honest one was served, and what
+  -- came of it is told: no failure only where the input was served to its end and the file closed.
+  abbrev pub ServesOpened : Result D Failure → Option Failure → Option (List ℕ) → Option (List ℕ) → Option (List ℕ) → Option (List ℕ) → Type 0
+  ServesOpened (Err failure) told unread unread_now before after = (told ≡ Some failure) × Keeps unread unread_now × Keeps before after
+  ServesOpened (Ok disk) told unread unread_now before after = IsTrue (d.is_honest disk)
+      → (ended : Result D (Option D × Failure)) × ServesFile d GREATEST_LIMIT disk ended unread unread_now before after × (told ≡ told_of ended)
+
+  -- the same of connections at an address, in place of an input
+  abbrev pub ServesOpenedAt : Bor (List ℕ) → ℕ → Result D Failure → Option Failure → Option (List ℕ) → Option (List ℕ) → Type 0
+  ServesOpenedAt address connections (Err failure) told before after = (told ≡ Some failure) × Keeps before after
+  ServesOpenedAt address connections (Ok disk) told before after = IsTrue (d.is_honest disk)
+      → (ended : Result D (Option D × Failure)) × ServesFileAt d GREATEST_LIMIT address connections disk ended before after × (told ≡ told_of ended)
+
+  -- The status is one of these two: with 0 all that was wanted of an honest disk was written, with 1 something of it was left out, or it stopped.
+  pub record Dumps (table : Option (List ℕ)) (omits_rows : Bool) (disk : D) (status : ℕ) (before after : Option (List ℕ)) : Type 0 where
+    pub is : (status ≡ SUCCESS) ⊎ (status ≡ FAILED)
+    pub dumps : IsTrue (d.is_honest disk) → status ≡ SUCCESS → DumpsDisk GREATEST_LIMIT (d.seen disk) table omits_rows false before after
+    pub fails : IsTrue (d.is_honest disk) → status ≡ FAILED → FailsToDump GREATEST_LIMIT (d.seen disk) table omits_rows before after
+
+  -- There is no disk: the errors stream says the failure, and nothing was written. Or it was dumped.
+  abbrev pub DumpsOpened : Option (List ℕ) → Bool → Result D Failure → ℕ → Option (List ℕ) → Option (List ℕ) → Option (List ℕ) → Option (List ℕ) → Type 0
+  DumpsOpened table omits_rows (Err failure) status before after errors errors_now =
+      (status ≡ FAILED) × Keeps before after × SaysFront (failure_line failure) errors errors_now
+  DumpsOpened table omits_rows (Ok disk) status before after errors errors_now = Dumps table omits_rows disk status before after
+
+  -- ---- by its name, where this is what opening a file of a name may give
+  module _ (Gives : Opening → List ℕ → Result D Failure → Type 0) where
+    abbrev pub CreatesNamed : List ℕ → Option Failure → Type 0
+    CreatesNamed file told = (opened : Result D Failure) × Gives New file opened × CreatesOpened opened told
+
+    abbrev pub ServesNamed : List ℕ → Option Failure → Option (List ℕ) → Option (List ℕ) → Option (List ℕ) → Option (List ℕ) → Type 0
+    ServesNamed file told unread unread_now before after =
+        (opened : Result D Failure) × Gives Writing file opened × ServesOpened opened told unread unread_now before after
+
+    abbrev pub ServesNamedAt : List ℕ → Bor (List ℕ) → ℕ → Option Failure → Option (List ℕ) → Option (List ℕ) → Type 0
+    ServesNamedAt file address connections told before after =
+        (opened : Result D Failure) × Gives Writing file opened × ServesOpenedAt address connections opened told before after
+
+    abbrev pub DumpsNamed : List ℕ → Option (List ℕ) → Bool → ℕ → Option (List ℕ) → Option (List ℕ) → Option (List ℕ) → Option (List ℕ) → Type 0
+    DumpsNamed file table omits_rows status before after errors errors_now =
+        (opened : Result D Failure) × Gives Reading file opened × DumpsOpened table omits_rows opened status before after errors errors_now
