@@ -1,5 +1,5 @@
 """Kills a writer at random while it answers lines. The file that it leaves is opened by the next one, and stands for a state between
-the last SAVE that was answered and the last line that was.
+the last SAVE that was answered and the last line that was sent: lines that were read at once are carried out before they are answered.
 """
 
 import random
@@ -74,7 +74,9 @@ def judged(program, state, lines, replies):
     for line, reply in zip(lines, replies):
         expect(repr(line), reply, machine.answer(line))
         kept = machine.changes if line in (SAVE, REOPEN) else kept
+    for line in lines[len(replies) :]:
+        machine.answer(line)
     judge = Judge()
     found = judge.judge(program.bytes_left(), Bounds(kept, machine.changes))
-    judge.compare(machine_of(state, ChangingMachine), lines[: len(replies)])
+    judge.compare(machine_of(state, ChangingMachine), lines)
     return found

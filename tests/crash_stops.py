@@ -89,7 +89,7 @@ class Stops:
         """Has the conversation in a process that is stopped: what it leaves."""
         self.program.file_of(self.told.data)
         with self.program.run(asked) as run:
-            replies = run.ask_all([line + b"\n" for line in self.talk.lines])
+            replies = [run.ask(line + b"\n") for line in self.talk.lines]  # one by one: those of lines that come at once are written at once
             answered = sum(bool(FINISH.search(reply)) for reply in replies)
             expect("the status of a process that is stopped", run.end().status, KILLED)
             return Left(self.program.bytes_left(), self.progress.bounds(answered), run.entries())
