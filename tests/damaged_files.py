@@ -8,8 +8,8 @@ Each file is a sound one with one change of bytes or pages (grown_files.py). It 
 refuses it as the slow reader of files does; where it is opened, its questions are answered as by the slow machine, its bytes
 stay, and after one definition more it stands for that state. For one change of ten it is also counted what opening it takes:
 
-- it reads each page once, however many there are; page 0 three times, and a page that is cut off twice; and besides at most 64 bytes
-  for each page of the file and four times the bytes of the catalogue;
+- it reads each page once, however many there are, and page 0 three times; a page that is cut off twice as often; and besides at most
+  64 bytes for each page of the file and four times the bytes of the catalogue;
 - it takes no more memory than 24 times the bytes of the file and a constant, whatever numbers stand in it. So each number of page
   0, of the directory and of the catalogue is also set to its greatest value, and to 2^63 where it is that wide.
 
@@ -39,7 +39,7 @@ from slow_file import read
 SHARE, ALL = 2_000, 1_000_000  # changes
 BATCH = 25  # changes of one size that a process makes before it gives its counts
 COUNTED = 10  # of so many changes one is counted
-MORE_OF_PAGE_0 = 2  # readings: it is looked at, looked at as the journal gives it, and read
+READINGS_OF_PAGE_0 = 3  # it is looked at, looked at as the journal gives it, and read
 
 # How many of 200 batches are of files of each size.
 WEIGHTS = dict(zip(SIZES, (50, 45, 40, 30, 20, 9, 3, 1, 1, 1)))
@@ -55,10 +55,19 @@ NUMBERS_OF = ("page 0 ", "page 1 ", "pages", "first free", "free", "first catalo
 
 
 class Opened(NamedTuple):
-    """What opening a file took: bytes that were read beyond each page once and page 0 three times, and bytes of memory at the most."""
+    """What opening a file took: bytes that were read beyond its pages (`bytes_of_pages`), and bytes of memory at the most."""
 
     bytes_beyond: int
     memory: int
+
+
+def bytes_of_pages(size):
+    """How many bytes are read of the pages of a file of so many bytes: page 0 three times, each other once, one that is cut off twice as
+    often."""
+    whole, cut_off = divmod(size, PAGE_BYTES)
+    if not whole:
+        return READINGS_OF_PAGE_0 * 2 * cut_off
+    return (READINGS_OF_PAGE_0 + whole - 1) * PAGE_BYTES + 2 * cut_off
 
 
 class Counting:
@@ -80,8 +89,7 @@ class Counting:
         wanted = (0, REFUSED, b"") if answer == OK else (1, b"", files.SAID[answer])
         refusing.expect("the end", done[:3], wanted)
         refusing.expect("whether it ends by itself", told[refusing.HAS_ENDED], 1)
-        pages = len(data) // PAGE_BYTES + MORE_OF_PAGE_0
-        return Opened(told[refusing.BYTES_READ] - PAGE_BYTES * pages, told[refusing.MOST_MEMORY])
+        return Opened(told[refusing.BYTES_READ] - bytes_of_pages(len(data)), told[refusing.MOST_MEMORY])
 
 
 @lru_cache
@@ -95,9 +103,8 @@ def check_opened(case, answer):
     took = counting(Work.place, Work.library).opened(case.data, answer)
     pages = len(case.data) // PAGE_BYTES + 1
     catalogue = min(int.from_bytes(case.data[48:52], "big"), len(case.data))
-    cut_off = len(case.data) % PAGE_BYTES
     faults = []
-    if took.bytes_beyond > cut_off + 64 * pages + 4 * catalogue:
+    if took.bytes_beyond > 64 * pages + 4 * catalogue:
         faults.append("%s: %d bytes are read beyond %d pages" % (case.title, took.bytes_beyond, pages))
     if took.memory > CONSTANT + FACTOR * len(case.data):
         faults.append("%s: %d bytes of memory are taken for %d bytes" % (case.title, took.memory, len(case.data)))

@@ -1,14 +1,15 @@
 -- What one cell after the other tells of the events of a part.
-use Rattle.std.proofs.Common.{◌≡◌, ◌+◌, ℕ, zero, suc, Bool, true, false, cond, Some, Option, List, [], ◌∷◌, ◌++◌, map, take, slice_get, refl, sym, ap, ◌∙◌, subst, arith}
+use Rattle.std.proofs.Common.{◌≡◌, ◌+◌, ℕ, zero, suc, Bool, true, false, cond, None, Some, Option, List, [], ◌∷◌, ◌++◌, map, take, slice_get, refl, sym, ap, ◌∙◌, subst, arith}
 use Rattle.std.proofs.lemmas.List.{map-append}
 use Rattle.std.proofs.lemmas.List.Elements.{filter-append}
 use Rattle.std.specs.List.{AllByRecursion, AllZip}
 use Rattle.rs_attr.specs.Meant.{IsOn, IsPlacedOn, SayMeant, SayPlaced, seen_events, seen_spans}
 use Rattle.rs_attr.specs.declared.told.ToldTable.{ToldTable}
 use Rattle.rs_cell_versions.specs.Version.{sees}
-use Rattle.rs_facts.specs.Runs.{IsMaximalRun, Stretch}
+use Rattle.rs_facts.specs.Runs.{IsMaximalRun, Stretch, stretch}
 use Rattle.rs_facts.specs.Spans.{AreAllRunsOf, ArePlaced, places_of}
 use Rattle.rs_tree.proofs.Lists.{take_next}
+use Rattle.rs_value.specs.Row.{Row}
 use Rattle.rs_value.specs.declared.column.Kind.{Kind}
 use Rattle.rs_value.specs.declared.column.Kind.TheVariants.{Line, Point}
 use Rattle.rs_versioned.specs.Events.{Event, SaysEvent, kept_events, sees_event, span_of}
@@ -17,6 +18,13 @@ use Rattle.rs_versioned.proofs.EventCells.{event_said_once}
 use Rattle.rs_versioned.proofs.KeptRecords.{events_are_kept}
 use Rattle.rs_versioned.proofs.Lifting.{zip_join}
 use Rattle.rs_versioned.proofs.Overlapping.{sees_record}
+
+-- where a span lies its row doesn't tell
+pub placed_with : (kind : Kind) (route : Option RouteSpan) (number lo hi : ℕ) (row other : Row) → IsPlacedOn kind route number (stretch lo hi row) → IsPlacedOn kind route number (stretch lo hi other)
+placed_with Line None number lo hi row other on = on
+placed_with Line (Some span) number lo hi row other on = on
+placed_with Point None number lo hi row other on = on
+placed_with Point (Some span) number lo hi row other on = on
 
 module _ (told : ToldTable) (route : Option RouteSpan) where
   abbrev IsSeenOn : Event → Type 0

@@ -8,8 +8,7 @@ use Rattle.std.specs.declared.cmp.Ordering.TheVariants.{Less, Equal, Greater}
 use Rattle.rs_attr.specs.declared.meant.RowStretch.{RowStretch}
 use Rattle.rs_attr.specs.declared.told.ToldTable.{ToldTable}
 use Rattle.rs_facts.specs.Runs.{Stretch, stretch}
-use Rattle.rs_facts.specs.Spans.{AreAllRunsOf, IsPlaced, gap_of, places_of, seen}
-use Rattle.rs_facts.specs.declared.fact.Span.{Span}
+use Rattle.rs_facts.specs.Spans.{AreAllRunsOf, IsPlaced, gap_of, places_of}
 use Rattle.rs_value.specs.declared.column.ColumnType.{ColumnType}
 use Rattle.rs_value.specs.declared.column.Kind.{Kind}
 use Rattle.rs_value.specs.Encoding.{SaysRow}
@@ -33,11 +32,6 @@ IsOn kind None number span = ⊥
 -- and is one of this kind
 abbrev pub IsPlacedOn : Kind → Option RouteSpan → ℕ → Stretch → Type 0
 IsPlacedOn kind route number span = IsOn kind route number span × IsPlaced kind span
-
--- the span that there may be, as a list
-abbrev pub spans_of : Option Span → List Stretch
-spans_of None = []
-spans_of (Some span) = seen span ∷ []
 
 -- the cells say events, and these are the spans of those that are seen, on the route
 pub record SayPlaced (told : ToldTable) (route : Option RouteSpan) (cells : List (List ℕ)) (spans : List Stretch) : Type 0 where

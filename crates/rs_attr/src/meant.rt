@@ -8,9 +8,9 @@
 ghost use Rattle.std.specs.Prelude.{◌≡◌, ◌⊎◌, ◌+◌, ◌++◌, ◌∷◌, ◌↔◌, ◌≤◌, [], List, IfErr, IfOk, IsPermutation, IsTrue, OnOk, drop, length, map, nat_le, take};
 ghost use Rattle.std.specs.List.Sorted.{IsSortedBy};
 ghost use Rattle.std.specs.Ordering.{is_lt};
-ghost use Rattle.rs_attr.specs.Meant.{IsPlacedOn, SayMeant, SayPlaced, SayStretches, comes_before, lent_cmp, lies_before, spans_of, stretch_of, stretches_of};
-ghost use Rattle.rs_facts.specs.Runs.{Stretch};
-ghost use Rattle.rs_facts.specs.Spans.{AreAllRunsOf, ArePlaced, IsPlaced, gap_of, places_of, seen};
+ghost use Rattle.rs_attr.specs.Meant.{IsPlacedOn, SayMeant, SayPlaced, SayStretches, comes_before, lent_cmp, lies_before, stretch_of, stretches_of};
+ghost use Rattle.rs_facts.specs.Runs.{Stretch, stretch};
+ghost use Rattle.rs_facts.specs.Spans.{AreAllRunsOf, ArePlaced, IsPlaced, gap_of, places_of};
 ghost use Rattle.rs_records.specs.Listed.{listed, record_width};
 ghost use Rattle.rs_value.specs.Encoding.{row_width};
 ghost use Rattle.rs_versioned.specs.Events.{event_width};
@@ -19,12 +19,11 @@ ghost use Rattle.rs_versioned.specs.Meant.{bound_of};
 use crate::attr_index::FRONT_BYTES;
 use crate::told::ToldTable;
 use rs_cell_versions::sees;
-use rs_facts::Span;
 use rs_records::Cells;
 use rs_refusal::Refusal;
-use rs_value::{Kind, Schema, row_width};
+use rs_value::{Kind, Schema, compare_bytes, row_width};
 use rs_versioned::RouteSpan;
-use rs_versioned::event::{route_of, span_of};
+use rs_versioned::event::{place_of, route_of, says_event};
 use std::alloc::Global;
 use std::cmp::Ordering;
 
@@ -80,7 +79,7 @@ fn lie_in_turn(kind: Kind, stretches: &[RowStretch<'_>]) -> bool
 fn lies_before(kind: Kind, one: &RowStretch<'_>, next: &RowStretch<'_>) -> bool
     ensures { result ≡ lies_before kind one.now next.now }
 {
-    match one.row.cmp(next.row) {
+    match compare_bytes(one.row, next.row) {
         Ordering::Equal => is_past(kind, one.hi, next.lo),
         Ordering::Less | Ordering::Greater => one.hi <= next.lo,
     }
@@ -98,7 +97,7 @@ fn sort_by_row(stretches: &mut Vec<RowStretch<'_>>)
 fn by_row(one: &RowStretch<'_>, other: &RowStretch<'_>) -> Ordering
     ensures { result ≡ lent_cmp one.now other.now }
 {
-    one.row.cmp(other.row).then(one.lo.cmp(&other.lo))
+    compare_bytes(one.row, other.row).then(one.lo.cmp(&other.lo))
 }
 
 /// Whether each span comes before the next one, in the order of their rows' bytes, or apart from it where the rows are equal.
@@ -114,7 +113,7 @@ fn are_in_turn(kind: Kind, stretches: &[RowStretch<'_>]) -> bool
 fn comes_before(kind: Kind, one: &RowStretch<'_>, next: &RowStretch<'_>) -> bool
     ensures { result ≡ comes_before kind one.now next.now }
 {
-    match one.row.cmp(next.row) {
+    match compare_bytes(one.row, next.row) {
         Ordering::Less => true,
         Ordering::Equal => is_past(kind, one.hi, next.lo),
         Ordering::Greater => false,
@@ -146,32 +145,39 @@ fn placed_stretches<'a>(
 {
     let mut stretches = Vec::new(alloc);
     for place in 0..cells.len() {
-        if let Some(stretch) = placed_stretch(alloc, told, route, cells.get(place))? {
+        if let Some(stretch) = placed_stretch(told, route, cells.get(place))? {
             stretches.push(stretch)?;
         }
     }
     Ok(stretches)
 }
 
-/// The same of one cell.
+/// The span of the event that a cell says, where the accepted version sees it. It is refused with 94 where the cell says no event, or
+/// one that is seen and does not lie on the route. Takes no memory.
 fn placed_stretch<'a>(
-    alloc: Global,
     told: &ToldTable,
     route: Option<RouteSpan>,
     cell: &'a [u8],
 ) -> Result<Option<RowStretch<'a>>, Refusal>
     requires width { length cell.now ≡ event_width told.now.schema.items }
     ensures placed { IfOk result (λ stretch. SayStretches told.now route (cell.now ∷ []) (stretches_of stretch)) }
-    ensures refused { IfErr result (λ why. (why ≡ Refusal.OutOfMemory)
-        ⊎ ((why ≡ Refusal.DamagedFile) × ((spans : List Stretch) → SayPlaced told.now route (cell.now ∷ []) spans → ⊥))) }
+    ensures damaged { IfErr result (λ why. why ≡ Refusal.DamagedFile) }
+    ensures refused { IfErr result (λ why. (spans : List Stretch) → SayPlaced told.now route (cell.now ∷ []) spans → ⊥) }
 {
-    let Some(span) = placed_span(alloc, told, route, cell)? else {
+    if !says_event(&told.schema, cell) {
+        return Err(Refusal::DamagedFile);
+    }
+    if !sees(told.records.accepted, cell) {
         return Ok(None);
-    };
+    }
+    let (lo, hi) = place_of(cell);
+    if !lies_on(told.kind, route, route_of(cell), lo, hi) {
+        return Err(Refusal::DamagedFile);
+    }
     Ok(Some(RowStretch {
         row: row_bytes(&told.schema, cell),
-        lo: span.lo,
-        hi: span.hi,
+        lo,
+        hi,
     }))
 }
 
@@ -184,47 +190,24 @@ fn row_bytes<'a>(schema: &Schema, cell: &'a [u8]) -> &'a [u8]
     &cell[FRONT_BYTES..end]
 }
 
-/// The span of the event that a cell says, where the accepted version sees it. It is refused with 90, and with 94 where the cell
-/// says no event, or one that is seen and does not lie on the route.
-fn placed_span(
-    alloc: Global,
-    told: &ToldTable,
-    route: Option<RouteSpan>,
-    cell: &[u8],
-) -> Result<Option<Span>, Refusal>
-    requires width { length cell.now ≡ event_width told.now.schema.items }
-    ensures placed { IfOk result (λ span. SayPlaced told.now route (cell.now ∷ []) (spans_of span)) }
-    ensures refused { IfErr result (λ why. (why ≡ Refusal.OutOfMemory)
-        ⊎ ((why ≡ Refusal.DamagedFile) × ((spans : List Stretch) → SayPlaced told.now route (cell.now ∷ []) spans → ⊥))) }
-{
-    let span = span_of(alloc, &told.schema, cell)?;
-    if !sees(told.records.accepted, cell) {
-        return Ok(None);
-    }
-    if !lies_on(told.kind, route, route_of(cell), &span) {
-        return Err(Refusal::DamagedFile);
-    }
-    Ok(Some(span))
-}
-
-/// Whether the route has this number, and a span of this kind lies within its ends.
-fn lies_on(kind: Kind, route: Option<RouteSpan>, number: u32, span: &Span) -> bool
-    ensures { IsTrue result ↔ IsPlacedOn kind route number (seen span.now) }
+/// Whether the route has this number, and a span of this kind from `lo` up to `hi` lies within its ends.
+fn lies_on(kind: Kind, route: Option<RouteSpan>, number: u32, lo: u32, hi: u32) -> bool
+    ensures { IsTrue result ↔ IsPlacedOn kind route number (stretch lo hi []) }
 {
     match route {
         Some(route) => {
-            route.number == number && route.start <= span.lo && ends_on(kind, &route, span)
+            route.number == number && route.start <= lo && ends_on(kind, &route, lo, hi)
         }
         None => false,
     }
 }
 
 /// Whether a span is one of this kind and ends no later than it may on the route.
-fn ends_on(kind: Kind, route: &RouteSpan, span: &Span) -> bool
-    ensures { IsTrue result ↔ (IsPlaced kind (seen span.now) × ((seen span.now).hi ≤ bound_of kind route.now)) }
+fn ends_on(kind: Kind, route: &RouteSpan, lo: u32, hi: u32) -> bool
+    ensures { IsTrue result ↔ (IsPlaced kind (stretch lo hi []) × (hi ≤ bound_of kind route.now)) }
 {
     match kind {
-        Kind::Line => span.lo < span.hi && span.hi <= route.finish,
-        Kind::Point => span.lo <= route.finish && span.lo < span.hi && span.hi - span.lo == 1,
+        Kind::Line => lo < hi && hi <= route.finish,
+        Kind::Point => lo <= route.finish && lo < hi && hi - lo == 1,
     }
 }

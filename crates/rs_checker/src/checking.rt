@@ -25,7 +25,7 @@ use crate::node::{BinaryOperator, Node, UnaryOperator, top_node};
 use crate::operand::{CheckedOperand, boxed};
 use crate::operators::{cover, dissolve, filter, gaps, merge, minus, overlay, rename};
 use crate::size::fits_limits;
-use crate::views::opened_query;
+use crate::views::{Opened, opened_name};
 use crate::windows::window;
 use rs_catalog::{Catalog, RouteReferents};
 use rs_refusal::Refusal;
@@ -213,9 +213,9 @@ fn name_nodes(
     ensures refused { IfErr result (λ refusal. (refusal ≡ Refusal.OutOfMemory)
         ⊎ AreRefused catalog.now (referents_on referents.now) (opened_times openings (views_of catalog.now) (named name.now.bytes)) refusal) }
 {
-    match opened_query(catalog, name, openings) {
-        Some(query) => nodes(alloc, catalog, referents, query, openings - 1),
-        None => table(catalog, name),
+    match opened_name(catalog, name, openings) {
+        Opened::Query(query, left) => nodes(alloc, catalog, referents, query, left),
+        Opened::Name(last) => table(catalog, last),
     }
 }
 

@@ -11,7 +11,7 @@ ghost use Rattle.rs_catalog.specs.Definitions.{views_of};
 ghost use Rattle.rs_checker.specs.Sizes.{nodes_left, pair_left};
 
 use crate::node::{Node, top_node};
-use crate::views::opened_query;
+use crate::views::{Opened, opened_name};
 use rs_catalog::Catalog;
 use rs_machine::limits::{DEPTH, NODES};
 use rs_syntax::{Name, Query};
@@ -65,9 +65,9 @@ fn named_left(
     requires depth { 0 < depth }
     ensures { result ≡ nodes_left nodes depth (opened_times openings (views_of catalog.now) (named name.now.bytes)) }
 {
-    match opened_query(catalog, name, openings) {
-        Some(query) => nodes_left(catalog, query, openings - 1, nodes, depth),
-        None => Some(nodes - 1),
+    match opened_name(catalog, name, openings) {
+        Opened::Query(query, left) => nodes_left(catalog, query, left, nodes, depth),
+        Opened::Name(_) => Some(nodes - 1),
     }
 }
 

@@ -119,12 +119,14 @@ module _ {D : Type 0} (d : disk.Ghosts D) where
       (subst (λ (one : StoreState D). one.pager.limit ≤ GREATEST_LIMIT) (sym over) within)
 
   pub begins_opened : (limit : ℕ) (content : Content) (store : StoreState D) (engine : EngineState D) → engine.store ≡ store → engine.oldest ≡ store.file.accepted → HasNoCursors engine.cursors.held
-      → ((limit : ℕ) (content : Content) (state : State) → Stands limit content state → IsLawful state) → OpensState d limit content store → store.pager.limit ≤ GREATEST_LIMIT → OpensMachine d limit content engine
-  begins_opened limit content store engine over low none lawful opens within = record {
+      → ((limit : ℕ) (content : Content) (state : State) → Stands limit content state → IsLawful state) → OpensState d limit content store → store.pager.limit ≤ GREATEST_LIMIT → store.pager.full_refusals ≡ 0
+      → OpensMachine d limit content engine
+  begins_opened limit content store engine over low none lawful opens within full = record {
     state = opens.state;
     stood = opens.stood;
     is = begins engine opens.state none (accepted_over store engine over low) (lawful limit content opens.state opens.stood) (over_store store engine opens.state over low opens.stands)
         (subst (λ (one : StoreState D). one.pager.limit ≤ GREATEST_LIMIT) (sym over) within);
+    full = subst (λ (one : StoreState D). one.pager.full_refusals ≡ 0) (sym over) full;
     last = subst (λ (one : StoreState D). IsLast d one.pager opens.state) (sym over) opens.last;
   }
 

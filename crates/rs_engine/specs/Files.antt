@@ -61,11 +61,12 @@ module _ {D : Type 0} (d : disk.Ghosts D) where
     pub fresh : IfOk result (λ engine. IsMachine d engine (machine_with fresh engine))
     pub sound : IfErr result (λ refused. refused.1 ≢ refusal.DamagedFile)
 
-  -- the disk stood for a state, in which the engine is, and which is kept last
+  -- the disk stood for a state, in which the engine is, and which is kept last; no page was refused for want of room
   pub record OpensMachine (limit : ℕ) (content : Content) (engine : EngineState D) : Type 0 where
     pub state : State
     pub stood : Stands limit content state
     pub is : IsMachine d engine (machine_with state engine)
+    pub full : engine.store.pager.full_refusals ≡ 0
     pub last : IsLast d engine.store.pager state
 
   -- What an honest disk is opened as. One of version 2 is recovered, whatever is answered.

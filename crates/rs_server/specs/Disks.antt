@@ -82,6 +82,11 @@ module _ {D : Type 0} (d : disk.Ghosts D) where
   LeavesFrontOf limit calls first kept old result = IfSome (disk_of result) (λ closed. (start : D) (image : Content) → d.left_since start closed image
       → d.left_since start old image ⊎ ((state : State) × IsOfAFront calls first kept state × Stands limit image state))
 
+  -- The same from an opening on: or it might have been left at first.
+  abbrev pub LeavesFrontSince : ℕ → List Call → Machine → D → Result D (Option D × Failure) → Type 0
+  LeavesFrontSince limit calls first old result = IfSome (disk_of result) (λ closed. (start : D) (image : Content) → d.left_since start closed image
+      → d.left_since start old image ⊎ (d.may_leave old image ⊎ ((state : State) × IsOfAFront calls first first.state state × Stands limit image state)))
+
   -- The input was served by this machine, and then the file was closed, over a disk as it was, where a state was kept last. Some calls lead
   -- from the first machine to the last, and a crash by the end leaves the state after a front of them.
   pub record ServesAndCloses (limit : ℕ) (first : Machine) (kept : State) (old : D) (result : Result D (Option D × Failure)) (unread unread_now before after : Option (List ℕ)) : Type 0 where
@@ -93,16 +98,17 @@ module _ {D : Type 0} (d : disk.Ghosts D) where
     pub goes : GoThrough calls first last
     pub crashes : IsTrue (d.keeps_crashes old) → LeavesFrontOf limit calls first kept old result
 
-  -- The disk stood for a state, from which on it was served, with the disk's count of failures. Each image that a crash might have left by
-  -- the end was left before, or stands for the state after a front of calls that lead from the first machine to the last.
+  -- The disk stood for a state, from which on it was served, with the disk's count of failures and none of full refusals. Each image that
+  -- a crash might have left by the end was left before, or stands for the state after a front of calls that lead from the first machine to
+  -- the last.
   pub record ServesState (limit : ℕ) (old : D) (result : Result D (Option D × Failure)) (unread unread_now before after : Option (List ℕ)) : Type 0 where
     pub first : Machine
     pub stood : Stands limit (d.seen old) first.state
     pub failures : first.failures ≡ d.failures old
+    pub full : first.full_refusals ≡ 0
     pub opened : D
     pub serves : ServesAndCloses limit first first.state opened result unread unread_now before after
-    pub crashes : IsTrue (d.keeps_crashes old) → IfSome (disk_of result) (λ closed. (start : D) (image : Content) → d.left_since start closed image
-        → d.left_since start old image ⊎ (d.may_leave old image ⊎ ((state : State) × IsOfAFront serves.calls first first.state state × Stands limit image state)))
+    pub crashes : IsTrue (d.keeps_crashes old) → LeavesFrontSince limit serves.calls first old result
 
   -- The disk was not opened, and is handed back: it is a file of no state, or one of version 1 that was not closed, or memory or the disk
   -- gave out: 91 counts one failure. One of version 2 was recovered, as far as the disk allowed; what stood for a state stands for it still.
@@ -127,19 +133,27 @@ module _ {D : Type 0} (d : disk.Ghosts D) where
 
   -- ---- connections in place of the input
 
-  -- Connections at an address were served by this machine, and then the file was closed; the first failure is told.
-  pub record ServesAtAndCloses (limit : ℕ) (address : Bor (List ℕ)) (connections : ℕ) (first : Machine) (result : Result D (Option D × Failure)) (before after : Option (List ℕ)) : Type 0 where
+  -- Connections at an address were served by this machine, and then the file was closed, over a disk as it was, where a state was kept
+  -- last; the first failure is told. Some calls lead from the first machine to the last, and a crash by the end leaves the state after a
+  -- front of them.
+  pub record ServesAtAndCloses (limit : ℕ) (address : Bor (List ℕ)) (connections : ℕ) (first : Machine) (kept : State) (old : D) (result : Result D (Option D × Failure)) (before after : Option (List ℕ)) : Type 0 where
     pub failure : Option Failure
     pub last : Machine
     pub served : ServesAddress address connections failure first last before after
     pub closes : Closes limit last failure result
+    pub calls : List Call
+    pub goes : GoThrough calls first last
+    pub crashes : IsTrue (d.keeps_crashes old) → LeavesFrontOf limit calls first kept old result
 
-  -- the disk stood for a state, from which on they were served, with the disk's count of failures
+  -- the disk stood for a state, from which on they were served, with the counts and the images of a crash as above
   pub record ServesStateAt (limit : ℕ) (address : Bor (List ℕ)) (connections : ℕ) (old : D) (result : Result D (Option D × Failure)) (before after : Option (List ℕ)) : Type 0 where
     pub first : Machine
     pub stood : Stands limit (d.seen old) first.state
     pub failures : first.failures ≡ d.failures old
-    pub serves : ServesAtAndCloses limit address connections first result before after
+    pub full : first.full_refusals ≡ 0
+    pub opened : D
+    pub serves : ServesAtAndCloses limit address connections first first.state opened result before after
+    pub crashes : IsTrue (d.keeps_crashes old) → LeavesFrontSince limit serves.calls first old result
 
   -- what comes of the file that an honest disk holds, where no input is read
   abbrev pub ServesFileAt : ℕ → Bor (List ℕ) → ℕ → D → Result D (Option D × Failure) → Option (List ℕ) → Option (List ℕ) → Type 0

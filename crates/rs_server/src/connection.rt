@@ -63,10 +63,11 @@ pub fn serve_one<E: Serve, R: Read, W: Write>(
     engine: &mut E,
     connection: &mut Connection<R, W>,
 ) -> Result<End, Fault>
-    ensures { (old : Machine) → E.is engine.old old → (new : Machine) × E.is engine.new new
+    ensures served { (old : Machine) → E.is engine.old old → (new : Machine) × E.is engine.new new
         × ((told : List ℕ) × Consumes (R.remaining connection.old.reader) (R.remaining connection.new.reader) told
         × Ends result told (R.remaining connection.new.reader) old new
         (W.contents connection.old.writer) (W.contents connection.new.writer)) }
+    ensures becomes { E.becomes engine.old engine.new }
 {
     run(
         alloc,
@@ -88,7 +89,8 @@ pub fn serve_connections<C: Clock, E: Serve>(
     listener: &TcpListener,
     connections: u32,
 ) -> Result<(), CannotAccept>
-    ensures { (old : Machine) → E.is engine.old old → (new : Machine) × E.is engine.new new × ServesThem result connections old new }
+    ensures served { (old : Machine) → E.is engine.old old → (new : Machine) × E.is engine.new new × ServesThem result connections old new }
+    ensures becomes { E.becomes engine.old engine.new }
 {
     for _ in 0..connections {
         serve_next(clock, alloc, engine, listener)?;
@@ -103,7 +105,8 @@ fn serve_next<C: Clock, E: Serve>(
     engine: &mut E,
     listener: &TcpListener,
 ) -> Result<(), CannotAccept>
-    ensures { (old : Machine) → E.is engine.old old → (new : Machine) × E.is engine.new new × ServesNext result old new }
+    ensures served { (old : Machine) → E.is engine.old old → (new : Machine) × E.is engine.new new × ServesNext result old new }
+    ensures becomes { E.becomes engine.old engine.new }
 {
     match next_stream(clock, listener) {
         Ok(Some(stream)) => {

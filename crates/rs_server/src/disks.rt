@@ -106,9 +106,11 @@ fn serve_at_and_close<
     connections: u32,
     output: &mut W,
 ) -> Result<D, (Option<D>, Failure<'a>)>
-    ensures { (machine : Machine) → IsOneMachine D.Disk engine machine
-        → ServesAtAndCloses D.Disk GREATEST_LIMIT address.entry connections machine result (W.contents output.old) (W.contents output.new) }
+    ensures { (machine : Machine) (kept : State) → IsOneMachine D.Disk engine machine → IsLast D.Disk engine.store.pager kept
+        → ServesAtAndCloses D.Disk GREATEST_LIMIT address.entry connections machine kept engine.store.pager.disk result
+        (W.contents output.old) (W.contents output.new) }
 {
+    steps_leave_a_front::<D>();
     let mut reopened = Reopened::new(engine);
     let failure = serve_address(rt, &mut reopened, address, connections, output);
     let (engine, failure) = reopened.end(failure);

@@ -25,8 +25,9 @@ pub(crate) fn serve_address<
     E: Serve,
     W: Write,
 >(rt: &P, engine: &mut E, address: &'a str, connections: u32, output: &mut W) -> Option<Failure<'a>>
-    ensures { (old : Machine) → E.is engine.old old → (new : Machine) × E.is engine.new new
+    ensures served { (old : Machine) → E.is engine.old old → (new : Machine) × E.is engine.new new
         × ServesAddress address.entry connections result old new (W.contents output.old) (W.contents output.new) }
+    ensures becomes { E.becomes engine.old engine.new }
 {
     let (listener, port) = match bound(rt, address) {
         Ok(bound) => bound,

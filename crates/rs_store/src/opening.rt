@@ -34,6 +34,7 @@ impl<D: Disk> Store<D> {
         ensures opens { IsTrue (D.is_honest disk) → Opens D.Disk limit disk result }
         ensures preserves { IsTrue (D.is_honest disk) → PreservesFile D.Disk limit disk result }
         ensures hands { HandsOver D.Disk limit disk result }
+        ensures full { IfOk result (λ store. store.pager.full_refusals ≡ 0) }
         ensures refused { IfErr result (λ refused. WantsOpening refused.1) }
     {
         disk_stands_for_one_map();
@@ -80,6 +81,7 @@ fn open_pages<D: Disk>(alloc: Global, pager: &mut Pager<D>) -> Result<Loaded, Re
     ensures shut { pager.new.is_begun ≡ pager.old.is_begun }
     ensures honesty { D.is_honest pager.new.disk ≡ D.is_honest pager.old.disk }
     ensures limit { pager.new.limit ≡ pager.old.limit }
+    ensures full { pager.new.full_refusals ≡ pager.old.full_refusals }
     ensures loads { IsTied D.Disk pager.old → IfOk result (λ loaded. LoadsState (working D.Disk pager.old) loaded.file loaded.catalog loaded.referents) }
     ensures file { IfOk result (λ loaded. IsAtRest loaded.file loaded.catalog) }
     ensures closed { IsTrue (D.is_honest pager.old.disk) → OnOk result (pager.old.is_header_changed ≡ true → (D.seen pager.old.disk).byte FLAG_OFFSET ≡ 0) }
@@ -108,6 +110,7 @@ fn migrate<D: Disk>(pager: &mut Pager<D>) -> Result<(), Refusal>
     ensures begun { pager.new.is_begun ≡ pager.old.is_begun }
     ensures honesty { D.is_honest pager.new.disk ≡ D.is_honest pager.old.disk }
     ensures limit { pager.new.limit ≡ pager.old.limit }
+    ensures full { pager.new.full_refusals ≡ pager.old.full_refusals }
     ensures most_clean { pager.new.most_clean ≡ pager.old.most_clean }
     ensures closed { IsTrue (D.is_honest pager.old.disk) → OnOk result (pager.old.is_header_changed ≡ true → (D.seen pager.old.disk).byte FLAG_OFFSET ≡ 0) }
     ensures open { IsTrue (D.is_honest pager.old.disk) → result ≡ Err Refusal.FileNotClosed

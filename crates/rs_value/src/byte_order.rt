@@ -10,7 +10,7 @@ ghost use Rattle.std.specs.Ordering.{nat_cmp};
 use std::cmp::Ordering;
 
 /// Compares bytes from the left, the shorter before the longer: eight at a time, and then one by one.
-pub(crate) fn compare_bytes(one: &[u8], other: &[u8]) -> Ordering
+pub fn compare_bytes(one: &[u8], other: &[u8]) -> Ordering
     ensures { result ≡ slice_cmp nat_cmp one.now other.now }
 {
     let mut left = one;

@@ -53,6 +53,16 @@ pub fn route_of(cell: &[u8]) -> u32
     BigEndian::read_u32(cell)
 }
 
+/// The first thousandth of an event, and the first one after it.
+pub fn place_of(cell: &[u8]) -> (u32, u32)
+    requires width { EVENT_BYTES ≤ length cell.now }
+    ensures { (types : List ColumnType) (event : Event) → SaysEvent types cell.now event → (result.0 ≡ event.lo) × (result.1 ≡ event.hi) }
+{
+    let lo = BigEndian::read_u32(&cell[4..]);
+    let hi = BigEndian::read_u32(&cell[cell.len() - 12..]);
+    (lo, hi)
+}
+
 /// Whether the cell says an event with a row of these columns. Takes no memory.
 pub fn says_event(schema: &Schema, cell: &[u8]) -> bool
     requires width { length cell.now ≡ event_width schema.now.items }

@@ -1,5 +1,5 @@
 -- One cell after the other.
-use Rattle.std.proofs.Common.{◌≡◌, ◌∙◌, ◌+◌, [], ◌∷◌, ◌++◌, Global, List, Option, Vec, map, take, sym, ap, subst, inl, inr}
+use Rattle.std.proofs.Common.{◌≡◌, ◌∙◌, ◌+◌, [], ◌∷◌, ◌++◌, Global, List, Option, Vec, map, take, sym, ap, subst, inr}
 use Rattle.std.proofs.lemmas.List.{append-nil, map-append}
 use Rattle.std.proofs.lemmas.Result.{err_from_is_err_and}
 use Rattle.rs_attr.specs.Meant.{SayStretches, stretch_of, stretches_of}
@@ -22,10 +22,10 @@ placed_stretch-requires c = record { width = cell_wide c.args.cells.now c.loop-p
 pub returns-in_err-stretch-clause-refused : goal.returns-in_err-stretch-clause-refused
 returns-in_err-stretch-clause-refused c =
     let p = err_from_is_err_and c.from_residual.result c.from_residual.ensures.1 in
-    rw (p.1, p.2) (elim c.in_err-stretch.ensures.refused [
-      | inl memory ↦ inl memory
-      | inr damaged ↦ inr (damaged.0, λ spans so. let one = placed_at c.args.told.now c.args.route (listed c.args.cells.now) c.loop-place.place c.get.result.now spans c.get.ensures so in damaged.1 one.0 one.1)
-    ])
+    rw (p.1, p.2) (inr (
+      c.in_err-stretch.ensures.damaged,
+      λ spans so. let one = placed_at c.args.told.now c.args.route (listed c.args.cells.now) c.loop-place.place c.get.result.now spans c.get.ensures so in c.in_err-stretch.ensures.refused one.0 one.1,
+    ))
 
 pub loop-place-preserved : goal.loop-place-preserved
 loop-place-preserved c =

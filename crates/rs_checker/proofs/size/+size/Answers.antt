@@ -1,7 +1,8 @@
-use Rattle.std.proofs.Common.{inl, inr, sym, ap, ◌∙◌, arith}
+use Rattle.std.proofs.Common.{inl, inr, sym, ap, subst, ◌∙◌, arith}
 use Rattle.rs_syntax.specs.QueryView.{query_tree}
 use Rattle.rs_machine.specs.Opening.{nodes, depth, opened_times}
 use Rattle.rs_catalog.specs.Definitions.{views_of}
+use Rattle.rs_checker.specs.NodeView.{opened_tree, HasFewer}
 use Rattle.rs_checker.specs.Sizes.{nodes_left}
 use Rattle.rs_checker.proofs.QueryLaws.{named_opened, unary_opened, binary_opened, nodes_unary, nodes_binary, depth_unary, depth_binary}
 use Rattle.rs_checker.proofs.SizeLaws.{some_nodes, some_depth, one_more, none_left, name_left}
@@ -10,15 +11,18 @@ use Rattle.rs_checker.proofs.size.+size.Goals.{nodes_left-then-nodes-eq0-via-the
 
 pub named_left-nodes_left-requires : goal.named_left-nodes_left-requires
 named_left-nodes_left-requires t c =
-    let e = ap nodes c.in-Some.ensures.opened in
-    let h = c.in-Some.ensures.opens in
+    let e = ap nodes (c.opened_name.ensures.opened ∙ ap (opened_tree (views_of c.args.catalog.now)) c.in-Query.is) in
+    let h = subst (HasFewer c.args.openings) c.in-Query.is c.opened_name.ensures.fewer in
     (omega (arith, e, h, c.decreases), tt)
 
-pub named_left-returns-in-Some : goal.named_left-returns-in-Some
-named_left-returns-in-Some t c = c.nodes_left.ensures ∙ ap (nodes_left c.args.nodes c.args.depth) (sym c.in-Some.ensures.opened)
+pub named_left-returns-in-Query : goal.named_left-returns-in-Query
+named_left-returns-in-Query t c =
+    c.nodes_left.ensures ∙ ap (nodes_left c.args.nodes c.args.depth) (sym (c.opened_name.ensures.opened ∙ ap (opened_tree (views_of c.args.catalog.now)) c.in-Query.is))
 
-pub named_left-returns-in-None : goal.named_left-returns-in-None
-named_left-returns-in-None t c = name_left c.args.nodes c.args.depth c.requires.nodes c.requires.depth ∙ ap (nodes_left c.args.nodes c.args.depth) (sym c.in-None.ensures.stays)
+pub named_left-returns-in-Name : goal.named_left-returns-in-Name
+named_left-returns-in-Name t c =
+    name_left c.args.nodes c.args.depth c.requires.nodes c.requires.depth
+    ∙ ap (nodes_left c.args.nodes c.args.depth) (sym (c.opened_name.ensures.opened ∙ ap (opened_tree (views_of c.args.catalog.now)) c.in-Name.is))
 
 pub nodes_left-returns-then-nodes-eq0 : goal.nodes_left-returns-then-nodes-eq0
 nodes_left-returns-then-nodes-eq0 t c =

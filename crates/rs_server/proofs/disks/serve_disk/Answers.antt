@@ -17,6 +17,7 @@ returns-in-Ok g c = λ honest.
       first = first;
       stood = opens.stood;
       failures = c.in-Ok.ensures.hands.count;
+      full = (c.in-Ok.ensures.opens honest).opens.full;
       opened = c.in-Ok.engine.store.pager.disk;
       serves = serves;
       crashes = λ on. opened_before d serves.calls first c.args.disk c.in-Ok.engine.store.pager.disk ((c.in-Ok.ensures.preserves honest).stays opens.state opens.stood) on

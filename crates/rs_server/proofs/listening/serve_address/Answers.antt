@@ -17,21 +17,27 @@ not_said : (address : Bor (List ℕ)) (connections : ℕ) (fault : Fault) (port 
 not_said address connections fault port machine before after is says =
     subst (λ (one : Fault). ServesAddress address connections (Some (Stream one)) machine machine before after) (sym is) ((port, says), refl)
 
-pub returns-in-Err : goal.returns-in-Err
-returns-in-Err g c = λ old is. (old, is, (refl, Keeps-refl _, refl))
+pub returns-in-Err-clause-served : goal.returns-in-Err-clause-served
+returns-in-Err-clause-served g c = λ old is. (old, is, (refl, Keeps-refl _, refl))
 
-pub returns-in-Ok-serve_connections : goal.returns-in-Ok-serve_connections
-returns-in-Ok-serve_connections g c = λ old is.
-    let served = c.in-Ok-serve_connections.ensures old is in
+pub returns-in-Err-clause-becomes : goal.returns-in-Err-clause-becomes
+returns-in-Err-clause-becomes g c = g.E.Serve.becomes_itself c.args.engine.now
+
+pub returns-in-Ok-serve_connections-clause-served : goal.returns-in-Ok-serve_connections-clause-served
+returns-in-Ok-serve_connections-clause-served g c = λ old is.
+    let served = c.in-Ok-serve_connections.ensures.served old is in
     (served.0, served.1, ((c.in-Ok.bound.1, c.in-Ok-say_listening.ensures), served.2))
 
-pub returns-in-Ok-say_listening : goal.returns-in-Ok-say_listening
-returns-in-Ok-say_listening g c = λ old is.
-    let served = c.in-Err-serve_connections.ensures old is in
+pub returns-in-Ok-say_listening-clause-served : goal.returns-in-Ok-say_listening-clause-served
+returns-in-Ok-say_listening-clause-served g c = λ old is.
+    let served = c.in-Err-serve_connections.ensures.served old is in
     (served.0, served.1, ((c.in-Ok.bound.1, c.in-Ok-say_listening.ensures), served.2))
 
-pub returns : goal.returns
-returns g c = λ old is.
+pub returns-clause-served : goal.returns-clause-served
+returns-clause-served g c = λ old is.
     let says = said_from_puts _ c.say_listening.result (listening_text c.in-Ok.bound.1) (g.W.Write.contents c.args.output.now) (g.W.Write.contents c.say_listening.new.output)
     c.say_listening.ensures in
     (old, is, not_said c.args.address c.args.connections c.in-Err-say_listening.fault c.in-Ok.bound.1 old _ _ c.in-Err-say_listening.ensures.0 says)
+
+pub returns-clause-becomes : goal.returns-clause-becomes
+returns-clause-becomes g c = g.E.Serve.becomes_itself c.args.engine.now

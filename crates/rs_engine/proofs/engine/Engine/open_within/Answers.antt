@@ -16,7 +16,7 @@ pub returns-clause-opens : goal.returns-clause-opens
 returns-clause-opens g c = λ honest.
     opens_ok g.D.Disk c.args.limit c.args.disk c.in_ok-store.store c.engine_over.result c.engine_over.ensures.store
     (begins_opened g.D.Disk c.args.limit (g.D.Disk.seen c.args.disk) c.in_ok-store.store c.engine_over.result c.engine_over.ensures.store c.engine_over.ensures.oldest c.engine_over.ensures.cursors
-    c.state_of_a_disk_is_lawful.ensures (c.in_ok-store.ensures.opens honest).opens (omega (arith, c.in_ok-store.ensures.hands.limit, c.requires.greatest)))
+    c.state_of_a_disk_is_lawful.ensures (c.in_ok-store.ensures.opens honest).opens (omega (arith, c.in_ok-store.ensures.hands.limit, c.requires.greatest)) c.in_ok-store.ensures.full)
     (c.in_ok-store.ensures.opens honest)
 
 pub returns-in_err-store-clause-preserves : goal.returns-in_err-store-clause-preserves
