@@ -64,8 +64,9 @@ pub(crate) fn is_dated(accepted: u64, cell: &[u8]) -> bool
     requires width { VERSION_BYTES ≤ length cell.now }
     ensures { IsTrue result ↔ IsDated accepted cell.now }
 {
+    let born = born_of(cell);
     let died = died_of(cell);
-    born_of(cell) <= accepted && (died == LIVING || (born_of(cell) < died && died <= accepted))
+    born <= accepted && (died == LIVING || (born < died && died <= accepted))
 }
 
 /// Writes the version of its end into a cell: `Versions::kill` leaves the cell so, and an index over it writes the same.
