@@ -1,3 +1,4 @@
+mod ReservedLaws
 mod ScanningLaws
 pub mod CutLaws
 pub mod TokenLaws

@@ -225,22 +225,22 @@ none_until bytes place count below here longer above h =
     (λ le. below longer above le)
     (cases_lt place longer)
 
-pub word_kind-found : (table : List (List ℕ × TokenKind)) (word : List ℕ) (kind : TokenKind) → table ≡ reserved → Some kind ≡ kind_in table word → kind ≡ word_kind word
+pub word_kind-found : (word : List ℕ) (kind : TokenKind) → Some kind ≡ kind_in reserved word → kind ≡ word_kind word
 unfolding word_kind
-word_kind-found table word kind same found =
-    ap (λ o. unwrap_or o (if nat_le (length word) NAME_BYTES then kinds.Name else kinds.LongWord)) (found ∙ ap (λ t. kind_in t word) same)
+word_kind-found word kind found =
+    ap (λ o. unwrap_or o (if nat_le (length word) NAME_BYTES then kinds.Name else kinds.LongWord)) found
 
-pub word_kind-name : (table : List (List ℕ × TokenKind)) (word : List ℕ) → table ≡ reserved → None ≡ kind_in table word → length word ≤ NAME_BYTES → kinds.Name ≡ word_kind word
+pub word_kind-name : (word : List ℕ) → None ≡ kind_in reserved word → length word ≤ NAME_BYTES → kinds.Name ≡ word_kind word
 unfolding word_kind
-word_kind-name table word same found h =
+word_kind-name word found h =
     ap (λ b. if b then kinds.Name else kinds.LongWord) (sym (le-leb (length word) NAME_BYTES h))
-    ∙ ap (λ o. unwrap_or o (if nat_le (length word) NAME_BYTES then kinds.Name else kinds.LongWord)) (found ∙ ap (λ t. kind_in t word) same)
+    ∙ ap (λ o. unwrap_or o (if nat_le (length word) NAME_BYTES then kinds.Name else kinds.LongWord)) found
 
-pub word_kind-long : (table : List (List ℕ × TokenKind)) (word : List ℕ) → table ≡ reserved → None ≡ kind_in table word → NAME_BYTES < length word → kinds.LongWord ≡ word_kind word
+pub word_kind-long : (word : List ℕ) → None ≡ kind_in reserved word → NAME_BYTES < length word → kinds.LongWord ≡ word_kind word
 unfolding word_kind
-word_kind-long table word same found h =
+word_kind-long word found h =
     ap (λ b. if b then kinds.Name else kinds.LongWord) (sym (lt-leb (length word) NAME_BYTES h))
-    ∙ ap (λ o. unwrap_or o (if nat_le (length word) NAME_BYTES then kinds.Name else kinds.LongWord)) (found ∙ ap (λ t. kind_in t word) same)
+    ∙ ap (λ o. unwrap_or o (if nat_le (length word) NAME_BYTES then kinds.Name else kinds.LongWord)) found
 
 -- the longest token, where the machine found one
 pub IsLongestToken-from_run : (bytes : List ℕ) (state : State) (kind : TokenKind) (count : ℕ) → count ≤ length bytes

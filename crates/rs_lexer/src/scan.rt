@@ -2,10 +2,10 @@
 //!
 //! It stops at the byte that no token goes on with, so a line is scanned in linear time.
 
-ghost use Rattle.std.specs.Prelude.{◌≡◌, ℕ, ◌+◌, ◌<◌, ◌≤◌, true, false, if◌then◌else◌, length, take, MatchOption, None};
+ghost use Rattle.std.specs.Prelude.{◌≡◌, ℕ, ◌+◌, ◌<◌, ◌≤◌, true, false, if◌then◌else◌, List, ◌∷◌, length, take, MatchOption, None};
 ghost use Rattle.std.specs.Str.{bytes_eq};
 ghost use Rattle.rs_grammar.specs.Words.{is_word_byte};
-ghost use Rattle.rs_lexer.specs.Lexis.{kind_in, word_kind, single_kind, token_kind, IsLongestToken};
+ghost use Rattle.rs_lexer.specs.Lexis.{reserved, kind_in, word_kind, single_kind, token_kind, IsLongestToken};
 ghost use Rattle.rs_lexer.specs.Scanning.{rows_of, after, accepts, is_dead, kind_at, run};
 
 use rs_grammar::kind::{NAME_BYTES, RESERVED, Reserved, TokenKind};
@@ -56,11 +56,46 @@ fn kind_in(table: &[Reserved], word: &[u8]) -> Option<TokenKind>
     None
 }
 
+// The reserved words that begin with the byte: their places in `RESERVED`, which is in alphabetical order.
+fn beginning_with(first: u8) -> &'static [Reserved]
+    ensures { (others : List ℕ) → kind_in (rows_of result.now) (first ∷ others) ≡ kind_in reserved (first ∷ others) }
+{
+    match first {
+        b'A' => &RESERVED[0..5],
+        b'B' => &RESERVED[5..6],
+        b'C' => &RESERVED[6..8],
+        b'D' => &RESERVED[8..11],
+        b'E' => &RESERVED[11..12],
+        b'F' => &RESERVED[12..15],
+        b'G' => &RESERVED[15..16],
+        b'I' => &RESERVED[16..22],
+        b'L' => &RESERVED[22..23],
+        b'M' => &RESERVED[23..26],
+        b'N' => &RESERVED[26..28],
+        b'O' => &RESERVED[28..32],
+        b'P' => &RESERVED[32..33],
+        b'R' => &RESERVED[33..39],
+        b'S' => &RESERVED[39..42],
+        b'T' => &RESERVED[42..48],
+        b'V' => &RESERVED[48..50],
+        b'W' => &RESERVED[50..52],
+        _ => &[],
+    }
+}
+
+// The kind of a reserved word, sought among those of its first letter.
+fn reserved_kind(word: &[u8]) -> Option<TokenKind>
+    ensures { result ≡ kind_in reserved word.now }
+{
+    let first = word.first()?;
+    kind_in(beginning_with(*first), word)
+}
+
 // The kind of a word.
 fn word_kind(word: &[u8]) -> TokenKind
     ensures { result ≡ word_kind word.now }
 {
-    match kind_in(&RESERVED, word) {
+    match reserved_kind(word) {
         Some(kind) => kind,
         None => {
             if word.len() <= NAME_BYTES {
