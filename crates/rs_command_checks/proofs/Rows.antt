@@ -1,17 +1,18 @@
--- A row of values that fits the columns is a row of theirs.
-use Rattle.std.proofs.Common.{◌≡◌, min, Bool, true, false, not, ◌==◌, cond, List, [], ◌∷◌, length, Option, Some, None, Ok, refl, sym, eqb-true, arith}
+-- A row of values that fits the columns is a row of theirs, and may be kept.
+use Rattle.std.proofs.Common.{◌≡◌, min, true, List, [], ◌∷◌, length, Option, Some, None, Ok, refl, arith}
 use Rattle.std.proofs.lemmas.Bool.{leb-true, and_parts}
+use Rattle.std.specs.List.{AllByRecursion}
 use Rattle.rs_refusal.specs.declared.refusal.Refusal.{Refusal}
-use Rattle.rs_refusal.specs.declared.refusal.Refusal.TheVariants.{WrongValues, TextTooLong}
 use Rattle.rs_value.specs.declared.column.ColumnType.{ColumnType}
 use Rattle.rs_value.specs.declared.column.ColumnType.TheVariants as types
 use Rattle.rs_value.specs.declared.column.TheConstants.{TEXT_BYTES}
 use Rattle.rs_value.specs.Row.{Datum, null, number, text, Row}
 use Rattle.rs_value.specs.Values.{IsValue, AreValues, IsOfType, IsRowOf}
 use Rattle.rs_value.specs.Fitting.{has_type, has_room, each_passes, misfit}
+use Rattle.rs_value.specs.Kept.{MayBeKept}
+use Rattle.rs_value.proofs.FittingLemmas.{fits_each, fits_kept}
 use Rattle.rs_facts.specs.Query.{Column}
 use Rattle.rs_machine.specs.Checks.{no_refusal, column_types, row_fits}
-use Rattle.rs_catalog.proofs.MapLaws.{none_some}
 use Rattle.rs_catalog_laws.proofs.Numbers.{false_true}
 
 of_type : (type : ColumnType) (datum : Datum) → IsValue datum → has_type type datum ≡ true → has_room type datum ≡ true → IsOfType type datum
@@ -31,22 +32,10 @@ row_of (type ∷ kinds) (datum ∷ row) same are typed room =
     let r = and_parts (has_room type datum) (each_passes has_room kinds row) room in
     (of_type type datum are.0 t.0 r.0, row_of kinds row (omega arith) are.1 t.1 r.1)
 
--- what no misfit says, test by test
-record Passes (a b c : Bool) : Type 0 where
-  as_many : a ≡ true
-  typed : b ≡ true
-  room : c ≡ true
-
-passes : (a b c : Bool) → cond (not a) (Some WrongValues) (cond (not b) (Some WrongValues) (cond (not c) (Some TextTooLong) None)) ≡ None → Passes a b c
-passes true true true e = record { as_many = refl; typed = refl; room = refl }
-passes true true false e = none_some TextTooLong (sym e)
-passes true false c e = none_some WrongValues (sym e)
-passes false b c e = none_some WrongValues (sym e)
-
 fits_row : (kinds : List ColumnType) (row : Row) → AreValues row → misfit kinds row ≡ None → IsRowOf kinds row
 fits_row kinds row are none =
-    let p = passes (length kinds == length row) (each_passes has_type kinds row) (each_passes has_room kinds row) none in
-    row_of kinds row (eqb-true (length kinds) (length row) p.as_many) are p.typed p.room
+    let fits = fits_each kinds row none in
+    row_of kinds row fits.as_many are fits.typed fits.room
 
 no_misfit : (o : Option Refusal) (u : Unit {0}) → no_refusal o ≡ Ok u → o ≡ None
 no_misfit None u e = refl
@@ -54,3 +43,6 @@ no_misfit (Some r) u e = cc
 
 pub row_fits-row : (columns : List Column) (row : Row) (u : Unit {0}) → AreValues row → row_fits columns row ≡ Ok u → IsRowOf (column_types columns) row
 row_fits-row columns row u are fits = fits_row (column_types columns) row are (no_misfit (misfit (column_types columns) row) u fits)
+
+pub row_fits-kept : (columns : List Column) (row : Row) (u : Unit {0}) → AreValues row → row_fits columns row ≡ Ok u → AllByRecursion MayBeKept row
+row_fits-kept columns row u are fits = fits_kept (column_types columns) row are (no_misfit (misfit (column_types columns) row) u fits)

@@ -4,7 +4,7 @@ ghost use Rattle.std.specs.Prelude.{◌≡◌, ◌⊎◌, ◌≤◌, ◌<◌, le
 ghost use Rattle.std.specs.FinMap as names;
 ghost use Rattle.rs_methods.specs.Position.{expression_of};
 ghost use Rattle.rs_value.specs.Values.{AreValues};
-ghost use Rattle.rs_value.specs.View.{row_of, literal_row};
+ghost use Rattle.rs_value.specs.View.{literal_row};
 ghost use Rattle.rs_facts.specs.Insert.{new_facts};
 ghost use Rattle.rs_facts.specs.Query.{Table};
 ghost use Rattle.rs_facts.specs.Remove.{removed_facts};
@@ -30,7 +30,7 @@ use rs_facts::{Condition, Span};
 use rs_methods::{Name, Position};
 use rs_refusal::Refusal;
 use rs_syntax::{Atom, ColumnDefinition, EventLocation, Window};
-use rs_value::{COLUMNS, KeptRow, Kind, Literal, Tuple, fits};
+use rs_value::{COLUMNS, KeptRow, Kind, Literal, check_fit};
 use std::alloc::Global;
 
 /// Rows that a removal takes away of its table.
@@ -87,8 +87,8 @@ impl Checks<'_> {
             return Err(Refusal::PointOrLineWanted);
         }
         self.catalog.stand();
-        let row = fitted(table.columns(), values)?;
-        let tuple = KeptRow::of_values(self.alloc, row.as_slice())?;
+        fitted(table.columns(), values)?;
+        let tuple = KeptRow::of_literals(self.alloc, values)?;
         Ok(Span { lo, hi, tuple })
     }
 
@@ -204,14 +204,13 @@ fn is_of_kind(place: &EventLocation, kind: Kind) -> bool
     }
 }
 
-/// The row that the literals write, or the refusal that it does not fit the columns (33, then 34).
-fn fitted(columns: &[ColumnDefinition], values: &[Literal]) -> Result<Tuple, Refusal>
+/// Whether the literals fit the columns (33, then 34).
+fn fitted(columns: &[ColumnDefinition], values: &[Literal]) -> Result<(), Refusal>
     requires { length columns.now ≤ COLUMNS }
     ensures ok { OnOk result (row_fits (map column_tree columns.now) (literal_row values.now) ≡ Ok tt) }
-    ensures row { IfOk result (λ tuple. row_of tuple.items ≡ literal_row values.now) }
     ensures refused { IfErr result (λ refusal. row_fits (map column_tree columns.now) (literal_row values.now) ≡ Err refusal) }
 {
-    fits(&schema_of(columns), values)
+    check_fit(schema_of(columns).as_slice(), values)
 }
 
 /// The condition that rows of these columns are to meet, where one is written.

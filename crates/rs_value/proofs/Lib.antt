@@ -1,7 +1,7 @@
 pub mod EncodingOrder
 pub mod EncodingLaws
 mod EncodingSteps
-mod FittingLemmas
+pub mod FittingLemmas
 mod QuotesDoubled
 pub mod KeptRows
 pub mod KeptOrder

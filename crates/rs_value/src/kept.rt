@@ -3,22 +3,23 @@
 //! A contract sees it as the row. Rows compare by their bytes, and no value is read but the one that is asked for.
 
 ghost use Rattle.std.specs.Prelude.{◌≡◌, ◌++◌, ◌↔◌, List, ℕ, length, map, get_or, replicate, IsTrue, IfOk, OnOk, IfSome, IfNone, string_bytes};
+ghost use Rattle.std.specs.List.{AllByRecursion};
 ghost use Rattle.rs_value.specs.Encoding.{SaysRow};
 ghost use Rattle.rs_value.specs.Kept.{MayBeKept};
 ghost use Rattle.rs_value.specs.LentView.{lent_datum};
 ghost use Rattle.rs_value.specs.Row.{Row, row_cmp, null};
 ghost use Rattle.rs_value.specs.Text.{values_text};
 ghost use Rattle.rs_value.specs.Values.{AreValues, IsRowOf};
-ghost use Rattle.rs_value.specs.View.{row_of};
+ghost use Rattle.rs_value.specs.View.{row_of, literal_row};
 
 use crate::byte_order::compare_bytes;
 use crate::column::Schema;
 use crate::kept_bytes::{after_values, count_values, first_value};
 use crate::kept_encoding::{kept_of, push_encoded};
-use crate::kept_making::{bytes_of, bytes_of_nulls, columns_in, columns_of, joined};
+use crate::kept_making::{bytes_of, bytes_of_literals, bytes_of_nulls, columns_in, columns_of, joined};
 use crate::kept_text::push_each;
 use crate::lent::LentValue;
-use crate::value::Value;
+use crate::value::{Literal, Value};
 use std::alloc::{AllocError, Global};
 use std::cmp::Ordering;
 use std::marker::Model;
@@ -47,6 +48,15 @@ impl KeptRow {
         ensures { IfOk result (λ kept. kept ≡ row_of values.now) }
     {
         let bytes = bytes_of(alloc, values)?;
+        Ok(KeptRow { bytes })
+    }
+
+    /// The row that these literals write. The only refusal is for want of memory.
+    pub fn of_literals(alloc: Global, literals: &[Literal]) -> Result<Self, AllocError>
+        requires { AllByRecursion MayBeKept (literal_row literals.now) }
+        ensures { IfOk result (λ kept. kept ≡ literal_row literals.now) }
+    {
+        let bytes = bytes_of_literals(alloc, literals)?;
         Ok(KeptRow { bytes })
     }
 

@@ -1,14 +1,15 @@
 //! The bytes of a row are made of values, and of those of other rows.
 
 ghost use Rattle.std.specs.Prelude.{◌++◌, ◌∷◌, [], map, get_or, replicate, IfOk};
-ghost use Rattle.rs_value.specs.Kept.{Keeps};
+ghost use Rattle.std.specs.List.{AllByRecursion};
+ghost use Rattle.rs_value.specs.Kept.{Keeps, MayBeKept};
 ghost use Rattle.rs_value.specs.Row.{Row, null};
 ghost use Rattle.rs_value.specs.Values.{AreValues};
-ghost use Rattle.rs_value.specs.View.{row_of};
+ghost use Rattle.rs_value.specs.View.{row_of, literal_row};
 
 use crate::kept_bytes::{NULL, after_values, kept_width, push_kept, split_first};
-use crate::lent::lent;
-use crate::value::Value;
+use crate::lent::{lent, lent_literal};
+use crate::value::{Literal, Value};
 use std::alloc::{AllocError, Global};
 
 /// The bytes of a row of these values. The only refusal is for want of memory.
@@ -28,6 +29,27 @@ fn width_of(values: &[Value]) -> usize {
     let mut total = 0_usize;
     for value in values {
         total = total.saturating_add(kept_width(lent(value)));
+    }
+    total
+}
+
+/// The bytes of the row that these literals write. The only refusal is for want of memory.
+pub(crate) fn bytes_of_literals(alloc: Global, literals: &[Literal]) -> Result<Vec<u8>, AllocError>
+    requires { AllByRecursion MayBeKept (literal_row literals.now) }
+    ensures { IfOk result (λ bytes. Keeps bytes.items (literal_row literals.now)) }
+{
+    let mut bytes = Vec::with_capacity(alloc, width_of_literals(literals))?;
+    for literal in literals {
+        push_kept(&mut bytes, lent_literal(literal))?;
+    }
+    Ok(bytes)
+}
+
+// How many bytes keep what the literals write.
+fn width_of_literals(literals: &[Literal]) -> usize {
+    let mut total = 0_usize;
+    for literal in literals {
+        total = total.saturating_add(kept_width(lent_literal(literal)));
     }
     total
 }

@@ -5,9 +5,9 @@ ghost use Rattle.rs_value.specs.Kept.{IsShort};
 ghost use Rattle.rs_value.specs.Row as rows;
 ghost use Rattle.rs_value.specs.LentView.{lent_datum};
 ghost use Rattle.rs_value.specs.Values.{IsValue};
-ghost use Rattle.rs_value.specs.View.{datum_of};
+ghost use Rattle.rs_value.specs.View.{datum_of, literal_datum};
 
-use crate::value::Value;
+use crate::value::{Literal, Value};
 use std::str;
 
 /// A value in a column of a row, lent.
@@ -41,5 +41,16 @@ pub(crate) fn lent(value: &Value) -> LentValue<'_>
         Value::Null => LentValue::Null,
         Value::Int(number) => LentValue::Int(*number),
         Value::Text(text) => LentValue::Text(text.as_str().as_bytes()),
+    }
+}
+
+/// What a literal writes, lent.
+pub(crate) fn lent_literal(literal: &Literal) -> LentValue<'_>
+    ensures { lent_datum result ≡ literal_datum literal.now }
+{
+    match literal {
+        Literal::Null => LentValue::Null,
+        Literal::Int(number) => LentValue::Int(*number),
+        Literal::Text(text) => LentValue::Text(text.as_bytes()),
     }
 }

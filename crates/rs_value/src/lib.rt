@@ -31,7 +31,7 @@ pub use encoding_laws::{
     bytes_compare_as_rows, bytes_say_one_row, each_row_is_said, row_has_one_encoding,
     rows_have_one_width, said_row_is_of_its_columns,
 };
-pub use fitting::fits;
+pub use fitting::{check_fit, fits};
 pub use kept::{KeptRow, compare_rows, push_values, same_row};
 pub use kept_encoding::says_row;
 pub use kept_laws::{

@@ -1,13 +1,13 @@
-use Rattle.std.proofs.Common.{◌≡◌, true, ◌++◌, drop}
+use Rattle.std.proofs.Common.{◌≡◌, take, drop, map}
+use Rattle.std.specs.List.{AllByRecursion}
 use Rattle.arrayvec.specs.ArrayVec.{array_vec_len}
+use Rattle.rs_value.specs.Kept.{IsShort}
 use Rattle.rs_value.specs.View.{literal_row, row_of}
-use Rattle.rs_value.specs.Fitting.{has_type, has_room, each_passes}
 use Rattle.rs_value.proofs.fitting.tuple_of.Given as goal
 
-abbrev pub invariant-loop-i : goal.invariant-loop-i
-invariant-loop-i l = record {
-  len : array_vec_len l.tuple ≡ l.i;
-  row : row_of l.tuple.items ++ literal_row (drop l.i l.literals) ≡ literal_row l.literals;
-  typed : each_passes has_type (drop l.i l.columns) (literal_row (drop l.i l.literals)) ≡ true;
-  room : each_passes has_room l.columns (literal_row l.literals) ≡ each_passes has_room (drop l.i l.columns) (literal_row (drop l.i l.literals));
+abbrev pub invariant-loop-literal : goal.invariant-loop-literal
+invariant-loop-literal l = record {
+  len : array_vec_len l.tuple ≡ l.literal-index;
+  row : row_of l.tuple.items ≡ literal_row (take l.literal-index l.literals);
+  left : AllByRecursion IsShort (literal_row (drop l.literal-index l.literals));
 }
