@@ -16,7 +16,9 @@ use crate::byte_order::compare_bytes;
 use crate::column::Schema;
 use crate::kept_bytes::{after_values, count_values, first_value};
 use crate::kept_encoding::{kept_of, push_encoded};
-use crate::kept_making::{bytes_of, bytes_of_literals, bytes_of_nulls, columns_in, columns_of, joined};
+use crate::kept_making::{
+    bytes_of, bytes_of_literals, bytes_of_nulls, columns_in, columns_of, joined,
+};
 use crate::kept_text::push_each;
 use crate::lent::LentValue;
 use crate::value::{Literal, Value};

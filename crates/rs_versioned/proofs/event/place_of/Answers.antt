@@ -15,8 +15,7 @@ returns c types event says =
     let one : Event = event_at width cell event.row in
     let same : one ≡ event =
     event_said_once types cell one event (event_there types width cell event.row wide (λ i. (c.type_inv.cell i).fits) (event_row_at types cell event says)) says in
-    let place : length cell - 12 ≡ 8 + width + 8 = omega (arith, wide) in
-    (
+    let place : length cell - 12 ≡ 8 + width + 8 = omega (arith, wide) in (
       c.read_u32-lo.ensures ∙ number_from 4 4 cell (omega (arith, wide)) ∙ ap (λ (e : Event). e.lo) same,
       c.read_u32-hi.ensures ∙ number_from 4 (length cell - 12) cell (omega (arith, wide)) ∙ ap (λ (n : ℕ). big_number 4 (drop n cell)) place ∙ ap (λ (e : Event). e.hi) same,
     )
