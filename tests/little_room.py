@@ -9,8 +9,8 @@ answered, as by the slow machine after the lines that were accepted, or by 90, a
 wants it; and the status is 0. The file that is left has to hold what was accepted, by the slow reader of files; where the end is
 refused by 90 too, as it may be, what was accepted up to some line. The load has 10,000 lines by default, and 100,000 with --all.
 
-Then it runs with a small stack, and answers the deepest queries as with a large one: all that a line can have, in 512 KB, and those
-through as many views as there may be, in 1,536 KB. It prints for each run how many lines were refused, what is not as wanted, and at
+Then it runs with a stack of 512 KB, and answers the deepest queries as with a large one: all that a line can have, and those through
+as many views as there may be. It prints for each run how many lines were refused, what is not as wanted, and at
 last `N passed, M failed`, counted in runs.
 """
 
@@ -40,7 +40,7 @@ LONGEST = 600  # seconds
 
 OPERATORS, BRACKETS, VIEWS = 31, 31, 128  # over a table, in a condition, and in all
 LONGEST_CONDITION = 560  # comparisons with OR between them
-STACK_OF_LINES, STACK_OF_VIEWS, LARGE_STACK = 512, 1_536, 8_192  # kilobytes
+STACK, LARGE_STACK = 512, 8_192  # kilobytes
 
 NO_MEMORY = b"roadseg: ERR 90 out of memory\n"
 EXHAUSTED, DISK = b"90 out of memory\n", b"91 disk\n"
@@ -175,12 +175,16 @@ def deep_lines():
 
 
 def view_lines():
-    """As many views as there may be, of which each names the one before it: the deepest condition first, the operators last."""
-    yield from ["DROP VIEW g", "DEFINE VIEW v0 AS WHERE(p, %s)" % next(deepest_conditions())]
-    for view in range(1, VIEWS):
-        yield "DEFINE VIEW v%d AS %s" % (view, ("GAPS(v%d)" if view > VIEWS - OPERATORS else "v%d") % (view - 1))
-    last = "v%d" % (VIEWS - 1)
-    yield from asked(last) + ["SAVE", "REOPEN", "SELECT " + last]
+    """As many views as there may be, of which each names the one before it: the deepest condition first, the operators last or among them."""
+    yield "DROP VIEW g"
+    last_ones, among = range(VIEWS - OPERATORS + 1, VIEWS), range(4, VIEWS, 4)
+    for operators in (last_ones, among):
+        yield "DEFINE VIEW v0 AS WHERE(p, %s)" % next(deepest_conditions())
+        for view in range(1, VIEWS):
+            yield "DEFINE VIEW v%d AS %s" % (view, ("GAPS(v%d)" if view in operators else "v%d") % (view - 1))
+        last = "v%d" % (VIEWS - 1)
+        yield from asked(last) + ["SAVE", "REOPEN", "SELECT " + last]
+        yield from ("DROP VIEW v%d" % view for view in reversed(range(VIEWS)))
 
 
 def outcome(words, lines, stack, file):
@@ -224,8 +228,8 @@ def arguments():
 def main():
     words = arguments()
     runs = [("%g MB" % room, judge, room) for room in words.rooms]
-    runs += [("%d KB of stack" % stack, partial(judge_stack, commands=list(commands())), stack)
-             for stack, commands in ((STACK_OF_LINES, deep_lines), (STACK_OF_VIEWS, view_lines))]  # fmt: skip
+    runs += [("%d KB of stack, %s" % (STACK, title), partial(judge_stack, commands=list(commands())), STACK)
+             for title, commands in (("lines", deep_lines), ("views", view_lines))]  # fmt: skip
     passed = failed = 0
     with scratch_folder() as words.folder:
         for limit, judged_by, size in runs:
