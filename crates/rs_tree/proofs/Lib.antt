@@ -12,5 +12,6 @@ pub mod Nodes
 pub mod Collecting
 pub mod Entering
 pub mod Entries
+pub mod Holding
 pub mod Loading
 pub mod Searching

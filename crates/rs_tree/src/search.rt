@@ -10,7 +10,7 @@ ghost use Rattle.rs_pages.specs.Calls.{OnlyReads};
 use crate::walk::walk;
 use crate::wanted::Wanted;
 use crate::{Layout, Summary};
-use rs_page::{Page, PageNumber};
+use rs_page::PageNumber;
 use rs_pages::Pages;
 use rs_records::Cells;
 use rs_refusal::Refusal;
@@ -51,10 +51,7 @@ pub fn descend<P: Pages, S: Summary, F: Fn(&S) -> bool>(
         high,
         keep,
     };
-    let mut copy = Page::new();
-    walk::<P, S, F>(
-        pages, root, LEVELS, &wanted, &mut left, &mut cells, &mut copy,
-    )?;
+    walk::<P, S, F>(alloc, pages, root, LEVELS, &wanted, &mut left, &mut cells)?;
     Ok((cells, count - left))
 }
 

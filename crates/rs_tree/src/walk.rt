@@ -2,39 +2,37 @@
 //!
 //! It goes down so many levels at the most and reads so many pages, so that it ends on pages that are no tree.
 
-ghost use Rattle.std.specs.Prelude.{◌≡◌, ◌<◌, ◌≤◌, ◌*◌, IfErr, length};
+ghost use Rattle.std.specs.Prelude.{◌≡◌, ◌<◌, ◌≤◌, ℕ, List, IfErr, length};
 ghost use Rattle.std.specs.Fn.{FnReturnsAt};
-ghost use Rattle.rs_page.specs.declared.header.TheConstants.{PAGE_ROOM};
 ghost use Rattle.rs_records.specs.Listed.{listed, record_width};
-ghost use Rattle.rs_records.specs.Records.{records, keys};
 ghost use Rattle.rs_tree.specs.Calls.{WalksBy};
-ghost use Rattle.rs_tree.specs.Content.{content};
-ghost use Rattle.rs_tree.specs.Form.{least_from};
 ghost use Rattle.rs_tree.specs.Layouts.{entry_bytes};
-ghost use Rattle.rs_tree.specs.Walking.{Walks, WalksEntry, WalksEntries, ReadsOnce, ReadsEntryOnce, ReadsEntriesOnce, IsWalkRefusal, HasNoPart, HasNoPartOfEntry, HasNoPartsOfEntries, IsRange};
+ghost use Rattle.rs_tree.specs.Looking.{HoldsEntries};
+ghost use Rattle.rs_tree.specs.Walking.{Walks, WalksEntry, WalksEntries, ReadsOnce, ReadsEntryOnce, ReadsEntriesOnce, IsWalkRefusal, HasNoPart, HasNoPartOfEntry, HasNoPartsOfEntries};
 ghost use Rattle.rs_tree.specs.Forms.{form_in};
 ghost use Rattle.rs_pages.specs.Calls.{DamagedOnlyIf, OnlyReads, Reads};
 
+use crate::Summary;
 use crate::asking::accepts;
 use crate::entry::{child, summary};
 use crate::look::look;
 use crate::wanted::Wanted;
-use crate::{Layout, Summary, content};
-use rs_page::{Page, PageNumber};
+use rs_page::PageNumber;
 use rs_pages::Pages;
-use rs_records::{Cells, place, record_at};
+use rs_records::Cells;
 use rs_refusal::Refusal;
+use std::alloc::Global;
 
-/// Walks through the part of a tree with this page at its top. An inner page is copied.
+/// Walks through the part of a tree with this page at its top.
 #[cycle(walking)]
 pub fn walk<P: Pages, S: Summary, F: Fn(&S) -> bool>(
+    alloc: Global,
     pages: &mut P,
     number: PageNumber,
     levels: u32,
     wanted: &Wanted<'_, F>,
     left: &mut u32,
     cells: &mut Cells,
-    copy: &mut Page,
 ) -> Result<(), Refusal>
     requires callable { F.IsAlwaysCallable wanted.now.keep.now }
     requires width { record_width cells.old ≡ wanted.now.layout.width }
@@ -51,21 +49,21 @@ pub fn walk<P: Pages, S: Summary, F: Fn(&S) -> bool>(
     ensures damaged { DamagedOnlyIf P.Pages (λ map. HasNoPart (form_in S.Summary wanted.now.layout) map number levels left.old) result
         pages.old }
 {
-    let Some(count) = look(pages, number, wanted, left, cells, copy)? else {
+    let Some(entries) = look(alloc, pages, number, wanted, left, cells)? else {
         return Ok(());
     };
     if levels == 0 {
         return Err(Refusal::DamagedFile);
     }
-    walk_entries(pages, copy, count, levels, wanted, left, cells)
+    walk_entries(alloc, pages, &entries, levels, wanted, left, cells)
 }
 
-/// Walks through what the entries of an inner page say. There is one place for the copies of the pages below, one after another.
+/// Walks through what the entries say that were taken of an inner page.
 #[cycle(walking)]
 fn walk_entries<P: Pages, S: Summary, F: Fn(&S) -> bool>(
+    alloc: Global,
     pages: &mut P,
-    page: &Page,
-    count: usize,
+    entries: &Cells,
     levels: u32,
     wanted: &Wanted<'_, F>,
     left: &mut u32,
@@ -74,26 +72,26 @@ fn walk_entries<P: Pages, S: Summary, F: Fn(&S) -> bool>(
     requires callable { F.IsAlwaysCallable wanted.now.keep.now }
     requires width { record_width cells.old ≡ wanted.now.layout.width }
     requires summary { wanted.now.layout.summary ≡ S.WIDTH }
-    requires fit { count * entry_bytes wanted.now.layout ≤ PAGE_ROOM }
+    requires entries { record_width entries.now ≡ entry_bytes wanted.now.layout }
     requires levels { 0 < levels }
     ensures rests { OnlyReads P.Pages result pages.old pages.new }
     ensures width { record_width cells.new ≡ wanted.now.layout.width }
     ensures fewer { left.new ≤ left.old }
     ensures walks { WalksBy P.Pages S.Summary (FnReturnsAt F.Fn wanted.now.keep.now) (λ map passes.
-        WalksEntries (form_in S.Summary wanted.now.layout) map page.now.bytes count wanted.now.low.now wanted.now.high.now passes
+        (page : List ℕ) (count : ℕ) → HoldsEntries page count wanted.now.layout wanted.now.low.now wanted.now.high.now (listed entries.now)
+        → WalksEntries (form_in S.Summary wanted.now.layout) map page count wanted.now.low.now wanted.now.high.now passes
         (listed cells.old) (listed cells.new) left.old left.new) result pages.old }
-    ensures once { Reads P.Pages (λ map _. ReadsEntriesOnce (form_in S.Summary wanted.now.layout) map page.now.bytes count
-        left.old left.new) result pages.old }
+    ensures once { Reads P.Pages (λ map _. (page : List ℕ) (count : ℕ)
+        → HoldsEntries page count wanted.now.layout wanted.now.low.now wanted.now.high.now (listed entries.now)
+        → ReadsEntriesOnce (form_in S.Summary wanted.now.layout) map page count left.old left.new) result pages.old }
     ensures refused { IfErr result IsWalkRefusal }
-    ensures damaged { DamagedOnlyIf P.Pages (λ map. HasNoPartsOfEntries (form_in S.Summary wanted.now.layout) map page.now.bytes count
-        levels left.old) result pages.old }
+    ensures damaged { DamagedOnlyIf P.Pages (λ map. (page : List ℕ) (count : ℕ)
+        → HoldsEntries page count wanted.now.layout wanted.now.low.now wanted.now.high.now (listed entries.now)
+        → HasNoPartsOfEntries (form_in S.Summary wanted.now.layout) map page count levels left.old) result pages.old }
 {
-    let bytes = content(page);
-    let (from, to) = entries_within(bytes, wanted.layout, count, wanted.low, wanted.high);
-    let mut below = Page::new();
-    for index in from..to {
-        let entry = record_at(bytes, wanted.layout.entry_width(), index);
-        walk_entry(pages, entry, levels, wanted, left, cells, &mut below)?;
+    for index in 0..entries.len() {
+        let entry = entries.get(index);
+        walk_entry(alloc, pages, entry, levels, wanted, left, cells)?;
     }
     Ok(())
 }
@@ -101,13 +99,13 @@ fn walk_entries<P: Pages, S: Summary, F: Fn(&S) -> bool>(
 /// Walks through what an entry says, where its summary is accepted.
 #[cycle(walking)]
 fn walk_entry<P: Pages, S: Summary, F: Fn(&S) -> bool>(
+    alloc: Global,
     pages: &mut P,
     entry: &[u8],
     levels: u32,
     wanted: &Wanted<'_, F>,
     left: &mut u32,
     cells: &mut Cells,
-    copy: &mut Page,
 ) -> Result<(), Refusal>
     requires callable { F.IsAlwaysCallable wanted.now.keep.now }
     requires width { record_width cells.old ≡ wanted.now.layout.width }
@@ -130,24 +128,5 @@ fn walk_entry<P: Pages, S: Summary, F: Fn(&S) -> bool>(
         return Ok(());
     }
     let number = child(entry, wanted.layout);
-    walk(pages, number, levels - 1, wanted, left, cells, copy)
-}
-
-/// The first entry that may say a cell within the bounds, and the one after the last.
-fn entries_within(
-    bytes: &[u8],
-    layout: Layout,
-    count: usize,
-    low: &[u8],
-    high: &[u8],
-) -> (usize, usize)
-    requires { count * entry_bytes layout ≤ length bytes.now }
-    ensures { IsRange (keys (least_from layout.summary) (records count (entry_bytes layout) bytes.now)) low.now high.now
-        result.0 result.1 }
-{
-    let width = layout.entry_width();
-    let least = layout.least_from();
-    let from = place(bytes, width, count, least, low).saturating_sub(1);
-    let to = place(bytes, width, count, least, high);
-    (from, to)
+    walk(alloc, pages, number, levels - 1, wanted, left, cells)
 }

@@ -1,153 +1,127 @@
 -- What was read is a leaf or an inner page; of that each entry is gone through, and into the part that it says.
-use Rattle.std.proofs.Common.{◌≡◌, ◌≤◌, ◌*◌, ◌+◌, ◌-◌, true, false, Ok, Err, [], take, drop, sym, ap, ◌∙◌, subst, arith, rules}
+use Rattle.std.proofs.Common.{◌≡◌, true, false, Ok, Err, [], length, take, drop, sym, ap, ◌∙◌, subst, arith, rules}
 use Rattle.std.proofs.lemmas.Result.{err_from_is_err_and}
 use Rattle.std.specs.Fn.{FnReturnsAt}
 use Rattle.rs_refusal.specs.declared.refusal.Refusal.TheVariants as refusal
-use Rattle.rs_page.specs.declared.header.PageKind.TheVariants as kind
 use Rattle.rs_records.specs.Listed.{listed}
-use Rattle.rs_records.proofs.RecordLists.{times_upto, length-keys}
-use Rattle.rs_tree.specs.Form.{Form, joined, least_from, child_bytes}
-use Rattle.rs_tree.specs.Content.{content}
+use Rattle.rs_tree.specs.Form.{Form, joined, child_bytes}
 use Rattle.rs_tree.specs.Layouts.{entry_bytes}
 use Rattle.rs_tree.specs.Looking.{FindsInner, FindsLeaf}
 use Rattle.rs_tree.specs.Walking.{HasNoPart, Walks, WalksEntries}
 use Rattle.rs_tree.proofs.Loading.{on_ok, where_none}
 use Rattle.rs_pages.proofs.Resting.{rests_then}
-use Rattle.rs_tree.proofs.Entries.{walks_next, walks_all, reads_next, reads_all, no_entry-no_parts}
-use Rattle.rs_tree.proofs.Entering.{walks_leaf, walks_inner, once_inner, no_parts-no_part, no_level-no_part, no_node-no_part, walks_accepted, walks_rejected, answer_told, records_fit, entry_there}
+use Rattle.rs_tree.proofs.Holding.{entry_wide, held_no_entry, held_reads_all, held_reads_next, held_walks_all, held_walks_next}
+use Rattle.rs_tree.proofs.Entering.{walks_leaf, walks_inner, once_inner, no_parts-no_part, no_level-no_part, no_node-no_part, walks_accepted, walks_rejected, answer_told}
 use Rattle.rs_tree.proofs.walk.+walking.Goals as goal
 use Rattle.rs_tree.specs.Forms.{form_in}
 
-pub walk-returns-in_err-count-clause-damaged : goal.walk-returns-in_err-count-clause-damaged
-walk-returns-in_err-count-clause-damaged g t c = λ is tied.
+pub walk-returns-in_err-entries-clause-damaged : goal.walk-returns-in_err-entries-clause-damaged
+walk-returns-in_err-entries-clause-damaged g t c = λ is tied.
     let p = err_from_is_err_and c.from_residual.result c.from_residual.ensures.1 in
-    let why : c.in_err-count.field-0.0 ≡ refusal.DamagedFile = cc (p.1, p.2, is) in
+    let why : c.in_err-entries.field-0.0 ≡ refusal.DamagedFile = cc (p.1, p.2, is) in
     no_node-no_part (λ bytes cells. g.S.Summary.says bytes (joined g.S.Summary.unit g.S.Summary.join g.S.Summary.of cells)) c.args.wanted.now.layout
-    (g.P.Pages.store c.args.pages.now).map c.args.number c.args.levels c.args.left.now (λ some. c.in_err-count.ensures.damaged (ap Err why) tied some)
+    (g.P.Pages.store c.args.pages.now).map c.args.number c.args.levels c.args.left.now (λ some. c.in_err-entries.ensures.damaged (ap Err why) tied some)
 
 pub walk-returns-in_default-clause-walks : goal.walk-returns-in_default-clause-walks
 walk-returns-in_default-clause-walks g t c = λ tied test computes accepts.
     let found : FindsLeaf (g.P.Pages.is_tied c.args.pages.now) (g.P.Pages.store c.args.pages.now).map c.args.number c.args.wanted.now.layout
     c.args.wanted.now.low.now c.args.wanted.now.high.now (λ cell. test (g.S.Summary.of cell)) (listed c.args.cells.now) (listed c.look.new.cells) =
-    where_none c.in_ok-count.field-0 c.in_default.not-Some c.in_ok-count.ensures.leaf test computes in
+    where_none c.in_ok-entries.field-0 c.in_default.not-Some c.in_ok-entries.ensures.leaf test computes in
     walks_leaf (λ bytes cells. g.S.Summary.says bytes (joined g.S.Summary.unit g.S.Summary.join g.S.Summary.of cells)) c.args.wanted.now.layout
     (g.P.Pages.store c.args.pages.now).map c.args.number found.page c.args.wanted.now.low.now c.args.wanted.now.high.now (λ cell. test (g.S.Summary.of cell))
     (listed c.args.cells.now) (listed c.look.new.cells) c.args.left.now c.look.new.left c.look.new.left
-    c.in_ok-count.ensures.counted (found.there tied) found.leaf.count found.leaf.node found.leaf.found
+    c.in_ok-entries.ensures.counted (found.there tied) found.leaf.count found.leaf.node found.leaf.found
 
 pub walk-returns-then-levels-eq0-clause-damaged : goal.walk-returns-then-levels-eq0-clause-damaged
 walk-returns-then-levels-eq0-clause-damaged g t c = λ is tied.
     let form : Form = form_in g.S.Summary c.args.wanted.now.layout in
-    let found : FindsInner (g.P.Pages.is_tied c.args.pages.now) (g.P.Pages.store c.args.pages.now).map c.args.number c.args.wanted.now.layout c.look.new.copy.bytes c.in-Some.count = search rules in
+    let found : FindsInner (g.P.Pages.is_tied c.args.pages.now) (g.P.Pages.store c.args.pages.now).map c.args.number c.args.wanted.now.layout c.args.wanted.now.low.now c.args.wanted.now.high.now (listed c.in-Some.entries) = search rules in
     let none = no_level-no_part (λ bytes cells. g.S.Summary.says bytes (joined g.S.Summary.unit g.S.Summary.join g.S.Summary.of cells)) c.args.wanted.now.layout
-    (g.P.Pages.store c.args.pages.now).map c.args.number c.look.new.copy.bytes [] [] (λ _. true) [] [] c.args.left.now c.look.new.left 0
-    c.in_ok-count.ensures.counted (found.there tied) c.in-Some.count found.node in
+    (g.P.Pages.store c.args.pages.now).map c.args.number found.page [] [] (λ _. true) [] [] c.args.left.now c.look.new.left 0
+    c.in_ok-entries.ensures.counted (found.there tied) found.inner.count found.inner.node in
     subst (λ levels. HasNoPart form (g.P.Pages.store c.args.pages.now).map c.args.number levels c.args.left.now) (sym c.if-levels-eq0.true) none
-
-pub walk-walk_entries-requires : goal.walk-walk_entries-requires
-walk-walk_entries-requires g t c κs within =
-    let found : FindsInner (g.P.Pages.is_tied c.args.pages.now) (g.P.Pages.store c.args.pages.now).map c.args.number c.args.wanted.now.layout c.look.new.copy.bytes c.in-Some.count = search rules in
-    let fit : c.in-Some.count * entry_bytes c.args.wanted.now.layout ≤ 4080 =
-    records_fit c.look.new.copy.bytes kind.Inner c.args.number c.in-Some.count (entry_bytes c.args.wanted.now.layout) found.node.0 in
-    search rules
 
 pub walk-returns-clause-walks : goal.walk-returns-clause-walks
 walk-returns-clause-walks g t c =
-    let found : FindsInner (g.P.Pages.is_tied c.args.pages.now) (g.P.Pages.store c.args.pages.now).map c.args.number c.args.wanted.now.layout c.look.new.copy.bytes c.in-Some.count = search rules in
+    let found : FindsInner (g.P.Pages.is_tied c.args.pages.now) (g.P.Pages.store c.args.pages.now).map c.args.number c.args.wanted.now.layout c.args.wanted.now.low.now c.args.wanted.now.high.now (listed c.in-Some.entries) = search rules in
     let same : listed c.look.new.cells ≡ listed c.args.cells.now = search rules in
     λ tied test computes accepts.
-    let later = g.met.P.Pages.keeps_tied c.args.pages.now c.look.new.pages c.in_ok-count.ensures.rests.below tied in
+    let later = g.met.P.Pages.keeps_tied c.args.pages.now c.look.new.pages c.in_ok-entries.ensures.rests.below tied in
     on_ok c.walk_entries.result (c.walk_entries.ensures.walks later test computes accepts) (λ walks.
     walks_inner (λ bytes cells. g.S.Summary.says bytes (joined g.S.Summary.unit g.S.Summary.join g.S.Summary.of cells)) c.args.wanted.now.layout
-    (g.P.Pages.store c.args.pages.now).map c.args.number c.look.new.copy.bytes c.args.wanted.now.low.now c.args.wanted.now.high.now (λ cell. test (g.S.Summary.of cell))
+    (g.P.Pages.store c.args.pages.now).map c.args.number found.page c.args.wanted.now.low.now c.args.wanted.now.high.now (λ cell. test (g.S.Summary.of cell))
     (listed c.args.cells.now) (listed c.walk_entries.new.cells) c.args.left.now c.look.new.left c.walk_entries.new.left
-    c.in_ok-count.ensures.counted (found.there tied) c.in-Some.count (g.P.Pages.store c.look.new.pages).map
-    (c.in_ok-count.ensures.rests.rests.keeps.pages tied) found.node
-    (subst (λ before. WalksEntries (form_in g.S.Summary c.args.wanted.now.layout) (g.P.Pages.store c.look.new.pages).map c.look.new.copy.bytes c.in-Some.count
-    c.args.wanted.now.low.now c.args.wanted.now.high.now (λ cell. test (g.S.Summary.of cell)) before (listed c.walk_entries.new.cells) c.look.new.left c.walk_entries.new.left) same walks))
+    c.in_ok-entries.ensures.counted (found.there tied) found.inner.count (g.P.Pages.store c.look.new.pages).map
+    (c.in_ok-entries.ensures.rests.rests.keeps.pages tied) found.inner.node
+    (subst (λ before. WalksEntries (form_in g.S.Summary c.args.wanted.now.layout) (g.P.Pages.store c.look.new.pages).map found.page found.inner.count
+    c.args.wanted.now.low.now c.args.wanted.now.high.now (λ cell. test (g.S.Summary.of cell)) before (listed c.walk_entries.new.cells) c.look.new.left c.walk_entries.new.left) same (walks found.page found.inner.count found.inner.held)))
 
 pub walk-returns-clause-once : goal.walk-returns-clause-once
 walk-returns-clause-once g t c =
-    let found : FindsInner (g.P.Pages.is_tied c.args.pages.now) (g.P.Pages.store c.args.pages.now).map c.args.number c.args.wanted.now.layout c.look.new.copy.bytes c.in-Some.count = search rules in
+    let found : FindsInner (g.P.Pages.is_tied c.args.pages.now) (g.P.Pages.store c.args.pages.now).map c.args.number c.args.wanted.now.layout c.args.wanted.now.low.now c.args.wanted.now.high.now (listed c.in-Some.entries) = search rules in
     λ tied.
-    let later = g.met.P.Pages.keeps_tied c.args.pages.now c.look.new.pages c.in_ok-count.ensures.rests.below tied in
+    let later = g.met.P.Pages.keeps_tied c.args.pages.now c.look.new.pages c.in_ok-entries.ensures.rests.below tied in
     on_ok c.walk_entries.result (c.walk_entries.ensures.once later) (λ once.
     once_inner (λ bytes cells. g.S.Summary.says bytes (joined g.S.Summary.unit g.S.Summary.join g.S.Summary.of cells)) c.args.wanted.now.layout
-    (g.P.Pages.store c.args.pages.now).map c.args.number c.look.new.copy.bytes [] [] (λ _. true) [] [] c.args.left.now c.look.new.left c.walk_entries.new.left
-    c.in_ok-count.ensures.counted (found.there tied) c.in-Some.count (g.P.Pages.store c.look.new.pages).map
-    (c.in_ok-count.ensures.rests.rests.keeps.pages tied) found.node once)
+    (g.P.Pages.store c.args.pages.now).map c.args.number found.page [] [] (λ _. true) [] [] c.args.left.now c.look.new.left c.walk_entries.new.left
+    c.in_ok-entries.ensures.counted (found.there tied) found.inner.count (g.P.Pages.store c.look.new.pages).map
+    (c.in_ok-entries.ensures.rests.rests.keeps.pages tied) found.inner.node (once found.page found.inner.count found.inner.held))
 
 pub walk-returns-clause-damaged : goal.walk-returns-clause-damaged
 walk-returns-clause-damaged g t c = λ is tied.
-    let found : FindsInner (g.P.Pages.is_tied c.args.pages.now) (g.P.Pages.store c.args.pages.now).map c.args.number c.args.wanted.now.layout c.look.new.copy.bytes c.in-Some.count = search rules in
-    let later = g.met.P.Pages.keeps_tied c.args.pages.now c.look.new.pages c.in_ok-count.ensures.rests.below tied in
+    let found : FindsInner (g.P.Pages.is_tied c.args.pages.now) (g.P.Pages.store c.args.pages.now).map c.args.number c.args.wanted.now.layout c.args.wanted.now.low.now c.args.wanted.now.high.now (listed c.in-Some.entries) = search rules in
+    let later = g.met.P.Pages.keeps_tied c.args.pages.now c.look.new.pages c.in_ok-entries.ensures.rests.below tied in
     no_parts-no_part (λ bytes cells. g.S.Summary.says bytes (joined g.S.Summary.unit g.S.Summary.join g.S.Summary.of cells)) c.args.wanted.now.layout
-    (g.P.Pages.store c.args.pages.now).map c.args.number c.look.new.copy.bytes [] [] (λ _. true) [] [] c.args.left.now c.look.new.left 0
-    c.in_ok-count.ensures.counted (found.there tied) c.in-Some.count c.args.levels (g.P.Pages.store c.look.new.pages).map
-    (c.in_ok-count.ensures.rests.rests.keeps.pages tied) found.node (c.walk_entries.ensures.damaged is later)
+    (g.P.Pages.store c.args.pages.now).map c.args.number found.page [] [] (λ _. true) [] [] c.args.left.now c.look.new.left 0
+    c.in_ok-entries.ensures.counted (found.there tied) found.inner.count c.args.levels (g.P.Pages.store c.look.new.pages).map
+    (c.in_ok-entries.ensures.rests.rests.keeps.pages tied) found.inner.node (c.walk_entries.ensures.damaged is later found.page found.inner.count found.inner.held)
 
-pub walk_entries-record_at-entry-requires : goal.walk_entries-record_at-entry-requires
-walk_entries-record_at-entry-requires g t c =
-    let inside : c.entries_within-from.result.1 ≤ c.args.count =
-    omega (arith, c.entries_within-from.ensures.last.within, length-keys (least_from c.args.wanted.now.layout.summary) c.args.count (entry_bytes c.args.wanted.now.layout) c.content-bytes.result.now) in
-    let bound = times_upto (c.loop-index.index + 1) c.args.count (entry_bytes c.args.wanted.now.layout) (omega arith) in
-    let same : (c.loop-index.index + 1) * c.entry_width.result ≡ (c.loop-index.index + 1) * entry_bytes c.args.wanted.now.layout = ap (λ w. (c.loop-index.index + 1) * w) c.entry_width.ensures.width in
-    omega (arith, bound, same, c.requires.fit, c.content-bytes.ensures.size)
+pub walk_entries-walk_entry-requires : goal.walk_entries-walk_entry-requires
+walk_entries-walk_entry-requires g t c κs within =
+    let wide : length c.get-entry.result.now ≡ entry_bytes c.args.wanted.now.layout =
+    entry_wide c.args.entries.now c.loop-index.index c.get-entry.result.now c.get-entry.ensures ∙ c.requires.entries in
+    search rules
 
 pub walk_entries-returns-in_err-walk_entry-clause-damaged : goal.walk_entries-returns-in_err-walk_entry-clause-damaged
-walk_entries-returns-in_err-walk_entry-clause-damaged g t c = λ is tied.
-    let form : Form = form_in g.S.Summary c.args.wanted.now.layout in
+walk_entries-returns-in_err-walk_entry-clause-damaged g t c = λ is tied page count held.
     let p = err_from_is_err_and c.from_residual.result c.from_residual.ensures.1 in
     let why : c.in_err-walk_entry.field-0.0 ≡ refusal.DamagedFile = cc (p.1, p.2, is) in
-    let inside : c.entries_within-from.result.1 ≤ c.args.count =
-    omega (arith, c.entries_within-from.ensures.last.within, length-keys (least_from c.args.wanted.now.layout.summary) c.args.count (entry_bytes c.args.wanted.now.layout) c.content-bytes.result.now) in
-    let there = entry_there c.args.count c.entry_width.result (entry_bytes c.args.wanted.now.layout) c.content-bytes.result.now (content c.args.page.now.bytes) c.loop-index.index c.record_at-entry.result.now
-    c.entry_width.ensures.width c.content-bytes.ensures.bytes (c.record_at-entry.ensures.one c.args.count (omega arith)) in
     let later = g.met.P.Pages.keeps_tied c.args.pages.now c.loop-index.pages c.loop-index.invariant.rests.below tied in
-    no_entry-no_parts form (g.P.Pages.store c.args.pages.now).map c.args.page.now.bytes c.args.count c.args.levels c.entries_within-from.result.0 c.loop-index.index c.record_at-entry.result.now
-    (g.P.Pages.store c.loop-index.pages).map c.args.left.now c.loop-index.left c.loop-index.auto.index there (c.loop-index.invariant.rests.rests.keeps.pages tied)
-    (c.loop-index.invariant.once tied) (c.in_err-walk_entry.ensures.damaged (ap Err why) later)
+    held_no_entry (λ bytes cells. g.S.Summary.says bytes (joined g.S.Summary.unit g.S.Summary.join g.S.Summary.of cells)) c.args.wanted.now.layout (g.P.Pages.store c.args.pages.now).map c.args.wanted.now.low.now c.args.wanted.now.high.now (listed c.args.entries.now) page count held
+    c.args.levels c.loop-index.index c.get-entry.result.now (g.P.Pages.store c.loop-index.pages).map c.args.left.now c.loop-index.left c.get-entry.ensures
+    (c.loop-index.invariant.rests.rests.keeps.pages tied) (c.loop-index.invariant.once tied page count held) (c.in_err-walk_entry.ensures.damaged (ap Err why) later)
 
 pub walk_entries-loop-index-preserved : goal.walk_entries-loop-index-preserved
-walk_entries-loop-index-preserved g t c =
-    let form : Form = form_in g.S.Summary c.args.wanted.now.layout in
-    let inside : c.entries_within-from.result.1 ≤ c.args.count =
-    omega (arith, c.entries_within-from.ensures.last.within, length-keys (least_from c.args.wanted.now.layout.summary) c.args.count (entry_bytes c.args.wanted.now.layout) c.content-bytes.result.now) in
-    let there = entry_there c.args.count c.entry_width.result (entry_bytes c.args.wanted.now.layout) c.content-bytes.result.now (content c.args.page.now.bytes) c.loop-index.index c.record_at-entry.result.now
-    c.entry_width.ensures.width c.content-bytes.ensures.bytes (c.record_at-entry.ensures.one c.args.count (omega arith)) in
-    record {
-      rests = rests_then g.P.Pages.is_tied g.P.Pages.store g.P.Pages.keeps tt (Ok tt) c.args.pages.now c.loop-index.pages c.walk_entry.new.pages
-          g.met.P.Pages.keeps_trans g.met.P.Pages.keeps_tied c.loop-index.invariant.rests c.in_ok-walk_entry.ensures.rests;
-      width = c.in_ok-walk_entry.ensures.width;
-      ends = omega arith;
-      fewer = omega (arith, c.loop-index.invariant.fewer, c.in_ok-walk_entry.ensures.fewer);
-      walks = λ tied test computes accepts.
-          let later = g.met.P.Pages.keeps_tied c.args.pages.now c.loop-index.pages c.loop-index.invariant.rests.below tied in
-          walks_next form (g.P.Pages.store c.args.pages.now).map c.args.page.now.bytes c.args.count c.args.wanted.now.low.now c.args.wanted.now.high.now (λ cell. test (g.S.Summary.of cell))
-          c.entries_within-from.result.0 c.loop-index.index c.record_at-entry.result.now (g.P.Pages.store c.loop-index.pages).map
-          (listed c.args.cells.now) (listed c.loop-index.cells) (listed c.walk_entry.new.cells) c.args.left.now c.loop-index.left c.walk_entry.new.left
-          c.loop-index.auto.index there (c.loop-index.invariant.rests.rests.keeps.pages tied) (c.loop-index.invariant.walks tied test computes accepts)
-          (c.in_ok-walk_entry.ensures.walks later test computes accepts);
-      once = λ tied.
-          let later = g.met.P.Pages.keeps_tied c.args.pages.now c.loop-index.pages c.loop-index.invariant.rests.below tied in
-          reads_next form (g.P.Pages.store c.args.pages.now).map c.args.page.now.bytes c.args.count c.entries_within-from.result.0 c.loop-index.index c.record_at-entry.result.now
-          (g.P.Pages.store c.loop-index.pages).map c.args.left.now c.loop-index.left c.walk_entry.new.left
-          c.loop-index.auto.index there (c.loop-index.invariant.rests.rests.keeps.pages tied) (c.loop-index.invariant.once tied) (c.in_ok-walk_entry.ensures.once later);
-    }
+walk_entries-loop-index-preserved g t c = record {
+  rests = rests_then g.P.Pages.is_tied g.P.Pages.store g.P.Pages.keeps tt (Ok tt) c.args.pages.now c.loop-index.pages c.walk_entry.new.pages
+      g.met.P.Pages.keeps_trans g.met.P.Pages.keeps_tied c.loop-index.invariant.rests c.in_ok-walk_entry.ensures.rests;
+  width = c.in_ok-walk_entry.ensures.width;
+  ends = omega (arith, c.len-index-end.ensures);
+  fewer = omega (arith, c.loop-index.invariant.fewer, c.in_ok-walk_entry.ensures.fewer);
+  walks = λ tied test computes accepts page count held.
+      let later = g.met.P.Pages.keeps_tied c.args.pages.now c.loop-index.pages c.loop-index.invariant.rests.below tied in
+      held_walks_next (λ bytes cells. g.S.Summary.says bytes (joined g.S.Summary.unit g.S.Summary.join g.S.Summary.of cells)) c.args.wanted.now.layout (g.P.Pages.store c.args.pages.now).map c.args.wanted.now.low.now c.args.wanted.now.high.now (listed c.args.entries.now) page count held (λ cell. test (g.S.Summary.of cell))
+      c.loop-index.index c.get-entry.result.now (g.P.Pages.store c.loop-index.pages).map
+      (listed c.args.cells.now) (listed c.loop-index.cells) (listed c.walk_entry.new.cells) c.args.left.now c.loop-index.left c.walk_entry.new.left
+      c.get-entry.ensures (c.loop-index.invariant.rests.rests.keeps.pages tied) (c.loop-index.invariant.walks tied test computes accepts page count held)
+      (c.in_ok-walk_entry.ensures.walks later test computes accepts);
+  once = λ tied page count held.
+      let later = g.met.P.Pages.keeps_tied c.args.pages.now c.loop-index.pages c.loop-index.invariant.rests.below tied in
+      held_reads_next (λ bytes cells. g.S.Summary.says bytes (joined g.S.Summary.unit g.S.Summary.join g.S.Summary.of cells)) c.args.wanted.now.layout (g.P.Pages.store c.args.pages.now).map c.args.wanted.now.low.now c.args.wanted.now.high.now (listed c.args.entries.now) page count held
+      c.loop-index.index c.get-entry.result.now (g.P.Pages.store c.loop-index.pages).map c.args.left.now c.loop-index.left c.walk_entry.new.left
+      c.get-entry.ensures (c.loop-index.invariant.rests.rests.keeps.pages tied) (c.loop-index.invariant.once tied page count held) (c.in_ok-walk_entry.ensures.once later);
+}
 
 pub walk_entries-returns-clause-walks : goal.walk_entries-returns-clause-walks
-walk_entries-returns-clause-walks g t c = λ tied test computes accepts.
-    let form : Form = form_in g.S.Summary c.args.wanted.now.layout in
-    walks_all form (g.P.Pages.store c.args.pages.now).map c.args.page.now.bytes c.args.count c.args.wanted.now.low.now c.args.wanted.now.high.now (λ cell. test (g.S.Summary.of cell))
-    c.entries_within-from.result.0 c.entries_within-from.result.1 c.loop-index.index (listed c.args.cells.now) (listed c.loop-index.cells) c.args.left.now c.loop-index.left
-    c.content-bytes.result.now c.content-bytes.ensures.bytes c.entries_within-from.ensures c.loop-index.invariant.ends c.loop-index.auto.index (omega arith)
-    (c.loop-index.invariant.walks tied test computes accepts)
+walk_entries-returns-clause-walks g t c = λ tied test computes accepts page count held.
+    held_walks_all (λ bytes cells. g.S.Summary.says bytes (joined g.S.Summary.unit g.S.Summary.join g.S.Summary.of cells)) c.args.wanted.now.layout (g.P.Pages.store c.args.pages.now).map c.args.wanted.now.low.now c.args.wanted.now.high.now (listed c.args.entries.now) page count held (λ cell. test (g.S.Summary.of cell))
+    c.loop-index.index (listed c.args.cells.now) (listed c.loop-index.cells) c.args.left.now c.loop-index.left (omega (arith, c.len-index-end.ensures, c.loop-index.invariant.ends))
+    (c.loop-index.invariant.walks tied test computes accepts page count held)
 
 pub walk_entries-returns-clause-once : goal.walk_entries-returns-clause-once
-walk_entries-returns-clause-once g t c = λ tied.
-    let form : Form = form_in g.S.Summary c.args.wanted.now.layout in
-    reads_all form (g.P.Pages.store c.args.pages.now).map c.args.page.now.bytes c.args.count c.entries_within-from.result.0 (c.loop-index.index - c.entries_within-from.result.0)
-    c.args.left.now c.loop-index.left (c.loop-index.invariant.once tied)
+walk_entries-returns-clause-once g t c = λ tied page count held.
+    held_reads_all (λ bytes cells. g.S.Summary.says bytes (joined g.S.Summary.unit g.S.Summary.join g.S.Summary.of cells)) c.args.wanted.now.layout (g.P.Pages.store c.args.pages.now).map c.args.wanted.now.low.now c.args.wanted.now.high.now (listed c.args.entries.now) page count held
+    c.loop-index.index c.args.left.now c.loop-index.left (c.loop-index.invariant.once tied page count held)
 
 pub walk_entry-returns-then-not-accepts-clause-walks : goal.walk_entry-returns-then-not-accepts-clause-walks
 walk_entry-returns-then-not-accepts-clause-walks g t c = λ tied test computes accepts.
