@@ -177,7 +177,7 @@ def deep_lines():
 def view_lines():
     """As many views as there may be, of which each names the one before it: the deepest condition first, the operators last or among them."""
     yield "DROP VIEW g"
-    last_ones, among = range(VIEWS - OPERATORS + 1, VIEWS), range(4, VIEWS, 4)
+    last_ones, among = range(VIEWS - OPERATORS + 1, VIEWS), range(8, VIEWS, 4)
     for operators in (last_ones, among):
         yield "DEFINE VIEW v0 AS WHERE(p, %s)" % next(deepest_conditions())
         for view in range(1, VIEWS):
@@ -200,7 +200,8 @@ def outcome(words, lines, stack, file):
 def judge_stack(words, stack, is_over_file, commands):
     """A run in a small stack, beside one in a large one: what is told of it."""
     lines = [b"0 %s\n" % command.encode() for command in [*inventory(), *commands]]
-    files = [os.path.join(words.folder, "stack %d %d" % (size, stack)) if is_over_file else None for size in (stack, LARGE_STACK)]
+    place = tempfile.mkdtemp(dir=words.folder)
+    files = [os.path.join(place, str(size)) if is_over_file else None for size in (stack, LARGE_STACK)]
     wanted = outcome(words, lines, LARGE_STACK, files[1])
     if wanted[0] or len(replies_of(wanted[1])) != len(lines) or b" ERR " in wanted[1]:
         raise Wrong("with a large stack it ends with status %d, or refuses a line: %.300r" % (wanted[0], wanted[1][-300:]))
