@@ -1,2 +1,3 @@
 pub mod RecordLists
 pub mod Orders
+pub mod Shifts

@@ -5,6 +5,7 @@
 
 ghost use Rattle.std.specs.Prelude.{◌≡◌, ℕ, ◌+◌, ◌-◌, ◌*◌, ◌<◌, ◌≤◌, ◌++◌, Some, length, take, drop, slice_get};
 ghost use Rattle.std.specs.List.{copy_within};
+ghost use lib.Seq.{paste};
 ghost use Rattle.rs_records.specs.Records.{records, keys, IsPlace};
 
 use crate::order::is_below;
@@ -58,26 +59,63 @@ pub fn splice(bytes: &mut [u8], width: usize, count: usize, at: usize, removed: 
     bytes[start..start + added.len()].copy_from_slice(added);
 }
 
-/// How many bytes are shifted by way of a copy, at the most: those of a page.
-const SHIFTED_BYTES: usize = 4_096;
+/// How many bytes are shifted at once, at the most.
+const PIECE_BYTES: usize = 256;
 
-/// Copies the bytes from `start` up to `end` to those from `to` on. What is no longer than a page goes by way of a copy, as a whole
-/// and not byte by byte.
+/// Copies the bytes from `start` up to `end` to those from `to` on, piece by piece and not byte by byte.
 fn shift(bytes: &mut [u8], start: usize, end: usize, to: usize)
     requires part { start ≤ end }
     requires inside { end ≤ length bytes.old }
     requires room { to + (end - start) ≤ length bytes.old }
     ensures { bytes.new ≡ copy_within bytes.old start end to }
 {
-    let count = end - start;
-    if count > SHIFTED_BYTES {
-        bytes.copy_within(start..end, to);
-        return;
+    if to <= start {
+        shift_down(bytes, start, end - start, to);
+    } else {
+        shift_up(bytes, start, end - start, to);
     }
-    let mut copy = [0; SHIFTED_BYTES];
-    let part = &mut copy[..count];
-    part.copy_from_slice(&bytes[start..end]);
-    bytes[to..to + count].copy_from_slice(part);
+}
+
+/// Copies as many bytes from `start` on to those from `to` on, which is not after it: the first piece first.
+fn shift_down(bytes: &mut [u8], start: usize, count: usize, to: usize)
+    requires downward { to ≤ start }
+    requires inside { start + count ≤ length bytes.old }
+    ensures { bytes.new ≡ paste bytes.old to (drop start bytes.old) count }
+{
+    let mut copy = [0; PIECE_BYTES];
+    let mut done = 0;
+    while done < count {
+        let size = usize::min(PIECE_BYTES, count - done);
+        copy_piece(bytes, start + done, to + done, &mut copy[..size]);
+        done += size;
+    }
+}
+
+/// Copies as many bytes from `start` on to those from `to` on, which is not before it: the last piece first.
+fn shift_up(bytes: &mut [u8], start: usize, count: usize, to: usize)
+    requires upward { start ≤ to }
+    requires inside { to + count ≤ length bytes.old }
+    ensures { bytes.new ≡ paste bytes.old to (drop start bytes.old) count }
+{
+    let mut copy = [0; PIECE_BYTES];
+    let mut left = count;
+    while 0 < left {
+        let size = usize::min(PIECE_BYTES, left);
+        left -= size;
+        copy_piece(bytes, start + left, to + left, &mut copy[..size]);
+    }
+}
+
+/// Copies as many bytes as fit `copy` from `start` on to those from `to` on, by way of it.
+fn copy_piece(bytes: &mut [u8], start: usize, to: usize, copy: &mut [u8])
+    requires inside { start + length copy.old ≤ length bytes.old }
+    requires room { to + length copy.old ≤ length bytes.old }
+    ensures bytes { bytes.new ≡ paste bytes.old to (drop start bytes.old) (length copy.old) }
+    ensures size { length copy.new ≡ length copy.old }
+{
+    let count = copy.len();
+    copy.copy_from_slice(&bytes[start..start + count]);
+    bytes[to..to + count].copy_from_slice(copy);
 }
 
 /// Copies the records from `at` on to the beginning of other bytes.
