@@ -2,6 +2,8 @@
 //! operands first.
 //!
 //! It promises what the machine makes of the query in every state of these definitions and referents.
+//!
+//! What a node calls is not inlined: a query is as deep on the stack as its nodes, and each of them takes as little as it can.
 
 ghost use Rattle.std.specs.Prelude.{◌≡◌, ◌⊎◌, ℕ, List, [], ◌∷◌, ◌++◌, IfOk, IfErr, Ok, Err};
 ghost use Rattle.rs_facts.specs.Fact.{Names};
@@ -140,6 +142,7 @@ fn nodes(
 }
 
 // The same of an operand, its query on the heap.
+#[inline(never)]
 #[cycle(nodes)]
 fn boxed_nodes(
     alloc: Global,
@@ -157,6 +160,7 @@ fn boxed_nodes(
 }
 
 // An operator over one operand.
+#[inline(never)]
 fn apply_unary(
     alloc: Global,
     catalog: &Catalog,
@@ -181,6 +185,7 @@ fn apply_unary(
 }
 
 // An operator over two operands.
+#[inline(never)]
 fn apply_binary(
     operator: BinaryOperator,
     left: CheckedOperand,
@@ -200,6 +205,7 @@ fn apply_binary(
 }
 
 // The same of a name: of its view's query, where it is opened, or of the table.
+#[inline(never)]
 #[cycle(nodes)]
 fn name_nodes(
     alloc: Global,
@@ -220,6 +226,7 @@ fn name_nodes(
 }
 
 // The rows of a table.
+#[inline(never)]
 fn table(catalog: &Catalog, name: &Name) -> Result<Checked, Refusal>
     ensures ok { IfOk result (λ made. (on : ℕ → Names ℕ) → AreNodes catalog.now on (named name.now.bytes) made) }
     ensures numbers { IfOk result (λ made. AreNumberedIn catalog.now (named_in made.query)) }

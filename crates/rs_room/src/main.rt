@@ -2,9 +2,12 @@
 //!
 //! Its words are a file and the greatest number of pages that the file may have; the file is made where there is none. Without words
 //! it answers from a disk in memory. After each reply comes a line `# held C P garbage G`: how many changed and how many clean pages
-//! are held in memory, and how many records are dead and not cleared.
+//! are held in memory, and how many records are dead and not cleared. It answers nothing where a row and its bytes disagree.
 #![tactic(auto)]
 
+mod rows;
+
+use rows::rows_agree;
 use rs_disk::{Disk, FileDisk, MemoryDisk, OpenError};
 use rs_engine::Engine;
 use rs_pages::{GREATEST_LIMIT, LEAST_LIMIT};
@@ -24,6 +27,8 @@ enum Stop {
     Refused(Refusal),
     /// The input or the output failed, or memory for them.
     Stream,
+    /// A row and its bytes disagree.
+    Rows,
 }
 
 impl From<io::Error> for Stop {
@@ -54,12 +59,16 @@ fn tell<W: Write>(errors: &mut W, stop: &Stop) -> io::Result<()> {
         Stop::Words => writeln!(errors, "FILE PAGES"),
         Stop::Refused(refusal) => writeln!(errors, "ERR {}", refusal.number()),
         Stop::Stream => writeln!(errors, "stream"),
+        Stop::Rows => writeln!(errors, "rows"),
     }
 }
 
 /// Answers the lines of the input as the words ask.
 fn serve(rt: &HostRuntime) -> Result<(), Stop> {
     let alloc = rt.alloc();
+    if !rows_agree(alloc)? {
+        return Err(Stop::Rows);
+    }
     let words: Vec<String> = env::args(rt)?.collect(alloc)?;
     let mut input = BufReader::new(alloc, rt.stdin())?;
     let mut output = rt.stdout();
