@@ -1,5 +1,5 @@
--- A query by its topmost node, and the one for which a name stands.
-use Rattle.std.specs.Prelude.{ℕ, ◌<◌, map}
+-- A query by its topmost node, its views opened or not.
+use Rattle.std.specs.Prelude.{ℕ, map}
 use Rattle.rs_facts.specs.Fact.{Names}
 use Rattle.rs_machine.specs.Opening.{opened_times}
 use Rattle.rs_syntax.specs.QueryView.{condition_tree, window_tree, query_tree}
@@ -10,8 +10,6 @@ use Rattle.rs_checker.specs.declared.node.BinaryOperator.{BinaryOperator}
 use Rattle.rs_checker.specs.declared.node.BinaryOperator.TheVariants as binary
 use Rattle.rs_checker.specs.declared.node.Node.{Node}
 use Rattle.rs_checker.specs.declared.node.Node.TheVariants as nodes
-use Rattle.rs_checker.specs.declared.views.Opened.{Opened}
-use Rattle.rs_checker.specs.declared.views.Opened.TheVariants as stands_for
 
 abbrev pub unary_tree : UnaryOperator → QueryTree → QueryTree
 unary_tree (unary.Where condition) operand = filtered operand (condition_tree condition.now)
@@ -32,12 +30,8 @@ node_tree (nodes.Named name) = named name.now.bytes
 node_tree (nodes.Unary operator operand) = unary_tree operator (query_tree operand.now)
 node_tree (nodes.Binary operator left right) = binary_tree operator (query_tree left.now) (query_tree right.now)
 
--- what a name stands for, its views opened
-abbrev pub opened_tree : Names QueryTree → Opened → QueryTree
-opened_tree views (stands_for.Query query openings) = opened_times openings views (query_tree query.now)
-opened_tree views (stands_for.Name name) = named name.now.bytes
-
--- fewer openings are left of it
-abbrev pub HasFewer : ℕ → Opened → Type 0
-HasFewer openings (stands_for.Query query left) = left < openings
-HasFewer openings (stands_for.Name name) = Unit {0}
+-- a node over operands whose views are opened so many times; a name stays
+abbrev pub opened_tree : Names QueryTree → ℕ → Node → QueryTree
+opened_tree views openings (nodes.Named name) = named name.now.bytes
+opened_tree views openings (nodes.Unary operator operand) = unary_tree operator (opened_times openings views (query_tree operand.now))
+opened_tree views openings (nodes.Binary operator left right) = binary_tree operator (opened_times openings views (query_tree left.now)) (opened_times openings views (query_tree right.now))

@@ -2,8 +2,6 @@
 //! operands first.
 //!
 //! It promises what the machine makes of the query in every state of these definitions and referents.
-//!
-//! What a node calls is not inlined: a query is as deep on the stack as its nodes, and each of them takes as little as it can.
 
 ghost use Rattle.std.specs.Prelude.{◌≡◌, ◌⊎◌, ℕ, List, [], ◌∷◌, ◌++◌, IfOk, IfErr, Ok, Err};
 ghost use Rattle.rs_facts.specs.Fact.{Names};
@@ -27,7 +25,7 @@ use crate::node::{BinaryOperator, Node, UnaryOperator, top_node};
 use crate::operand::{CheckedOperand, boxed};
 use crate::operators::{cover, dissolve, filter, gaps, merge, minus, overlay, rename};
 use crate::size::fits_limits;
-use crate::views::{Opened, opened_name};
+use crate::views::opened_node;
 use crate::windows::window;
 use rs_catalog::{Catalog, RouteReferents};
 use rs_refusal::Refusal;
@@ -113,7 +111,7 @@ fn name_known(catalog: &Catalog, name: &Name) -> Result<(), Refusal>
     }
 }
 
-// The nodes of a query, its views opened so many times.
+// The nodes of a query, its views opened so many times. A query takes stack by its depth, however many views it goes through.
 #[cycle(nodes)]
 fn nodes(
     alloc: Global,
@@ -127,8 +125,9 @@ fn nodes(
     ensures refused { IfErr result (λ refusal. (refusal ≡ Refusal.OutOfMemory)
         ⊎ AreRefused catalog.now (referents_on referents.now) (opened_times openings (views_of catalog.now) (query_tree query.now)) refusal) }
 {
-    match top_node(query) {
-        Node::Named(name) => name_nodes(alloc, catalog, referents, name, openings),
+    let (node, openings) = opened_node(catalog, query, openings);
+    match node {
+        Node::Named(name) => table(catalog, name),
         Node::Unary(operator, query) => {
             let operand = boxed_nodes(alloc, catalog, referents, query, openings)?;
             apply_unary(alloc, catalog, referents, operator, operand)
@@ -142,7 +141,6 @@ fn nodes(
 }
 
 // The same of an operand, its query on the heap.
-#[inline(never)]
 #[cycle(nodes)]
 fn boxed_nodes(
     alloc: Global,
@@ -160,7 +158,6 @@ fn boxed_nodes(
 }
 
 // An operator over one operand.
-#[inline(never)]
 fn apply_unary(
     alloc: Global,
     catalog: &Catalog,
@@ -185,7 +182,6 @@ fn apply_unary(
 }
 
 // An operator over two operands.
-#[inline(never)]
 fn apply_binary(
     operator: BinaryOperator,
     left: CheckedOperand,
@@ -204,29 +200,7 @@ fn apply_binary(
     }
 }
 
-// The same of a name: of its view's query, where it is opened, or of the table.
-#[inline(never)]
-#[cycle(nodes)]
-fn name_nodes(
-    alloc: Global,
-    catalog: &Catalog,
-    referents: &RouteReferents,
-    name: &Name,
-    openings: usize,
-) -> Result<Checked, Refusal>
-    ensures ok { IfOk result (λ made. AreNodes catalog.now (referents_on referents.now) (opened_times openings (views_of catalog.now) (named name.now.bytes)) made) }
-    ensures numbers { IfOk result (λ made. AreNumberedIn catalog.now (named_in made.query)) }
-    ensures refused { IfErr result (λ refusal. (refusal ≡ Refusal.OutOfMemory)
-        ⊎ AreRefused catalog.now (referents_on referents.now) (opened_times openings (views_of catalog.now) (named name.now.bytes)) refusal) }
-{
-    match opened_name(catalog, name, openings) {
-        Opened::Query(query, left) => nodes(alloc, catalog, referents, query, left),
-        Opened::Name(last) => table(catalog, last),
-    }
-}
-
 // The rows of a table.
-#[inline(never)]
 fn table(catalog: &Catalog, name: &Name) -> Result<Checked, Refusal>
     ensures ok { IfOk result (λ made. (on : ℕ → Names ℕ) → AreNodes catalog.now on (named name.now.bytes) made) }
     ensures numbers { IfOk result (λ made. AreNumberedIn catalog.now (named_in made.query)) }

@@ -2,19 +2,18 @@
 //!
 //! Counting stops as soon as the query is too large, so views that name views cost no more than the limits.
 
-ghost use Rattle.std.specs.Prelude.{◌≡◌, ◌<◌};
-ghost use Rattle.rs_syntax.specs.Tree.{named};
+ghost use Rattle.std.specs.Prelude.{◌≡◌};
 ghost use Rattle.rs_syntax.specs.QueryView.{query_tree};
 ghost use Rattle.rs_machine.specs.Opening.{opened, opened_times};
 ghost use Rattle.rs_machine.specs.Checking.{fits_limits};
 ghost use Rattle.rs_catalog.specs.Definitions.{views_of};
 ghost use Rattle.rs_checker.specs.Sizes.{nodes_left, pair_left};
 
-use crate::node::{Node, top_node};
-use crate::views::{Opened, opened_name};
+use crate::node::Node;
+use crate::views::opened_node;
 use rs_catalog::Catalog;
 use rs_machine::limits::{DEPTH, NODES};
-use rs_syntax::{Name, Query};
+use rs_syntax::Query;
 
 /// Whether the query with its views opened has at most `NODES` nodes and is at most `DEPTH` deep.
 pub fn fits_limits(catalog: &Catalog, query: &Query) -> bool
@@ -38,8 +37,9 @@ fn nodes_left(
     if nodes == 0 || depth == 0 {
         return None;
     }
-    match top_node(query) {
-        Node::Named(name) => named_left(catalog, name, openings, nodes, depth),
+    let (node, openings) = opened_node(catalog, query, openings);
+    match node {
+        Node::Named(_) => Some(nodes - 1),
         Node::Unary(_, operand) => nodes_left(catalog, operand, openings, nodes - 1, depth - 1),
         Node::Binary(_, left, right) => pair_left(
             catalog,
@@ -49,25 +49,6 @@ fn nodes_left(
             nodes - 1,
             depth - 1,
         ),
-    }
-}
-
-// The same of a table's or a view's name.
-#[cycle(size)]
-fn named_left(
-    catalog: &Catalog,
-    name: &Name,
-    openings: usize,
-    nodes: usize,
-    depth: usize,
-) -> Option<usize>
-    requires nodes { 0 < nodes }
-    requires depth { 0 < depth }
-    ensures { result ≡ nodes_left nodes depth (opened_times openings (views_of catalog.now) (named name.now.bytes)) }
-{
-    match opened_name(catalog, name, openings) {
-        Opened::Query(query, left) => nodes_left(catalog, query, left, nodes, depth),
-        Opened::Name(_) => Some(nodes - 1),
     }
 }
 

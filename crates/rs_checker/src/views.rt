@@ -1,38 +1,32 @@
 //! Views: the query for which a name stands, where it is still to be opened.
 //!
-//! A view that is the name of a view alone is followed to the end of its chain here, where that takes little stack: it has no node.
+//! A view that is the name of a view alone has no node: its chain is followed to the end here, where that takes little stack.
 
-ghost use Rattle.std.specs.Prelude.{◌≡◌, ◌-◌, ◌<◌, IfSome, IfNone};
+ghost use Rattle.std.specs.Prelude.{◌≡◌, ◌-◌, ◌<◌, ◌≤◌, IfSome, IfNone};
 ghost use Rattle.rs_syntax.specs.QueryView.{query_tree};
 ghost use Rattle.rs_syntax.specs.Tree.{named};
 ghost use Rattle.rs_machine.specs.Opening.{opened_times};
 ghost use Rattle.rs_catalog.specs.Definitions.{views_of};
-ghost use Rattle.rs_checker.specs.NodeView.{opened_tree, HasFewer};
+ghost use Rattle.rs_checker.specs.NodeView.{opened_tree};
 
 use crate::node::{Node, top_node};
 use rs_catalog::Catalog;
 use rs_syntax::{Name, Query};
 
-/// What a name stands for once views are opened.
-#[derive(Clone, Copy)]
-pub enum Opened<'a> {
-    /// A query that is no name, where so many openings are left.
-    Query(&'a Query, usize),
-    /// A name that stays.
-    Name(&'a Name),
-}
-
-/// What the name stands for where so many openings are left.
-pub fn opened_name<'a>(catalog: &'a Catalog, name: &'a Name, openings: usize) -> Opened<'a>
-    ensures opened { opened_times openings (views_of catalog.now) (named name.now.bytes) ≡ opened_tree (views_of catalog.now) result }
-    ensures fewer { HasFewer openings result }
+/// The topmost node of the query where views are opened so many times, and how many openings are left below it. A name that stays is a node
+/// too.
+pub fn opened_node<'a>(catalog: &'a Catalog, query: &'a Query, openings: usize) -> (Node<'a>, usize)
+    ensures opened { opened_times openings (views_of catalog.now) (query_tree query.now) ≡ opened_tree (views_of catalog.now) result.1 result.0 }
+    ensures fewer { result.1 ≤ openings }
 {
-    match opened_query(catalog, name, openings) {
-        Some(query) => match top_node(query) {
-            Node::Named(next) => opened_name(catalog, next, openings - 1),
-            _ => Opened::Query(query, openings - 1),
+    let node = top_node(query);
+    match node {
+        Node::Named(name) => match opened_query(catalog, name, openings) {
+            Some(view) => opened_node(catalog, view, openings - 1),
+            None => (node, openings),
         },
-        None => Opened::Name(name),
+        Node::Unary(_, _) => (node, openings),
+        Node::Binary(_, _, _) => (node, openings),
     }
 }
 
