@@ -24,6 +24,19 @@ IsCutIntoLines-byte bytes lines rest byte cut other = record {
   partial = all-more ℕ (λ b. b ≢ LINE_FEED) rest byte cut.partial other;
 }
 
+-- what holds of each of the elements and of more
+all-both : (X : Type 0) (P : X → Type 0) (xs ys : List X) → AllByRecursion P xs → AllByRecursion P ys → AllByRecursion P (xs ++ ys)
+all-both X P [] ys each more = more
+all-both X P (x ∷ xs) ys each more = (each.0, all-both X P xs ys each.1 more)
+
+-- bytes of the line begun
+pub IsCutIntoLines-text : (bytes : List ℕ) (lines : List (List ℕ)) (rest text : List ℕ) → IsCutIntoLines bytes lines rest → IsOneLine text → IsCutIntoLines (bytes ++ text) lines (rest ++ text)
+IsCutIntoLines-text bytes lines rest text cut one = record {
+  whole = ap (λ l. l ++ text) cut.whole ∙ append_assoc (flat_map with_feed lines) rest text;
+  each = cut.each;
+  partial = all-both ℕ (λ b. b ≢ LINE_FEED) rest text cut.partial one;
+}
+
 -- the LF of the line begun
 pub IsCutIntoLines-feed : (bytes : List ℕ) (lines : List (List ℕ)) (rest : List ℕ) → IsCutIntoLines bytes lines rest → IsCutIntoLines (bytes ++ LINE_FEED ∷ []) (lines ++ rest ∷ []) []
 IsCutIntoLines-feed bytes lines rest cut = record {

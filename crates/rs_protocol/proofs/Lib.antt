@@ -2,6 +2,7 @@ mod Putting
 mod Texts
 mod Cuts
 mod Serving
+mod Pieces
 mod Answering
 mod Ending
 mod Asking

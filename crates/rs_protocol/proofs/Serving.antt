@@ -1,7 +1,7 @@
--- Lines served one after another, out of a stream that comes byte by byte.
-use Rattle.std.proofs.Common.{◌≡◌, ◌≢◌, ℕ, ◌<◌, ◌≤◌, inl, inr, true, List, [], ◌∷◌, ◌++◌, ◌+◌, length, take, drop, get_or, min, Option, Some, None, Result, Ok, Err, refl, sym, ap, ◌∙◌, subst, append_assoc, append-nil, arith, length-take, length-append}
+-- Lines served one after another, out of a stream that comes in pieces.
+use Rattle.std.proofs.Common.{◌≡◌, ℕ, zero, suc, ◌<◌, ◌≤◌, inl, inr, true, List, [], ◌∷◌, ◌++◌, length, take, Option, Some, None, Result, Ok, Err, refl, sym, ap, ◌∙◌, subst, append_assoc, append-nil, arith, length-take}
 use Rattle.std.specs.Prelude.{flat_map, nat_lt}
-use Rattle.std.proofs.lemmas.List.{take-append-le, take-append-drop, take_more}
+use Rattle.std.proofs.lemmas.List.{take-append-drop}
 use Rattle.std.proofs.lemmas.Bool.{cases_lt}
 use Rattle.std.proofs.Math.ListN.{drop_of_length-le}
 use Rattle.std.proofs.lemmas.Grind.{flat_map-append}
@@ -11,13 +11,13 @@ use Rattle.rs_machine.specs.Served.{Machine}
 use Rattle.rs_machine.specs.ReplyText.{reply_text}
 use Rattle.rs_machine.specs.Request.{Request, unreadable, no_command, command, Asks, line_refusal}
 use Rattle.rs_machine.specs.Answered.{Answer, AnswersLine, Answered, answers_text}
-use Rattle.rs_machine.specs.Stream.{IsCutIntoLines, LINE_FEED}
+use Rattle.rs_machine.specs.Stream.{IsCutIntoLines, IsOneLine, LINE_FEED}
 use Rattle.rs_protocol.specs.declared.lines.TheConstants.{KEPT_BYTES}
 use Rattle.rs_protocol.specs.declared.stream.Fault.{Fault}
 use Rattle.rs_protocol.specs.Ends.{StoppedWriting, WroteAll, WroteFront}
 use Rattle.rs_protocol.specs.Inner.{Puts, PutsBut, PutsAnswer, IsServed, GoesOn}
 use Rattle.rs_protocol.proofs.Putting.{PutsBut-nothing, PutsBut-all, PutsBut-done, PutsBut-join, PutsBut-then}
-use Rattle.rs_protocol.proofs.Cuts.{IsCutIntoLines-nothing, IsCutIntoLines-byte, IsCutIntoLines-feed, IsCutIntoLines-more, CutsOn}
+use Rattle.rs_protocol.proofs.Cuts.{IsCutIntoLines-nothing, IsCutIntoLines-text, IsCutIntoLines-feed, IsCutIntoLines-more, CutsOn}
 
 none_is_some : {A : Type 0} {x : A} → None ≡ Some x → ⊥
 none_is_some e = cc
@@ -25,7 +25,7 @@ none_is_some e = cc
 is_too_long : (line : List ℕ) → 4096 < length line → line_refusal line ≡ Some LineTooLong
 is_too_long line long = let test : nat_lt 4096 (length line) ≡ true = grind (arith, nat_tests) in rw test
 
-take-short : (n : ℕ) (xs : List ℕ) → length xs ≤ n → take n xs ≡ xs
+pub take-short : (n : ℕ) (xs : List ℕ) → length xs ≤ n → take n xs ≡ xs
 take-short n xs short =
     sym (append-nil (take n xs)) ∙ ap (λ l. take n xs ++ l) (sym (drop_of_length-le xs short)) ∙ take-append-drop n xs
 
@@ -72,19 +72,6 @@ answers_text-more answers given =
 line_answered : (kept line : List ℕ) (given : Answer) (old new : Machine) → kept ≡ take KEPT_BYTES line → AnswersLine old kept given new → AnswersLine old line given new
 line_answered kept line given old new kept_is answers = answers_kept line given old new (subst (λ l. AnswersLine old l given new) kept_is answers)
 
-kept_more : (kept line : List ℕ) (byte : ℕ) → length kept < 4097 → kept ≡ take KEPT_BYTES line → kept ++ byte ∷ [] ≡ take KEPT_BYTES (line ++ byte ∷ [])
-kept_more kept line byte room kept_is =
-    let lengths : length kept ≡ min KEPT_BYTES (length line) = ap length kept_is ∙ length-take KEPT_BYTES line in
-    let short : length line ≤ 4097 = omega arith in
-    let all : length (line ++ byte ∷ []) ≤ 4097 = omega (arith, length-append line (byte ∷ [])) in
-    ap (λ l. l ++ byte ∷ []) (kept_is ∙ take-short KEPT_BYTES line short) ∙ sym (take-short KEPT_BYTES (line ++ byte ∷ []) all)
-
-kept_same : (kept line : List ℕ) (byte : ℕ) → length kept ≡ 4097 → kept ≡ take KEPT_BYTES line → kept ≡ take KEPT_BYTES (line ++ byte ∷ [])
-kept_same kept line byte full kept_is =
-    let lengths : length kept ≡ min KEPT_BYTES (length line) = ap length kept_is ∙ length-take KEPT_BYTES line in
-    let enough : 4097 ≤ length line = omega arith in
-    kept_is ∙ sym (take-append-le KEPT_BYTES line (byte ∷ []) enough)
-
 -- nothing is told yet
 pub IsServed-nothing : (kept pending : List ℕ) (machine : Machine) (a : Option (List ℕ)) → kept ≡ [] → pending ≡ [] → IsServed kept pending [] machine machine a a
 IsServed-nothing kept pending machine a none no_reply = record {
@@ -97,30 +84,23 @@ IsServed-nothing kept pending machine a none no_reply = record {
   kept_is = none;
 }
 
--- a byte of the line begun is kept
-pub IsServed-kept : (kept kept' pending told : List ℕ) (byte : ℕ) (old new : Machine) (a b : Option (List ℕ)) → byte ≢ LINE_FEED → length kept < 4097 → kept' ≡ kept ++ byte ∷ []
-    → IsServed kept pending told old new a b → IsServed kept' pending (told ++ byte ∷ []) old new a b
-IsServed-kept kept kept' pending told byte old new a b other room kept_now served = record {
-  lines = served.lines;
-  rest = served.rest ++ byte ∷ [];
-  cut = IsCutIntoLines-byte told served.lines served.rest byte served.cut other;
-  answers = served.answers;
-  answered = served.answered;
-  put = served.put;
-  kept_is = kept_now ∙ kept_more kept served.rest byte room served.kept_is;
-}
+-- of bytes that are kept and more the first are those of all
+take_both : (n : ℕ) (xs ys : List ℕ) → take n (take n xs ++ ys) ≡ take n (xs ++ ys)
+take_both zero xs ys = refl
+take_both (suc n) [] ys = refl
+take_both (suc n) (x ∷ xs) ys = ap (λ l. x ∷ l) (take_both n xs ys)
 
--- a byte of the line begun is dropped, where enough of it is kept
-pub IsServed-dropped : (kept kept' pending told : List ℕ) (byte : ℕ) (old new : Machine) (a b : Option (List ℕ)) → byte ≢ LINE_FEED → length kept ≡ 4097 → kept' ≡ kept
-    → IsServed kept pending told old new a b → IsServed kept' pending (told ++ byte ∷ []) old new a b
-IsServed-dropped kept kept' pending told byte old new a b other full kept_now served = record {
+-- bytes of the line begun are kept, as many as there is room for
+pub IsServed-text : (kept kept' pending told text : List ℕ) (old new : Machine) (a b : Option (List ℕ)) → IsOneLine text → kept' ≡ take KEPT_BYTES (kept ++ text)
+    → IsServed kept pending told old new a b → IsServed kept' pending (told ++ text) old new a b
+IsServed-text kept kept' pending told text old new a b one kept_now served = record {
   lines = served.lines;
-  rest = served.rest ++ byte ∷ [];
-  cut = IsCutIntoLines-byte told served.lines served.rest byte served.cut other;
+  rest = served.rest ++ text;
+  cut = IsCutIntoLines-text told served.lines served.rest text served.cut one;
   answers = served.answers;
   answered = served.answered;
   put = served.put;
-  kept_is = kept_now ∙ kept_same kept served.rest byte full served.kept_is;
+  kept_is = kept_now ∙ ap (λ l. take KEPT_BYTES (l ++ text)) served.kept_is ∙ take_both KEPT_BYTES served.rest text;
 }
 
 -- the line begun ends, and is answered
@@ -227,16 +207,3 @@ at_feed T result kept kept' line pending now told byte old mid new a b c is_feed
     let P : ℕ → Type 0 = λ n. GoesOn result kept' now (told ++ n ∷ []) old new a c in
     subst P (sym is_feed)
     (GoesOn-feed T result kept kept' pending now told old mid new a b c emptied served (subst (λ l. PutsAnswer result l mid new pending now b c) line_is answer))
-
--- one byte more of a piece is told
-pub told_more : (told piece : List ℕ) (i : ℕ) → i < length piece → (told ++ take i piece) ++ get_or piece i 0 ∷ [] ≡ told ++ take (i + 1) piece
-told_more told piece i within = append_assoc told (take i piece) (get_or piece i 0 ∷ []) ∙ ap (λ l. told ++ l) (sym (take_more piece i 0 within))
-
--- a byte of a piece ends the service, and the rest of the piece comes after it
-pub stops_in_piece : (told piece : List ℕ) (i : ℕ) (old new : Machine) (a b : Option (List ℕ)) → i < length piece
-    → WroteFront ((told ++ take i piece) ++ get_or piece i 0 ∷ []) old new a b → WroteFront (told ++ piece) old new a b
-stops_in_piece told piece i old new a b within stop =
-    let all : (told ++ take (i + 1) piece) ++ drop (i + 1) piece ≡ told ++ piece =
-    append_assoc told (take (i + 1) piece) (drop (i + 1) piece) ∙ ap (λ l. told ++ l) (take-append-drop (i + 1) piece) in
-    subst (λ l. WroteFront l old new a b) all
-    (WroteFront-more (told ++ take (i + 1) piece) (drop (i + 1) piece) old new a b (subst (λ l. WroteFront l old new a b) (told_more told piece i within) stop))

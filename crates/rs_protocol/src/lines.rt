@@ -3,8 +3,9 @@
 //!
 //! Of a line that is too long only its first bytes are kept, one more than a line may have.
 
-ghost use Rattle.std.specs.Prelude.{◌≡◌, ℕ, List, Option, [], ◌∷◌, ◌++◌, OnOk};
+ghost use Rattle.std.specs.Prelude.{◌≡◌, ℕ, List, Option, [], ◌∷◌, ◌++◌, OnOk, take};
 ghost use Rattle.rs_machine.specs.Served.{Machine};
+ghost use Rattle.rs_machine.specs.Stream.{LINE_FEED};
 ghost use Rattle.rs_protocol.specs.Inner.{PutsAnswer, IsServed, GoesOn};
 
 use crate::put::{Pending, put_pending};
@@ -12,6 +13,7 @@ use crate::replies::{put_refusal, put_reply};
 use crate::requests::request_of;
 use crate::stream::Fault;
 use arrayvec::ArrayVec;
+use memchr::memchr;
 use rs_machine::limits::LINE_BYTES;
 use rs_parser::command_of;
 use rs_serve::Serve;
@@ -53,33 +55,38 @@ pub(crate) fn answer_line<E: Serve, W: Write>(
     }
 }
 
-/// Takes one byte of the stream: at an LF the line kept is answered.
-pub(crate) fn take_byte<E: Serve, W: Write>(
+/// Answers the line that is kept, whose LF has come.
+fn end_line<E: Serve, W: Write>(
     alloc: Global,
     engine: &mut E,
     kept: &mut Kept,
-    byte: u8,
     pending: &mut Pending,
     writer: &mut W,
 ) -> Result<(), Fault>
     ensures served { (told : List ℕ) (first old : Machine) (before : Option (List ℕ)) → E.is engine.old old →
         IsServed kept.old.items pending.old.items told first old before (W.contents writer.old) →
         (new : Machine) × E.is engine.new new
-        × GoesOn result kept.new.items pending.new.items (told ++ byte ∷ []) first new before (W.contents writer.new) }
+        × GoesOn result kept.new.items pending.new.items (told ++ LINE_FEED ∷ []) first new before (W.contents writer.new) }
     ensures becomes { E.becomes engine.old engine.new }
 {
-    if byte != LINE_FEED {
-        if !kept.is_full() {
-            kept.push(byte);
-        }
-        return Ok(());
-    }
     let answered = answer_line(alloc, engine, kept.as_slice(), pending, writer);
     kept.clear();
     answered
 }
 
-/// Takes the bytes of a piece, one after another.
+/// Keeps as many of these bytes as there is room for.
+fn keep(kept: &mut Kept, bytes: &[u8])
+    ensures { kept.new.items ≡ take KEPT_BYTES (kept.old.items ++ bytes.now) }
+{
+    let room = KEPT_BYTES - kept.len();
+    if bytes.len() <= room {
+        let _ = kept.try_extend_from_slice(bytes);
+    } else {
+        let _ = kept.try_extend_from_slice(&bytes[..room]);
+    }
+}
+
+/// Takes the bytes of a piece, up to each LF at once.
 pub(crate) fn take_piece<E: Serve, W: Write>(
     alloc: Global,
     engine: &mut E,
@@ -94,9 +101,13 @@ pub(crate) fn take_piece<E: Serve, W: Write>(
         × GoesOn result kept.new.items pending.new.items (told ++ piece.now) first new before (W.contents writer.new) }
     ensures becomes { E.becomes engine.old engine.new }
 {
-    for byte in piece {
-        take_byte(alloc, engine, kept, *byte, pending, writer)?;
+    let mut rest = piece;
+    while let Some(place) = memchr(LINE_FEED, rest) {
+        keep(kept, &rest[..place]);
+        end_line(alloc, engine, kept, pending, writer)?;
+        rest = &rest[place + 1..];
     }
+    keep(kept, rest);
     Ok(())
 }
 
