@@ -25,6 +25,7 @@ DEFINE = "DEFINE LINE TABLE pavement (surface TEXT(12), year INT)"
 POINTS = "DEFINE POINT TABLE crash (year INT)"
 RECORDS = 100_000
 LONGEST = 120  # seconds
+MARK = b"\xef\xbb\xbf"  # a byte order mark
 LETTERS = "abc XYZ'',\"é;"
 
 
@@ -185,19 +186,19 @@ HEADER = ["road", "beg_mp", "end_mp", "surface", "built"]
 WORDS = ["csv", DEFINE, "--route", "road", "--from", "beg_mp", "--to", "end_mp", "--column", "year=built"]
 
 
-def csv_of(records, ending, header=HEADER):
+def csv_of(records, ending, header=HEADER, separator=","):
     """A text of CSV."""
     text = io.StringIO()
-    writer = csv.writer(text, lineterminator=ending)
+    writer = csv.writer(text, lineterminator=ending, delimiter=separator)
     writer.writerow(header)
     writer.writerows(records)
     return text.getvalue().encode()
 
 
-def wanted_of(data, rounds=False):
+def wanted_of(data, rounds=False, separator=","):
     """What Python reads in the text: the lines of its records, and what is told."""
     lines, told, rounded = ["0 %s\n" % DEFINE], [], 0
-    records = csv.reader(io.StringIO(data.decode("utf-8-sig"), newline=""))
+    records = csv.reader(io.StringIO(data.decode("utf-8-sig"), newline=""), delimiter=separator)
     next(records)
     for number, fields in enumerate((fields for fields in records if fields), 1):
         line = line_of(fields, rounds=rounds)
@@ -211,14 +212,16 @@ def wanted_of(data, rounds=False):
 
 
 def check_random():
-    """Pseudo-random records, with both line ends and with a byte order mark, and with measures rounded."""
-    for count, ending, mark, seed, rounds in (
-        (RECORDS, "\n", b"", 1, False), (2_000, "\r\n", b"\xef\xbb\xbf", 2, False), (0, "\n", b"", 3, False), (20_000, "\n", b"", 7, True),
+    """Pseudo-random records, with both line ends and with a byte order mark, with measures rounded, and with other separators."""
+    for count, ending, mark, seed, words, separator in (
+        (RECORDS, "\n", b"", 1, [], ","), (2_000, "\r\n", MARK, 2, [], ","), (0, "\n", b"", 3, [], ","), (20_000, "\n", b"", 7, ["--round"], ","),
+        (2_000, "\r\n", MARK, 9, ["--separator", ";"], ";"), (2_000, "\n", b"", 10, ["--separator", "tab"], "\t"), (2_000, "\n", b"", 11, ["--separator", "a"], "a"),
     ):
         chance = random.Random(seed)
-        data = mark + csv_of([some_record(chance) for _ in range(count)], ending)
-        lines, told, rounded = wanted_of(data, rounds)
-        status, out, errors = run(*WORDS, *(["--round"] if rounds else []), data=data)
+        rounds = "--round" in words
+        data = mark + csv_of([some_record(chance) for _ in range(count)], ending, separator=separator)
+        lines, told, rounded = wanted_of(data, rounds, separator)
+        status, out, errors = run(*WORDS, *words, data=data)
         expect("what is told of %d records" % count, errors, told + rounded)
         expect("the lines of %d records" % count, out, lines)
         expect("the status over %d records" % count, status, 1 if told else 0)
@@ -304,7 +307,7 @@ def note_of(number, fields):
     for place, (name, wrong) in enumerate(zip(NOTE_COLUMNS, ("is not a name", "is not a position", ""))):
         if place >= len(fields):
             return "roadseg: record %d, %s: no such field\n" % (number, name)
-        if re.search(r"[\r\n]", fields[place]):
+        if re.search(r"[\r\n\t]", fields[place]):
             return "roadseg: record %d, %s: not text\n" % (number, name)
         if not re.fullmatch(("[A-Za-z][A-Za-z0-9_]*", "1", ".*")[place], fields[place]):
             return "roadseg: record %d, %s: %s\n" % (number, name, told_of(fields[place], wrong))
@@ -312,16 +315,18 @@ def note_of(number, fields):
 
 
 def check_quotes(rounds=3_000):
-    """Quotes, commas and ends of lines wherever they stand, read as Python reads them. An empty text is as good as NULL here."""
+    """Quotes, separators and ends of lines wherever they stand, read as Python reads them. An empty text is as good as NULL here."""
     chance = random.Random(5)
-    for _ in range(rounds):
-        tail = "".join(chance.choice('""",\n\rab') for _ in range(chance.randrange(12)))
-        text = "route,at,note\nSR1,1,%s%sSR1,1,b" % (tail, chance.choice(["\n", "\r\n", ""]))
-        records = list(csv.reader(io.StringIO(text, newline="")))[1:]
+    for number in range(rounds):
+        separator = ",;\t"[0 if number % 2 else chance.randrange(3)]
+        tail = "".join(chance.choice('""",;%s\n\rab' % separator) for _ in range(chance.randrange(12)))
+        text = "route,at,note\nSR1,1,".replace(",", separator) + tail + chance.choice(["\n", "\r\n", ""]) + "SR1,1,b".replace(",", separator)
+        records = list(csv.reader(io.StringIO(text, newline=""), delimiter=separator))[1:]
         made = [note_of(number, fields) for number, fields in enumerate((one for one in records if one), 1)]
         lines = "".join(one for one in made if one[0] == "0")
         told = "".join(one for one in made if one[0] == "r")
-        status, out, errors = run("csv", NOTES, "--no-define", data=text.encode())
+        words = [] if separator == "," else ["--separator", separator]
+        status, out, errors = run("csv", NOTES, "--no-define", *words, data=text.encode())
         got = (status, out.decode().replace("('')", "(NULL)"), errors.decode())
         expect(repr(text), got, (1 if told else 0, lines, told))
 
@@ -343,6 +348,19 @@ def check_words():
     expect("the status with --routes", got[0], 1)
     expect("the routes", got[1][: len(routes)], routes)
     expect("the route that is told", got[2], b"roadseg: SR3: no measure met on the route\n")
+
+
+def check_separators():
+    """Other bytes between fields, the word for a tab, and the texts that say none."""
+    data = b'route,at,note\nSR1,1,"a;b"\nSR1,2,d\n'
+    lines = b"0 INSERT INTO notes ON SR1 AT 1 VALUES ('a;b')\n0 INSERT INTO notes ON SR1 AT 2 VALUES ('d')\n"
+    for text, byte in ((",", b","), (";", b";"), ("tab", b"\t"), ("\t", b"\t"), ("|", b"|"), (" ", b" "), ("'", b"'"), ("x", b"x")):
+        expect("separator %r" % text, run("csv", NOTES, "--no-define", "--separator", text, data=data.replace(b",", byte)), (0, lines, b""))
+    line = b"0 INSERT INTO notes ON SR1 AT 1 VALUES ('a,b')\n"
+    expect("a comma then", run("csv", NOTES, "--no-define", "--separator", ";", data=b"route;at;note\nSR1;1;a,b\n"), (0, line, b""))
+    for text in ('"', "\n", "\r", "", ";;", "\u00e9", "comma", "TAB", "\ttab"):
+        told = b"error: the separator is no byte that parts fields, nor tab\n"
+        expect("separator %r" % text, run("csv", NOTES, "--separator", text, data=data), (2, b"", told))
 
 
 def check_loading():
@@ -528,6 +546,7 @@ def main():
         check_fields()
         check_quotes()
         check_words()
+        check_separators()
         check_loading()
         refusals = check_explained()
         check_watched()

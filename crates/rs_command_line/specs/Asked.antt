@@ -20,6 +20,7 @@ pub record CsvSaid : Type 0 where
   pub to : Option Text
   pub at : Option Text
   pub session : Option Text
+  pub separator : Option Text
   pub columns : List Text
   pub omits_definition : Bool
   pub defines_routes : Bool
@@ -78,6 +79,7 @@ asked_by_csv rows = Some (converts (record {
   to = first_of (codes "to") rows;
   at = first_of (codes "at") rows;
   session = first_of (codes "session") rows;
+  separator = first_of (codes "separator") rows;
   columns = unwrap_or (all_of (codes "column") rows) [];
   omits_definition = flag_in (codes "no-define") rows;
   defines_routes = flag_in (codes "routes") rows;
@@ -119,6 +121,7 @@ csv_said words = record {
   to = given_text words.to;
   at = given_text words.at;
   session = given_text words.session;
+  separator = given_text words.separator;
   columns = map (λ t. t.now) words.columns.items;
   omits_definition = words.omits_definition;
   defines_routes = words.defines_routes;

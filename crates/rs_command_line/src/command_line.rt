@@ -33,6 +33,8 @@ pub struct CsvWords<'a> {
     pub at: Option<&'a str>,
     /// `--session`.
     pub session: Option<&'a str>,
+    /// `--separator`.
+    pub separator: Option<&'a str>,
     /// Each `--column`.
     pub columns: Vec<&'a str>,
     /// Whether `--no-define` is given.
@@ -168,6 +170,7 @@ fn asked_of_csv<'a>(alloc: Global, given: &ArgMatches<'a>) -> Result<Asked<'a>, 
         to: given.get_str("to"),
         at: given.get_str("at"),
         session: given.get_str("session"),
+        separator: given.get_str("separator"),
         columns,
         omits_definition: has_flag(given, "no-define"),
         defines_routes: has_flag(given, "routes"),
@@ -316,6 +319,11 @@ fn csv_command<'a>(alloc: Global) -> Result<Command<'a>, AllocError>
             alloc,
             "round",
             "Take measures with more than three decimals to the nearest thousandth, of two the even one, and say of how many at the end",
+        ))?
+        .arg(text_option(
+            alloc,
+            "separator",
+            "The byte between two fields, as ';', or the word tab [default: ,]",
         ))
 }
 

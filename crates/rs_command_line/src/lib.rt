@@ -6,5 +6,7 @@
 
 pub mod command_line;
 pub mod laws;
+pub mod separator;
 
 pub use command_line::{Asked, CsvWords, read_words};
+pub use separator::separator_of;

@@ -14,78 +14,79 @@ use Rattle.rs_csv.specs.Cutting.{HasNoEnd, IsCut, IsRawRecord, after_all, kept, 
 
 -- ---- places
 
-pub after_all_append : (place : Place) (a b : List ℕ) → after_all place (a ++ b) ≡ after_all (after_all place a) b
-after_all_append place [] b = refl
-after_all_append place (byte ∷ a) b = after_all_append (after place byte) a b
-
-pub marked_append : (place : Place) (a b : List ℕ) → marked place (a ++ b) ≡ marked place a ++ marked (after_all place a) b
-marked_append place [] b = refl
-marked_append place (byte ∷ a) b = ap (λ bs. mark place byte ++ bs) (marked_append (after place byte) a b) ∙ sym (append_assoc (mark place byte) (marked (after place byte) a) (marked (after_all (after place byte) a) b))
-
--- the place after the end of a record is one where a record begins
-pub after_end : (place : Place) (byte : ℕ) → ends_record place byte ≡ true → after place byte ≡ places.Start
-after_end places.Start byte is = grind arith
-after_end places.Plain byte is = grind arith
-after_end places.Inside byte is = grind arith
-after_end places.Behind byte is = grind arith
-
--- ---- cuts
-
-pub no_end_more : (place : Place) (bytes : List ℕ) (byte : ℕ) → HasNoEnd place bytes → ends_record (after_all place bytes) byte ≡ false → HasNoEnd place (bytes ++ byte ∷ [])
-no_end_more place [] byte none ends = (ends, tt)
-no_end_more place (one ∷ bytes) byte none ends = (none.0, no_end_more (after place one) bytes byte none.1 ends)
-
-pub cut_none : IsCut [] [] []
-cut_none = record { whole = refl; each = All-nil IsRawRecord; begun = tt }
-
-pub cut_within : (input : List ℕ) (raws : List (List ℕ)) (rest : List ℕ) (byte : ℕ) → IsCut input raws rest → ends_record (after_all places.Start rest) byte ≡ false → IsCut (input ++ byte ∷ []) raws (rest ++ byte ∷ [])
-cut_within input raws rest byte cut ends = record {
-  whole = ap (λ bs. bs ++ byte ∷ []) cut.whole ∙ append_assoc (concat raws) rest (byte ∷ []);
-  each = cut.each;
-  begun = no_end_more places.Start rest byte cut.begun ends;
-}
-
 pub concat_more : (raws : List (List ℕ)) (raw : List ℕ) → concat (raws ++ raw ∷ []) ≡ concat raws ++ raw
 concat_more raws raw = concat-append raws (raw ∷ []) ∙ ap (λ bs. concat raws ++ bs) (append-nil raw)
 
-pub cut_ended : (input : List ℕ) (raws : List (List ℕ)) (rest : List ℕ) (byte : ℕ) → IsCut input raws rest → ends_record (after_all places.Start rest) byte ≡ true
-    → IsCut (input ++ byte ∷ []) (raws ++ (rest ++ byte ∷ []) ∷ []) []
-cut_ended input raws rest byte cut ends =
-    let raw : IsRawRecord (rest ++ byte ∷ []) = record { front = rest; last = byte; whole = refl; begun = cut.begun; ended = ends } in
-    record {
-      whole =
-          ap (λ bs. bs ++ byte ∷ []) cut.whole ∙ append_assoc (concat raws) rest (byte ∷ [])
-          ∙ sym (append-nil (concat (raws ++ (rest ++ byte ∷ []) ∷ [])) ∙ concat_more raws (rest ++ byte ∷ []));
-      each = All-append IsRawRecord raws ((rest ++ byte ∷ []) ∷ []) cut.each (All-cons IsRawRecord (rest ++ byte ∷ []) [] raw (All-nil IsRawRecord));
-      begun = tt;
-    }
+module _ (separator : ℕ) where
+  pub after_all_append : (place : Place) (a b : List ℕ) → after_all separator place (a ++ b) ≡ after_all separator (after_all separator place a) b
+  after_all_append place [] b = refl
+  after_all_append place (byte ∷ a) b = after_all_append (after separator place byte) a b
 
--- a cut that begins with these records
-pub record CutsOn (input : List ℕ) (raws : List (List ℕ)) : Type 0 where
-  pub more : List (List ℕ)
-  pub rest : List ℕ
-  pub cut : IsCut input (raws ++ more) rest
+  pub marked_append : (place : Place) (a b : List ℕ) → marked separator place (a ++ b) ≡ marked separator place a ++ marked separator (after_all separator place a) b
+  marked_append place [] b = refl
+  marked_append place (byte ∷ a) b = ap (λ bs. mark place byte ++ bs) (marked_append (after separator place byte) a b) ∙ sym (append_assoc (mark place byte) (marked separator (after separator place byte) a) (marked separator (after_all separator (after separator place byte) a) b))
 
-pub cuts_itself : (input : List ℕ) (raws : List (List ℕ)) (rest : List ℕ) → IsCut input raws rest → CutsOn input raws
-cuts_itself input raws rest cut = record { more = []; rest = rest; cut = subst (λ rs. IsCut input rs rest) (sym (append-nil raws)) cut }
+  -- the place after the end of a record is one where a record begins
+  pub after_end : (place : Place) (byte : ℕ) → ends_record place byte ≡ true → after separator place byte ≡ places.Start
+  after_end places.Start byte is = grind arith
+  after_end places.Plain byte is = grind arith
+  after_end places.Inside byte is = grind arith
+  after_end places.Behind byte is = grind arith
 
-cut_byte : (ends : Bool) (input : List ℕ) (raws : List (List ℕ)) (rest : List ℕ) (byte : ℕ) → ends_record (after_all places.Start rest) byte ≡ ends → IsCut input raws rest → CutsOn (input ++ byte ∷ []) raws
-cut_byte false input raws rest byte is cut = cuts_itself (input ++ byte ∷ []) raws (rest ++ byte ∷ []) (cut_within input raws rest byte cut is)
-cut_byte true input raws rest byte is cut = record { more = (rest ++ byte ∷ []) ∷ []; rest = []; cut = cut_ended input raws rest byte cut is }
+  -- ---- cuts
 
--- more bytes are cut after what was cut
-pub cut_more : (bytes input : List ℕ) (raws : List (List ℕ)) (rest : List ℕ) → IsCut input raws rest → CutsOn (input ++ bytes) raws
-cut_more [] input raws rest cut = cuts_itself (input ++ []) raws rest (subst (λ bs. IsCut bs raws rest) (sym (append-nil input)) cut)
-cut_more (byte ∷ bytes) input raws rest cut =
-    let one = cut_byte (ends_record (after_all places.Start rest) byte) input raws rest byte refl cut in
-    let on = cut_more bytes (input ++ byte ∷ []) (raws ++ one.more) one.rest one.cut in
-    record {
-      more = one.more ++ on.more;
-      rest = on.rest;
-      cut =
-          subst (λ bs. IsCut bs (raws ++ (one.more ++ on.more)) on.rest) (append_assoc input (byte ∷ []) bytes)
-          (subst (λ rs. IsCut ((input ++ byte ∷ []) ++ bytes) rs on.rest) (append_assoc raws one.more on.more) on.cut);
-    }
+  pub no_end_more : (place : Place) (bytes : List ℕ) (byte : ℕ) → HasNoEnd separator place bytes → ends_record (after_all separator place bytes) byte ≡ false → HasNoEnd separator place (bytes ++ byte ∷ [])
+  no_end_more place [] byte none ends = (ends, tt)
+  no_end_more place (one ∷ bytes) byte none ends = (none.0, no_end_more (after separator place one) bytes byte none.1 ends)
+
+  pub cut_none : IsCut separator [] [] []
+  cut_none = record { whole = refl; each = All-nil (IsRawRecord separator); begun = tt }
+
+  pub cut_within : (input : List ℕ) (raws : List (List ℕ)) (rest : List ℕ) (byte : ℕ) → IsCut separator input raws rest → ends_record (after_all separator places.Start rest) byte ≡ false → IsCut separator (input ++ byte ∷ []) raws (rest ++ byte ∷ [])
+  cut_within input raws rest byte cut ends = record {
+    whole = ap (λ bs. bs ++ byte ∷ []) cut.whole ∙ append_assoc (concat raws) rest (byte ∷ []);
+    each = cut.each;
+    begun = no_end_more places.Start rest byte cut.begun ends;
+  }
+
+  pub cut_ended : (input : List ℕ) (raws : List (List ℕ)) (rest : List ℕ) (byte : ℕ) → IsCut separator input raws rest → ends_record (after_all separator places.Start rest) byte ≡ true
+      → IsCut separator (input ++ byte ∷ []) (raws ++ (rest ++ byte ∷ []) ∷ []) []
+  cut_ended input raws rest byte cut ends =
+      let raw : IsRawRecord separator (rest ++ byte ∷ []) = record { front = rest; last = byte; whole = refl; begun = cut.begun; ended = ends } in
+      record {
+        whole =
+            ap (λ bs. bs ++ byte ∷ []) cut.whole ∙ append_assoc (concat raws) rest (byte ∷ [])
+            ∙ sym (append-nil (concat (raws ++ (rest ++ byte ∷ []) ∷ [])) ∙ concat_more raws (rest ++ byte ∷ []));
+        each = All-append (IsRawRecord separator) raws ((rest ++ byte ∷ []) ∷ []) cut.each (All-cons (IsRawRecord separator) (rest ++ byte ∷ []) [] raw (All-nil (IsRawRecord separator)));
+        begun = tt;
+      }
+
+  -- a cut that begins with these records
+  pub record CutsOn (input : List ℕ) (raws : List (List ℕ)) : Type 0 where
+    pub more : List (List ℕ)
+    pub rest : List ℕ
+    pub cut : IsCut separator input (raws ++ more) rest
+
+  pub cuts_itself : (input : List ℕ) (raws : List (List ℕ)) (rest : List ℕ) → IsCut separator input raws rest → CutsOn input raws
+  cuts_itself input raws rest cut = record { more = []; rest = rest; cut = subst (λ rs. IsCut separator input rs rest) (sym (append-nil raws)) cut }
+
+  cut_byte : (ends : Bool) (input : List ℕ) (raws : List (List ℕ)) (rest : List ℕ) (byte : ℕ) → ends_record (after_all separator places.Start rest) byte ≡ ends → IsCut separator input raws rest → CutsOn (input ++ byte ∷ []) raws
+  cut_byte false input raws rest byte is cut = cuts_itself (input ++ byte ∷ []) raws (rest ++ byte ∷ []) (cut_within input raws rest byte cut is)
+  cut_byte true input raws rest byte is cut = record { more = (rest ++ byte ∷ []) ∷ []; rest = []; cut = cut_ended input raws rest byte cut is }
+
+  -- more bytes are cut after what was cut
+  pub cut_more : (bytes input : List ℕ) (raws : List (List ℕ)) (rest : List ℕ) → IsCut separator input raws rest → CutsOn (input ++ bytes) raws
+  cut_more [] input raws rest cut = cuts_itself (input ++ []) raws rest (subst (λ bs. IsCut separator bs raws rest) (sym (append-nil input)) cut)
+  cut_more (byte ∷ bytes) input raws rest cut =
+      let one = cut_byte (ends_record (after_all separator places.Start rest) byte) input raws rest byte refl cut in
+      let on = cut_more bytes (input ++ byte ∷ []) (raws ++ one.more) one.rest one.cut in
+      record {
+        more = one.more ++ on.more;
+        rest = on.rest;
+        cut =
+            subst (λ bs. IsCut separator bs (raws ++ (one.more ++ on.more)) on.rest) (append_assoc input (byte ∷ []) bytes)
+            (subst (λ rs. IsCut separator ((input ++ byte ∷ []) ++ bytes) rs on.rest) (append_assoc raws one.more on.more) on.cut);
+      }
 
 -- ---- which are read
 

@@ -24,23 +24,23 @@ use Rattle.rs_csv.proofs.Taking.{front_more, taken_front, taken_none, taken_told
 
 -- ---- a byte
 
-module _ (batch : Batch) (whole begun : List ℕ) (byte : ℕ) where
+module _ (separator : ℕ) (batch : Batch) (whole begun : List ℕ) (byte : ℕ) where
   abbrev Ends : Bool → Type 0
-  Ends ends = ends_record (after_all places.Start begun) byte ≡ ends
+  Ends ends = ends_record (after_all separator places.Start begun) byte ≡ ends
 
-  pub within_of : Takes kinds.Within batch whole begun byte → Ends false × IsBatchOf batch whole (begun ++ byte ∷ [])
+  pub within_of : Takes separator kinds.Within batch whole begun byte → Ends false × IsBatchOf separator batch whole (begun ++ byte ∷ [])
   within_of (inl goes) = goes
   within_of (inr ends) = absurd ends.1
 
-  pub long_of : Takes kinds.TooLong batch whole begun byte → Ends false × ((batch.is_long ≡ true) × IsBatchOf batch whole (begun ++ byte ∷ []))
+  pub long_of : Takes separator kinds.TooLong batch whole begun byte → Ends false × ((batch.is_long ≡ true) × IsBatchOf separator batch whole (begun ++ byte ∷ []))
   long_of (inl goes) = goes
   long_of (inr ends) = absurd ends.1
 
-  pub ended_of : Takes kinds.Ended batch whole begun byte → Ends true × ((length (begun ++ byte ∷ []) ≤ RECORD_BYTES + 1) × IsBatchOf batch (whole ++ (begun ++ byte ∷ [])) [])
+  pub ended_of : Takes separator kinds.Ended batch whole begun byte → Ends true × ((length (begun ++ byte ∷ []) ≤ RECORD_BYTES + 1) × IsBatchOf separator batch (whole ++ (begun ++ byte ∷ [])) [])
   ended_of (inl goes) = absurd goes.1
   ended_of (inr ends) = ends
 
-  pub ended_long_of : Takes kinds.EndedLong batch whole begun byte → Ends true × ((RECORD_BYTES + 1 < length (begun ++ byte ∷ [])) × IsBatchOf batch whole [])
+  pub ended_long_of : Takes separator kinds.EndedLong batch whole begun byte → Ends true × ((RECORD_BYTES + 1 < length (begun ++ byte ∷ [])) × IsBatchOf separator batch whole [])
   ended_long_of (inl goes) = absurd goes.1
   ended_long_of (inr ends) = ends
 
@@ -62,7 +62,7 @@ piece_more input piece i d less =
 module _ (wanted : Wanted) (table : CommandTree) (before : Option (List ℕ)) where
   pub wrote_more : (input bytes : List ℕ) (after : Option (List ℕ)) → WroteSoFar wanted table input before after → WroteSoFar wanted table (input ++ bytes) before after
   wrote_more input bytes after wrote =
-      let on = cut_more bytes input wrote.raws wrote.rest wrote.cut in
+      let on = cut_more wanted.separator bytes input wrote.raws wrote.rest wrote.cut in
       record {
         raws = wrote.raws ++ on.more;
         rest = on.rest;
@@ -82,20 +82,20 @@ module _ (wanted : Wanted) (table : CommandTree) (before : Option (List ℕ)) wh
 
   -- ---- a byte of the input
 
-  pub far_grown : (old new : Batch) (progress : Progress) (input : List ℕ) (byte : ℕ) (after : Option (List ℕ)) (far : SoFar wanted table before old progress input after) → ends_record (after_all places.Start far.rest) byte ≡ false
-      → IsBatchOf new (concat (kept far.waiting)) (far.rest ++ byte ∷ []) → SoFar wanted table before new progress (input ++ byte ∷ []) after
+  pub far_grown : (old new : Batch) (progress : Progress) (input : List ℕ) (byte : ℕ) (after : Option (List ℕ)) (far : SoFar wanted table before old progress input after) → ends_record (after_all wanted.separator places.Start far.rest) byte ≡ false
+      → IsBatchOf wanted.separator new (concat (kept far.waiting)) (far.rest ++ byte ∷ []) → SoFar wanted table before new progress (input ++ byte ∷ []) after
   far_grown old new progress input byte after far ends is = record {
     past = far.past;
     waiting = far.waiting;
     rest = far.rest ++ byte ∷ [];
-    cut = cut_within input (far.past ++ far.waiting) far.rest byte far.cut ends;
+    cut = cut_within wanted.separator input (far.past ++ far.waiting) far.rest byte far.cut ends;
     in_batch = is;
     none_lacks = far.none_lacks;
     taken = far.taken;
   }
 
-  pub far_ended : (old new : Batch) (progress : Progress) (input : List ℕ) (byte : ℕ) (after : Option (List ℕ)) (far : SoFar wanted table before old progress input after) → ends_record (after_all places.Start far.rest) byte ≡ true
-      → length (far.rest ++ byte ∷ []) ≤ RECORD_BYTES + 1 → IsBatchOf new (concat (kept far.waiting) ++ (far.rest ++ byte ∷ [])) [] → SoFar wanted table before new progress (input ++ byte ∷ []) after
+  pub far_ended : (old new : Batch) (progress : Progress) (input : List ℕ) (byte : ℕ) (after : Option (List ℕ)) (far : SoFar wanted table before old progress input after) → ends_record (after_all wanted.separator places.Start far.rest) byte ≡ true
+      → length (far.rest ++ byte ∷ []) ≤ RECORD_BYTES + 1 → IsBatchOf wanted.separator new (concat (kept far.waiting) ++ (far.rest ++ byte ∷ [])) [] → SoFar wanted table before new progress (input ++ byte ∷ []) after
   far_ended old new progress input byte after far ends short is =
       let raw : List ℕ = far.rest ++ byte ∷ [] in
       let whole : (far.past ++ far.waiting) ++ raw ∷ [] ≡ far.past ++ (far.waiting ++ raw ∷ []) = append_assoc far.past far.waiting (raw ∷ []) in
@@ -103,14 +103,14 @@ module _ (wanted : Wanted) (table : CommandTree) (before : Option (List ℕ)) wh
         past = far.past;
         waiting = far.waiting ++ raw ∷ [];
         rest = [];
-        cut = subst (λ raws. IsCut (input ++ byte ∷ []) raws []) whole (cut_ended input (far.past ++ far.waiting) far.rest byte far.cut ends);
-        in_batch = subst (λ bytes. IsBatchOf new bytes []) (sym (ap concat (kept_short far.waiting raw short) ∙ concat_more (kept far.waiting) raw)) is;
+        cut = subst (λ raws. IsCut wanted.separator (input ++ byte ∷ []) raws []) whole (cut_ended wanted.separator input (far.past ++ far.waiting) far.rest byte far.cut ends);
+        in_batch = subst (λ bytes. IsBatchOf wanted.separator new bytes []) (sym (ap concat (kept_short far.waiting raw short) ∙ concat_more (kept far.waiting) raw)) is;
         none_lacks = λ off. ap kept (sym whole) ∙ kept_short (far.past ++ far.waiting) raw short ∙ ap (λ raws. raws ++ raw ∷ []) (far.none_lacks off) ∙ whole;
         taken = far.taken;
       }
 
   pub far_ended_long : (old new : Batch) (progress progress_now : Progress) (input : List ℕ) (byte : ℕ) (after : Option (List ℕ)) (far : SoFar wanted table before old progress input after)
-      → ends_record (after_all places.Start far.rest) byte ≡ true → RECORD_BYTES + 1 < length (far.rest ++ byte ∷ []) → IsBatchOf new (concat (kept far.waiting)) [] → progress_now.made.has_told ≡ true
+      → ends_record (after_all wanted.separator places.Start far.rest) byte ≡ true → RECORD_BYTES + 1 < length (far.rest ++ byte ∷ []) → IsBatchOf wanted.separator new (concat (kept far.waiting)) [] → progress_now.made.has_told ≡ true
       → AreTaken wanted table before progress_now (kept far.past) after → SoFar wanted table before new progress_now (input ++ byte ∷ []) after
   far_ended_long old new progress progress_now input byte after far ends long is told taken =
       let raw : List ℕ = far.rest ++ byte ∷ [] in
@@ -118,23 +118,23 @@ module _ (wanted : Wanted) (table : CommandTree) (before : Option (List ℕ)) wh
         past = far.past;
         waiting = far.waiting ++ raw ∷ [];
         rest = [];
-        cut = subst (λ raws. IsCut (input ++ byte ∷ []) raws []) (append_assoc far.past far.waiting (raw ∷ [])) (cut_ended input (far.past ++ far.waiting) far.rest byte far.cut ends);
-        in_batch = subst (λ bytes. IsBatchOf new bytes []) (sym (ap concat (kept_long far.waiting raw long))) is;
+        cut = subst (λ raws. IsCut wanted.separator (input ++ byte ∷ []) raws []) (append_assoc far.past far.waiting (raw ∷ [])) (cut_ended wanted.separator input (far.past ++ far.waiting) far.rest byte far.cut ends);
+        in_batch = subst (λ bytes. IsBatchOf wanted.separator new bytes []) (sym (ap concat (kept_long far.waiting raw long))) is;
         none_lacks = λ off. absurd (false≢true (sym off ∙ told));
         taken = taken;
       }
 
-  pub far_left_out : {T E : Type 0} (result : Result T E) (old new : Batch) (progress progress_now : Progress) (input : List ℕ) (byte : ℕ) (after : Option (List ℕ)) → ((whole begun : List ℕ) → IsBatchOf old whole begun → Takes kinds.EndedLong new whole begun byte) → progress_now.planned ≡ progress.planned → progress_now.made.bytes.items ≡ progress.made.bytes.items
+  pub far_left_out : {T E : Type 0} (result : Result T E) (old new : Batch) (progress progress_now : Progress) (input : List ℕ) (byte : ℕ) (after : Option (List ℕ)) → ((whole begun : List ℕ) → IsBatchOf wanted.separator old whole begun → Takes wanted.separator kinds.EndedLong new whole begun byte) → progress_now.planned ≡ progress.planned → progress_now.made.bytes.items ≡ progress.made.bytes.items
       → progress_now.made.has_told ≡ true → progress_now.held ≡ progress.held → SoFar wanted table before old progress input after
       → MatchResult result (λ _. SoFar wanted table before new progress_now (input ++ byte ∷ []) after) (λ _. WroteSoFar wanted table (input ++ byte ∷ []) before after)
   far_left_out (Ok _) old new progress progress_now input byte after takes planned bytes told held far =
-      let ends = ended_long_of new (concat (kept far.waiting)) far.rest byte (takes (concat (kept far.waiting)) far.rest far.in_batch) in
+      let ends = ended_long_of wanted.separator new (concat (kept far.waiting)) far.rest byte (takes (concat (kept far.waiting)) far.rest far.in_batch) in
       far_ended_long old new progress progress_now input byte after far ends.0 ends.1.0 ends.1.1 told (taken_told wanted table progress progress_now (kept far.past) before after planned bytes told held far.taken)
   far_left_out (Err _) old new progress progress_now input byte after takes planned bytes told held far = far_stops old progress input (byte ∷ []) after far
 
   -- the records of a batch are taken
   pub far_passes : {T E : Type 0} (result : Result T E) (old new : Batch) (progress progress_now : Progress) (input : List ℕ) (after later a b : Option (List ℕ)) (far : SoFar wanted table before old progress input after)
-      → OnOk result (IsBatchOf new [] far.rest) → OnOk result (IsQuiet progress.made.has_told progress_now.made.has_told a b)
+      → OnOk result (IsBatchOf wanted.separator new [] far.rest) → OnOk result (IsQuiet progress.made.has_told progress_now.made.has_told a b)
       → MatchResult result (λ _. AreTaken wanted table before progress_now (kept far.past ++ kept far.waiting) later) (λ _. WroteFront wanted table (kept far.past ++ kept far.waiting) before later)
       → MatchResult result (λ _. SoFar wanted table before new progress_now input later) (λ _. WroteSoFar wanted table input before later)
   far_passes (Ok _) old new progress progress_now input after later a b far is quiet takes =
@@ -143,7 +143,7 @@ module _ (wanted : Wanted) (table : CommandTree) (before : Option (List ℕ)) wh
         past = far.past ++ far.waiting;
         waiting = [];
         rest = far.rest;
-        cut = subst (λ raws. IsCut input raws far.rest) (sym all) far.cut;
+        cut = subst (λ raws. IsCut wanted.separator input raws far.rest) (sym all) far.cut;
         in_batch = is;
         none_lacks = λ off. ap kept all ∙ far.none_lacks (stays_quiet progress.made.has_told progress_now.made.has_told a b quiet off) ∙ sym all;
         taken = subst (λ raws. AreTaken wanted table before progress_now raws later) (sym (kept_append far.past far.waiting)) takes;
@@ -157,28 +157,28 @@ module _ (wanted : Wanted) (table : CommandTree) (before : Option (List ℕ)) wh
 
   -- a record ended, and those of the batch are taken
   pub far_fills : {T E : Type 0} (result : Result T E) (old mid new : Batch) (progress progress_now : Progress) (input : List ℕ) (byte : ℕ) (after later a b : Option (List ℕ))
-      → ((whole begun : List ℕ) → IsBatchOf old whole begun → Takes kinds.Ended mid whole begun byte) → ((whole begun : List ℕ) → IsBatchOf mid whole begun → IsBetween mid begun → OnOk result (IsBatchOf new [] begun))
+      → ((whole begun : List ℕ) → IsBatchOf wanted.separator old whole begun → Takes wanted.separator kinds.Ended mid whole begun byte) → ((whole begun : List ℕ) → IsBatchOf wanted.separator mid whole begun → IsBetween mid begun → OnOk result (IsBatchOf wanted.separator new [] begun))
       → OnOk result (IsQuiet progress.made.has_told progress_now.made.has_told a b)
-      → ((more : List (List ℕ)) (begun : List ℕ) → IsBatchOf mid (concat more) begun → IsBetween mid begun → TakesMore wanted table result more progress progress_now after later)
+      → ((more : List (List ℕ)) (begun : List ℕ) → IsBatchOf wanted.separator mid (concat more) begun → IsBetween mid begun → TakesMore wanted table result more progress progress_now after later)
       → SoFar wanted table before old progress input after
       → MatchResult result (λ _. SoFar wanted table before new progress_now (input ++ byte ∷ []) later) (λ _. WroteSoFar wanted table (input ++ byte ∷ []) before later)
   unfolding far_ended
   far_fills result old mid new progress progress_now input byte after later a b takes clears quiet passes far =
-      let ends = ended_of mid (concat (kept far.waiting)) far.rest byte (takes (concat (kept far.waiting)) far.rest far.in_batch) in
+      let ends = ended_of wanted.separator mid (concat (kept far.waiting)) far.rest byte (takes (concat (kept far.waiting)) far.rest far.in_batch) in
       let now = far_ended old mid progress input byte after far ends.0 ends.1.0 ends.1.1 in
       far_passes result mid new progress progress_now (input ++ byte ∷ []) after later a b now (clears (concat (kept now.waiting)) [] now.in_batch (inl refl)) quiet
       (passes (kept now.waiting) [] now.in_batch (inl refl) before (kept now.past) now.taken)
 
   -- a record became too long, and those of the batch are taken
   pub far_overflows : {T E : Type 0} (result : Result T E) (old mid new : Batch) (progress progress_now : Progress) (input : List ℕ) (byte : ℕ) (after later a b : Option (List ℕ))
-      → ((whole begun : List ℕ) → IsBatchOf old whole begun → Takes kinds.TooLong mid whole begun byte) → ((whole begun : List ℕ) → IsBatchOf mid whole begun → IsBetween mid begun → OnOk result (IsBatchOf new [] begun))
+      → ((whole begun : List ℕ) → IsBatchOf wanted.separator old whole begun → Takes wanted.separator kinds.TooLong mid whole begun byte) → ((whole begun : List ℕ) → IsBatchOf wanted.separator mid whole begun → IsBetween mid begun → OnOk result (IsBatchOf wanted.separator new [] begun))
       → OnOk result (IsQuiet progress.made.has_told progress_now.made.has_told a b)
-      → ((more : List (List ℕ)) (begun : List ℕ) → IsBatchOf mid (concat more) begun → IsBetween mid begun → TakesMore wanted table result more progress progress_now after later)
+      → ((more : List (List ℕ)) (begun : List ℕ) → IsBatchOf wanted.separator mid (concat more) begun → IsBetween mid begun → TakesMore wanted table result more progress progress_now after later)
       → SoFar wanted table before old progress input after
       → MatchResult result (λ _. SoFar wanted table before new progress_now (input ++ byte ∷ []) later) (λ _. WroteSoFar wanted table (input ++ byte ∷ []) before later)
   unfolding far_grown
   far_overflows result old mid new progress progress_now input byte after later a b takes clears quiet passes far =
-      let goes = long_of mid (concat (kept far.waiting)) far.rest byte (takes (concat (kept far.waiting)) far.rest far.in_batch) in
+      let goes = long_of wanted.separator mid (concat (kept far.waiting)) far.rest byte (takes (concat (kept far.waiting)) far.rest far.in_batch) in
       let now = far_grown old mid progress input byte after far goes.0 goes.1.1 in
       far_passes result mid new progress progress_now (input ++ byte ∷ []) after later a b now (clears (concat (kept far.waiting)) (far.rest ++ byte ∷ []) goes.1.1 (inr goes.1.0)) quiet
       (passes (kept far.waiting) (far.rest ++ byte ∷ []) goes.1.1 (inr goes.1.0) before (kept far.past) far.taken)
@@ -260,13 +260,13 @@ module _ (wanted : Wanted) (table : CommandTree) (before : Option (List ℕ)) wh
   took_last (Err _) progress input remaining after at_end wrote = wrote_last input remaining after at_end wrote
 
 -- nothing was read or made
-pub far_start : (wanted : Wanted) (table : CommandTree) (batch : Batch) (progress : Progress) (output : Option (List ℕ)) → IsBatchOf batch [] [] → progress.planned ≡ None → progress.made.bytes.items ≡ [] → progress.held.items ≡ []
+pub far_start : (wanted : Wanted) (table : CommandTree) (batch : Batch) (progress : Progress) (output : Option (List ℕ)) → IsBatchOf wanted.separator batch [] [] → progress.planned ≡ None → progress.made.bytes.items ≡ [] → progress.held.items ≡ []
     → SoFar wanted table output batch progress [] output
 far_start wanted table batch progress output is none no_line no_text = record {
   past = [];
   waiting = [];
   rest = [];
-  cut = cut_none;
+  cut = cut_none wanted.separator;
   in_batch = is;
   none_lacks = λ _. refl;
   taken = taken_none wanted table progress output none no_line no_text;
@@ -278,7 +278,7 @@ module _ (wanted : Wanted) (table : CommandTree) where
   -- nothing was read
   pub wrote_none : (remaining output : Option (List ℕ)) → Wrote wanted table (strip_bom []) remaining output output
   unfolding strip_bom
-  wrote_none remaining output = record { raws = []; rest = []; cut = cut_none; wrote = inl (wrote_nothing wanted table [] output output (Appends-nil output)) }
+  wrote_none remaining output = record { raws = []; rest = []; cut = cut_none wanted.separator; wrote = inl (wrote_nothing wanted table [] output output (Appends-nil output)) }
 
   -- all was read, and what waited is written
   pub ends_whole : (result : Result Bool Stop) (progress : Progress) (input : List ℕ) (remaining before output later : Option (List ℕ)) → IsAtEnd remaining → TookAll wanted table before progress input output

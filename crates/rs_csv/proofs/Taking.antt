@@ -18,10 +18,10 @@ use Rattle.rs_csv.proofs.Outputs.{lines_join, made_sent, made_told, output_of, o
 
 -- ---- texts
 
-pub texts_more : (texts raws : List (List ℕ)) (text : List ℕ) (batch : List (List ℕ)) → AreTexts texts raws → text ≡ text_of batch → AreTexts (texts ++ text ∷ []) (raws ++ batch)
-texts_more [] raws text batch are is = (batch, [], ap (λ rs. rs ++ batch) are ∙ sym (append-nil batch), is, refl)
-texts_more (one ∷ texts) raws text batch (first, others, whole, one_is, more) is =
-    (first, others ++ batch, ap (λ rs. rs ++ batch) whole ∙ append_assoc first others batch, one_is, texts_more texts others text batch more is)
+pub texts_more : (separator : ℕ) (texts raws : List (List ℕ)) (text : List ℕ) (batch : List (List ℕ)) → AreTexts separator texts raws → text ≡ text_of separator batch → AreTexts separator (texts ++ text ∷ []) (raws ++ batch)
+texts_more separator [] raws text batch are is = (batch, [], ap (λ rs. rs ++ batch) are ∙ sym (append-nil batch), is, refl)
+texts_more separator (one ∷ texts) raws text batch (first, others, whole, one_is, more) is =
+    (first, others ++ batch, ap (λ rs. rs ++ batch) whole ∙ append_assoc first others batch, one_is, texts_more separator texts others text batch more is)
 
 pub text_at : {X : Type 0} (text_in : X → List ℕ) (list : List X) (i : ℕ) (d : X) → i < length list → drop i (map text_in list) ≡ text_in (get_or list i d) ∷ drop (i + 1) (map text_in list)
 text_at text_in list i d less =
@@ -87,7 +87,7 @@ module _ (wanted : Wanted) (table : CommandTree) where
   }
 
   -- the lines of a batch
-  sent_batch : (old mid new : Progress) (raws batch : List (List ℕ)) (more : List (List (List ℕ))) (before after later : Option (List ℕ)) → ReadsAll (text_of batch) more → Makes wanted table more old mid → new.planned ≡ mid.planned
+  sent_batch : (old mid new : Progress) (raws batch : List (List ℕ)) (more : List (List (List ℕ))) (before after later : Option (List ℕ)) → ReadsAll wanted.separator (text_of wanted.separator batch) more → Makes wanted table more old mid → new.planned ≡ mid.planned
       → new.made.has_told ≡ mid.made.has_told → new.made.bytes.items ≡ [] → Appends after later mid.made.bytes.items → IsSent wanted table before old raws after → IsSent wanted table before new (raws ++ batch) later
   sent_batch old mid new raws batch more before after later reads makes planned told none puts sent = record {
     records = sent.records ++ more;
@@ -102,7 +102,7 @@ module _ (wanted : Wanted) (table : CommandTree) where
     none_waits = none;
   }
 
-  lost_batch : (old mid : Progress) (raws batch : List (List ℕ)) (more : List (List (List ℕ))) (lost : List ℕ) (before after later : Option (List ℕ)) → ReadsAll (text_of batch) more → Makes wanted table more old mid
+  lost_batch : (old mid : Progress) (raws batch : List (List ℕ)) (more : List (List (List ℕ))) (lost : List ℕ) (before after later : Option (List ℕ)) → ReadsAll wanted.separator (text_of wanted.separator batch) more → Makes wanted table more old mid
       → PutsBut mid.made.bytes.items lost after later → IsSent wanted table before old raws after → WroteFront wanted table (raws ++ batch) before later
   lost_batch old mid raws batch more lost before after later reads makes puts sent = record {
     first = raws ++ batch;
@@ -118,23 +118,23 @@ module _ (wanted : Wanted) (table : CommandTree) where
         (output_of wanted table mid.made.has_told mid.planned (sent.records ++ more) sent.sent mid.made.bytes.items (makes sent.records sent.sent sent.made));
   }
 
-  pub sends : {T E : Type 0} (result : Result T E) (old mid new : Progress) (text : List ℕ) (batch : List (List ℕ)) (more : List (List (List ℕ))) (after later : Option (List ℕ)) → ReadsAll text more → text ≡ text_of batch
+  pub sends : {T E : Type 0} (result : Result T E) (old mid new : Progress) (text : List ℕ) (batch : List (List ℕ)) (more : List (List (List ℕ))) (after later : Option (List ℕ)) → ReadsAll wanted.separator text more → text ≡ text_of wanted.separator batch
       → Makes wanted table more old mid → new.planned ≡ mid.planned → new.made.has_told ≡ mid.made.has_told → OnOk result ((new.made.bytes.items ≡ []) × Appends after later mid.made.bytes.items)
       → OnErr result ((lost : List ℕ) × PutsBut mid.made.bytes.items lost after later) → SendsMore wanted table result batch old new after later
   sends (Ok _) old mid new text batch more after later reads is makes planned told ok err = λ before raws sent.
-      sent_batch old mid new raws batch more before after later (subst (λ t. ReadsAll t more) is reads) makes planned told ok.0 ok.1 sent
+      sent_batch old mid new raws batch more before after later (subst (λ t. ReadsAll wanted.separator t more) is reads) makes planned told ok.0 ok.1 sent
   sends (Err _) old mid new text batch more after later reads is makes planned told ok err = λ before raws sent.
-      lost_batch old mid raws batch more err.0 before after later (subst (λ t. ReadsAll t more) is reads) makes err.1 sent
+      lost_batch old mid raws batch more err.0 before after later (subst (λ t. ReadsAll wanted.separator t more) is reads) makes err.1 sent
 
   -- ---- raw records that are taken
 
   pub taken_none : (progress : Progress) (output : Option (List ℕ)) → progress.planned ≡ None → progress.made.bytes.items ≡ [] → progress.held.items ≡ [] → AreTaken wanted table output progress [] output
   taken_none progress output none no_line no_text = record {
     sent = λ _. sent_none progress output none no_line;
-    held = λ _. record { texts_are = subst (λ held. AreTexts (map (λ text. text.items) held) []) (sym no_text) refl; put = Appends-nil output };
+    held = λ _. record { texts_are = subst (λ held. AreTexts wanted.separator (map (λ text. text.items) held) []) (sym no_text) refl; put = Appends-nil output };
   }
 
-  held_front : (texts raws : List (List ℕ)) (before after : Option (List ℕ)) → IsHeld before texts raws after → WroteFront wanted table raws before after
+  held_front : (texts raws : List (List ℕ)) (before after : Option (List ℕ)) → IsHeld wanted.separator before texts raws after → WroteFront wanted table raws before after
   held_front texts raws before after held = wrote_nothing raws before after held.put
 
   front_by : (flag : Bool) → wanted.defines_routes ≡ flag → (progress : Progress) (raws : List (List ℕ)) (before after : Option (List ℕ)) → AreTaken wanted table before progress raws after → WroteFront wanted table raws before after
@@ -151,12 +151,12 @@ module _ (wanted : Wanted) (table : CommandTree) where
   takes_by_sending (Err _) old new batch after later flag sends = λ before raws taken. sends before raws (taken.sent flag)
 
   pub takes_by_holding : {T E : Type 0} (result : Result T E) (old new : Progress) (text : List ℕ) (batch : List (List ℕ)) (output : Option (List ℕ)) → wanted.defines_routes ≡ true
-      → OnOk result (held_texts new ≡ held_texts old ++ text ∷ []) → text ≡ text_of batch → TakesMore wanted table result batch old new output output
+      → OnOk result (held_texts new ≡ held_texts old ++ text ∷ []) → text ≡ text_of wanted.separator batch → TakesMore wanted table result batch old new output output
   takes_by_holding (Ok _) old new text batch output flag grown is = λ before raws taken.
       let held = taken.held flag in
       record {
         sent = λ off. absurd (false≢true (sym off ∙ flag));
-        held = λ _. record { texts_are = subst (λ texts. AreTexts texts (raws ++ batch)) (sym grown) (texts_more (held_texts old) raws text batch held.texts_are is); put = held.put };
+        held = λ _. record { texts_are = subst (λ texts. AreTexts wanted.separator texts (raws ++ batch)) (sym grown) (texts_more wanted.separator (held_texts old) raws text batch held.texts_are is); put = held.put };
       }
   takes_by_holding (Err _) old new text batch output flag grown is = λ before raws taken. front_more raws batch before output (held_front (held_texts old) raws before output (taken.held flag))
 
@@ -175,7 +175,7 @@ module _ (wanted : Wanted) (table : CommandTree) where
           (made_told wanted table old.made.has_told new.made.has_told old.planned sent.records sent.sent old.made.bytes.items (stays_told old.made.has_told new.made.has_told told) sent.made));
       none_waits = bytes ∙ sent.none_waits;
     };
-    held = λ flag. let was = taken.held flag in record { texts_are = subst (λ h. AreTexts (map (λ text. text.items) h.items) raws) (sym held) was.texts_are; put = was.put };
+    held = λ flag. let was = taken.held flag in record { texts_are = subst (λ h. AreTexts wanted.separator (map (λ text. text.items) h.items) raws) (sym held) was.texts_are; put = was.put };
   }
 
   -- ---- the end
@@ -254,13 +254,13 @@ module _ (wanted : Wanted) (table : CommandTree) where
     pub others : List (List ℕ)
     pub whole : raws ≡ first ++ others
     pub sent : IsSent wanted table before progress first after
-    pub texts_are : AreTexts (drop at texts) others
+    pub texts_are : AreTexts wanted.separator (drop at texts) others
 
-  pub read_to_start : (texts raws : List (List ℕ)) (progress : Progress) (output : Option (List ℕ)) → progress.planned ≡ None → progress.made.bytes.items ≡ [] → AreTexts texts raws → IsReadTo texts raws 0 output progress output
+  pub read_to_start : (texts raws : List (List ℕ)) (progress : Progress) (output : Option (List ℕ)) → progress.planned ≡ None → progress.made.bytes.items ≡ [] → AreTexts wanted.separator texts raws → IsReadTo texts raws 0 output progress output
   read_to_start texts raws progress output none no_line are = record { first = []; others = raws; whole = refl; sent = sent_none progress output none no_line; texts_are = are }
 
   -- one more
-  module _ (texts raws first others batch : List (List ℕ)) (at : ℕ) (new : Progress) (before later : Option (List ℕ)) (whole : raws ≡ first ++ (batch ++ others)) (are : AreTexts (drop (at + 1) texts) others) where
+  module _ (texts raws first others batch : List (List ℕ)) (at : ℕ) (new : Progress) (before later : Option (List ℕ)) (whole : raws ≡ first ++ (batch ++ others)) (are : AreTexts wanted.separator (drop (at + 1) texts) others) where
     all : raws ≡ (first ++ batch) ++ others
     all = whole ∙ sym (append_assoc first batch others)
 
@@ -270,14 +270,14 @@ module _ (wanted : Wanted) (table : CommandTree) where
     read_one (Err _) front = subst (λ rs. WroteFront wanted table rs before later) (sym all) (front_more (first ++ batch) others before later front)
 
   pub read_to_next : {T E : Type 0} (result : Result T E) (texts raws : List (List ℕ)) (text : List ℕ) (at : ℕ) (old new : Progress) (before after later : Option (List ℕ)) → drop at texts ≡ text ∷ drop (at + 1) texts
-      → ((more : List (List ℕ)) → text ≡ text_of more → SendsMore wanted table result more old new after later) → IsReadTo texts raws at before old after
+      → ((more : List (List ℕ)) → text ≡ text_of wanted.separator more → SendsMore wanted table result more old new after later) → IsReadTo texts raws at before old after
       → MatchResult result (λ _. IsReadTo texts raws (at + 1) before new later) (λ _. WroteFront wanted table raws before later)
   read_to_next result texts raws text at old new before after later is sends read =
-      let are = subst (λ texts. AreTexts texts read.others) is read.texts_are in
+      let are = subst (λ texts. AreTexts wanted.separator texts read.others) is read.texts_are in
       read_one texts raws read.first are.1 are.0 at new before later (read.whole ∙ ap (λ rs. read.first ++ rs) are.2) are.4 result (sends are.0 are.3 before read.first read.sent)
 
   pub read_to_end : (texts raws : List (List ℕ)) (at : ℕ) (progress : Progress) (before after : Option (List ℕ)) → drop at texts ≡ [] → IsReadTo texts raws at before progress after → WroteOf wanted table progress.made.has_told raws before after
   read_to_end texts raws at progress before after is read =
-      let none : read.others ≡ [] = subst (λ texts. AreTexts texts read.others) is read.texts_are in
+      let none : read.others ≡ [] = subst (λ texts. AreTexts wanted.separator texts read.others) is read.texts_are in
       let all : raws ≡ read.first = read.whole ∙ ap (λ rs. read.first ++ rs) none ∙ append-nil read.first in
       sent_all progress raws before after (subst (λ rs. IsSent wanted table before progress rs after) (sym all) read.sent)

@@ -124,15 +124,15 @@ Makes wanted table more old new = (records : List (List (List ℕ))) (sent : Lis
 -- The lines of the records read of these were sent, and none waits.
 pub record IsSent (wanted : Wanted) (table : CommandTree) (before : Option (List ℕ)) (progress : Progress) (raws : List (List ℕ)) (after : Option (List ℕ)) : Type 0 where
   pub records : List (List (List ℕ))
-  pub read : AreReadOf raws records
+  pub read : AreReadOf wanted.separator raws records
   pub sent : List ℕ
   pub put : Appends before after sent
   pub made : IsMadeIn wanted table progress records sent
   pub none_waits : progress.made.bytes.items ≡ []
 
 -- The texts of these wait, and nothing was sent.
-pub record IsHeld (before : Option (List ℕ)) (texts : List (List ℕ)) (raws : List (List ℕ)) (after : Option (List ℕ)) : Type 0 where
-  pub texts_are : AreTexts texts raws
+pub record IsHeld (separator : ℕ) (before : Option (List ℕ)) (texts : List (List ℕ)) (raws : List (List ℕ)) (after : Option (List ℕ)) : Type 0 where
+  pub texts_are : AreTexts separator texts raws
   pub put : Appends before after []
 
 -- the texts that wait
@@ -142,15 +142,15 @@ held_texts progress = map (λ text. text.items) progress.held.items
 -- What became of raw records: their lines were sent, or where routes are to be defined their texts wait.
 pub record AreTaken (wanted : Wanted) (table : CommandTree) (before : Option (List ℕ)) (progress : Progress) (raws : List (List ℕ)) (after : Option (List ℕ)) : Type 0 where
   pub sent : wanted.defines_routes ≡ false → IsSent wanted table before progress raws after
-  pub held : wanted.defines_routes ≡ true → IsHeld before (held_texts progress) raws after
+  pub held : wanted.defines_routes ≡ true → IsHeld wanted.separator before (held_texts progress) raws after
 
 -- The input up to here was cut: the first of the records were taken, and the batch has the others.
 pub record SoFar (wanted : Wanted) (table : CommandTree) (before : Option (List ℕ)) (batch : Batch) (progress : Progress) (input : List ℕ) (after : Option (List ℕ)) : Type 0 where
   pub past : List (List ℕ)
   pub waiting : List (List ℕ)
   pub rest : List ℕ
-  pub cut : IsCut input (past ++ waiting) rest
-  pub in_batch : IsBatchOf batch (concat (kept waiting)) rest
+  pub cut : IsCut wanted.separator input (past ++ waiting) rest
+  pub in_batch : IsBatchOf wanted.separator batch (concat (kept waiting)) rest
   pub none_lacks : progress.made.has_told ≡ false → kept (past ++ waiting) ≡ past ++ waiting
   pub taken : AreTaken wanted table before progress (kept past) after
 
@@ -158,7 +158,7 @@ pub record SoFar (wanted : Wanted) (table : CommandTree) (before : Option (List 
 pub record TookAll (wanted : Wanted) (table : CommandTree) (before : Option (List ℕ)) (progress : Progress) (input : List ℕ) (after : Option (List ℕ)) : Type 0 where
   pub raws : List (List ℕ)
   pub rest : List ℕ
-  pub cut : IsCut input raws rest
+  pub cut : IsCut wanted.separator input raws rest
   pub none_lacks : progress.made.has_told ≡ false → kept_of raws rest ≡ raws ++ rest ∷ []
   pub taken : AreTaken wanted table before progress (kept_of raws rest) after
 
@@ -167,7 +167,7 @@ pub record TookAll (wanted : Wanted) (table : CommandTree) (before : Option (Lis
 -- The output grew by what is written for the records read of these.
 pub record WroteOf (wanted : Wanted) (table : CommandTree) (told : Bool) (raws : List (List ℕ)) (before after : Option (List ℕ)) : Type 0 where
   pub records : List (List (List ℕ))
-  pub read : AreReadOf raws records
+  pub read : AreReadOf wanted.separator raws records
   pub sent : List ℕ
   pub put : Appends before after sent
   pub lines : IsOutput wanted table told records sent
@@ -178,7 +178,7 @@ pub record WroteFront (wanted : Wanted) (table : CommandTree) (raws : List (List
   pub others : List (List ℕ)
   pub whole : raws ≡ first ++ others
   pub records : List (List (List ℕ))
-  pub read : AreReadOf first records
+  pub read : AreReadOf wanted.separator first records
   pub sent : List ℕ
   pub lost : List ℕ
   pub put : Appends before after sent
@@ -189,7 +189,7 @@ pub record WroteFront (wanted : Wanted) (table : CommandTree) (raws : List (List
 pub record WroteAll (wanted : Wanted) (table : CommandTree) (told : Bool) (input : List ℕ) (before after : Option (List ℕ)) : Type 0 where
   pub raws : List (List ℕ)
   pub rest : List ℕ
-  pub cut : IsCut input raws rest
+  pub cut : IsCut wanted.separator input raws rest
   pub none_lacks : told ≡ false → kept_of raws rest ≡ raws ++ rest ∷ []
   pub wrote : WroteOf wanted table told (kept_of raws rest) before after
 
@@ -198,21 +198,21 @@ pub record WroteAll (wanted : Wanted) (table : CommandTree) (told : Bool) (input
 pub record Wrote (wanted : Wanted) (table : CommandTree) (input : List ℕ) (remaining before after : Option (List ℕ)) : Type 0 where
   pub raws : List (List ℕ)
   pub rest : List ℕ
-  pub cut : IsCut input raws rest
+  pub cut : IsCut wanted.separator input raws rest
   pub wrote : WroteFront wanted table (kept raws) before after ⊎ (IsAtEnd remaining × WroteFront wanted table (kept_of raws rest) before after)
 
 -- the same before the end of the input
 pub record WroteSoFar (wanted : Wanted) (table : CommandTree) (input : List ℕ) (before after : Option (List ℕ)) : Type 0 where
   pub raws : List (List ℕ)
   pub rest : List ℕ
-  pub cut : IsCut input raws rest
+  pub cut : IsCut wanted.separator input raws rest
   pub wrote : WroteFront wanted table (kept raws) before after
 
 -- and where it was told to its end
 pub record WroteAtEnd (wanted : Wanted) (table : CommandTree) (input : List ℕ) (before after : Option (List ℕ)) : Type 0 where
   pub raws : List (List ℕ)
   pub rest : List ℕ
-  pub cut : IsCut input raws rest
+  pub cut : IsCut wanted.separator input raws rest
   pub wrote : WroteFront wanted table (kept_of raws rest) before after
 
 -- the end: whole lines of the whole input, or where it is one of a fault a front of those of what was told

@@ -1,4 +1,4 @@
--- Where the bytes of CSV stand, and the mark of a field in quotes.
+-- Where the bytes of CSV stand, with this byte between two fields, and the mark of a field in quotes.
 use Rattle.std.specs.Prelude.{ℕ, Bool, false, ◌||◌, ◌==◌, if◌then◌else◌, List, [], ◌∷◌, ◌++◌}
 use Rattle.rs_csv.specs.declared.quoting.Place.{Place}
 use Rattle.rs_csv.specs.declared.quoting.Place.TheVariants as places
@@ -8,15 +8,15 @@ abbrev pub is_line_end : ℕ → Bool
 is_line_end byte = byte == 10 || byte == 13
 
 -- outside quotes
-abbrev pub after_plain : ℕ → Place
-after_plain byte = if byte == 44 || is_line_end byte then places.Start else places.Plain
+abbrev pub after_plain : ℕ → ℕ → Place
+after_plain separator byte = if byte == separator || is_line_end byte then places.Start else places.Plain
 
 -- the place after a byte
-abbrev pub after : Place → ℕ → Place
-after places.Start byte = if byte == 34 then places.Inside else after_plain byte
-after places.Plain byte = after_plain byte
-after places.Inside byte = if byte == 34 then places.Behind else places.Inside
-after places.Behind byte = if byte == 34 then places.Inside else after_plain byte
+abbrev pub after : ℕ → Place → ℕ → Place
+after separator places.Start byte = if byte == 34 then places.Inside else after_plain separator byte
+after separator places.Plain byte = after_plain separator byte
+after separator places.Inside byte = if byte == 34 then places.Behind else places.Inside
+after separator places.Behind byte = if byte == 34 then places.Inside else after_plain separator byte
 
 -- a line end outside quotes
 abbrev pub ends_record : Place → ℕ → Bool
@@ -33,6 +33,6 @@ abbrev pub mark : Place → ℕ → List ℕ
 mark place byte = if opens place byte then 34 ∷ 34 ∷ 34 ∷ [] else byte ∷ []
 
 -- bytes as they are read
-abbrev pub marked : Place → List ℕ → List ℕ
-marked place [] = []
-marked place (byte ∷ bytes) = mark place byte ++ marked (after place byte) bytes
+abbrev pub marked : ℕ → Place → List ℕ → List ℕ
+marked separator place [] = []
+marked separator place (byte ∷ bytes) = mark place byte ++ marked separator (after separator place byte) bytes

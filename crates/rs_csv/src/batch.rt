@@ -32,6 +32,8 @@ pub enum Taken {
 pub struct Batch {
     // An empty line, which keeps the first record's bytes from being taken for a byte order mark, and the records.
     text: Vec<u8>,
+    // The byte between two fields.
+    separator: u8,
     // Where the next byte stands.
     place: Place,
     // Where the record begins that has not ended.
@@ -44,12 +46,13 @@ pub struct Batch {
 
 impl Batch {
     /// No record.
-    pub fn new(alloc: Global) -> Result<Self, AllocError>
-        ensures { IfOk result (λ batch. IsBatchOf batch [] []) }
+    pub fn new(alloc: Global, separator: u8) -> Result<Self, AllocError>
+        ensures { IfOk result (λ batch. IsBatchOf separator batch [] []) }
     {
         let text = Vec::from_slice(alloc, b"\n")?;
         Ok(Batch {
             text,
+            separator,
             place: Place::Start,
             begun: 1,
             length: 0,
@@ -78,7 +81,7 @@ impl Batch {
 
     /// Takes the records away.
     pub fn clear(&mut self)
-        ensures { (whole : List ℕ) (begun : List ℕ) → IsBatchOf self.old whole begun → IsBetween self.old begun → IsBatchOf self.new [] begun }
+        ensures { (separator : ℕ) (whole : List ℕ) (begun : List ℕ) → IsBatchOf separator self.old whole begun → IsBetween self.old begun → IsBatchOf separator self.new [] begun }
     {
         self.text.truncate(1);
         self.begun = self.text.len();
@@ -86,19 +89,19 @@ impl Batch {
 
     // Adds a byte to the record that has begun.
     fn push(&mut self, byte: u8) -> Result<(), AllocError>
-        ensures { OnOk result ((whole : List ℕ) (begun : List ℕ) → IsBatchOf self.old whole begun → IsBatchWithin (RECORD_BYTES + 1) self.new whole (begun ++ byte ∷ [])) }
+        ensures { OnOk result ((separator : ℕ) (whole : List ℕ) (begun : List ℕ) → IsBatchOf separator self.old whole begun → IsBatchWithin (RECORD_BYTES + 1) separator self.new whole (begun ++ byte ∷ [])) }
     {
         if !self.is_long {
             push_marked(&mut self.text, self.place, byte)?;
         }
         self.length = self.length.saturating_add(1);
-        self.place = self.place.after(byte);
+        self.place = self.place.after(self.separator, byte);
         Ok(())
     }
 
     // At the end of a record.
     fn end_record(&mut self) -> Taken
-        ensures { (whole : List ℕ) (raw : List ℕ) → IsBatchWithin (RECORD_BYTES + 1) self.old whole raw → after_all Place.Start raw ≡ Place.Start → EndsRecord result self.new whole raw }
+        ensures { (separator : ℕ) (whole : List ℕ) (raw : List ℕ) → IsBatchWithin (RECORD_BYTES + 1) separator self.old whole raw → after_all separator Place.Start raw ≡ Place.Start → EndsRecord separator result self.new whole raw }
     {
         self.begun = self.text.len();
         self.length = 0;
@@ -112,7 +115,7 @@ impl Batch {
 
     // After a byte that ends no record.
     fn go_on(&mut self) -> Taken
-        ensures { (whole : List ℕ) (begun : List ℕ) → IsBatchWithin (RECORD_BYTES + 1) self.old whole begun → GoesOn result self.new whole begun }
+        ensures { (separator : ℕ) (whole : List ℕ) (begun : List ℕ) → IsBatchWithin (RECORD_BYTES + 1) separator self.old whole begun → GoesOn separator result self.new whole begun }
     {
         if !self.is_long && self.length > RECORD_BYTES {
             self.text.truncate(self.begun);
@@ -124,7 +127,7 @@ impl Batch {
 
     /// Takes a byte.
     pub fn take(&mut self, byte: u8) -> Result<Taken, AllocError>
-        ensures { IfOk result (λ taken. (whole : List ℕ) (begun : List ℕ) → IsBatchOf self.old whole begun → Takes taken self.new whole begun byte) }
+        ensures { IfOk result (λ taken. (separator : ℕ) (whole : List ℕ) (begun : List ℕ) → IsBatchOf separator self.old whole begun → Takes separator taken self.new whole begun byte) }
     {
         let ends = self.place.ends_record(byte);
         self.push(byte)?;

@@ -43,6 +43,8 @@ pub struct Wanted<'a> {
     pub to: &'a str,
     /// The column that says where a point is.
     pub at: &'a str,
+    /// The byte between two fields.
+    pub separator: u8,
     /// `column=name`, where the CSV has another name for a column.
     pub columns: &'a [&'a str],
     /// Whether the line that defines the table is written.
@@ -261,12 +263,13 @@ impl Filter<'_> {
     // Makes the lines of the records of a text.
     fn read_records<E: Write>(&mut self, text: &[u8], errors: &mut E) -> Result<(), Stop>
         ensures job { self.new.job ≡ self.old.job }
-        ensures made { OnOk result ((records : List (List (List ℕ))) × ReadsAll text.now records × Makes self.old.job.wanted (table_of self.old.job.definition) records self.old.progress self.new.progress) }
+        ensures made { OnOk result ((records : List (List (List ℕ))) × ReadsAll self.old.job.wanted.separator text.now records × Makes self.old.job.wanted (table_of self.old.job.definition) records self.old.progress self.new.progress) }
         ensures quiet { OnOk result (IsQuiet self.old.progress.made.has_told self.new.progress.made.has_told (E.contents errors.old) (E.contents errors.new)) }
         ensures held { self.new.progress.held ≡ self.old.progress.held }
     {
         let job = self.job;
         let mut reader = ReaderBuilder::new()
+            .delimiter(job.wanted.separator)
             .has_headers(false)
             .flexible(true)
             .from_reader(job.alloc, text);
@@ -289,7 +292,7 @@ impl Filter<'_> {
         errors: &mut E,
     ) -> Result<(), Stop>
         ensures job { self.new.job ≡ self.old.job }
-        ensures sent { (more : List (List ℕ)) → text.now ≡ text_of more → SendsMore self.old.job.wanted (table_of self.old.job.definition) result more self.old.progress self.new.progress (W.contents output.old) (W.contents output.new) }
+        ensures sent { (more : List (List ℕ)) → text.now ≡ text_of self.old.job.wanted.separator more → SendsMore self.old.job.wanted (table_of self.old.job.definition) result more self.old.progress self.new.progress (W.contents output.old) (W.contents output.new) }
         ensures quiet { OnOk result (IsQuiet self.old.progress.made.has_told self.new.progress.made.has_told (E.contents errors.old) (E.contents errors.new)) }
     {
         if let Err(stop) = self.read_records(text, errors) {
@@ -324,7 +327,7 @@ impl Filter<'_> {
         errors: &mut E,
     ) -> Result<(), Stop>
         ensures job { self.new.job ≡ self.old.job }
-        ensures taken { (more : List (List ℕ)) → text.now ≡ text_of more → TakesMore self.old.job.wanted (table_of self.old.job.definition) result more self.old.progress self.new.progress (W.contents output.old) (W.contents output.new) }
+        ensures taken { (more : List (List ℕ)) → text.now ≡ text_of self.old.job.wanted.separator more → TakesMore self.old.job.wanted (table_of self.old.job.definition) result more self.old.progress self.new.progress (W.contents output.old) (W.contents output.new) }
         ensures quiet { OnOk result (IsQuiet self.old.progress.made.has_told self.new.progress.made.has_told (E.contents errors.old) (E.contents errors.new)) }
     {
         let job = self.job;
@@ -343,9 +346,9 @@ impl Filter<'_> {
         errors: &mut E,
     ) -> Result<(), Stop>
         ensures job { self.new.job ≡ self.old.job }
-        ensures taken { (more : List (List ℕ)) (begun : List ℕ) → IsBatchOf batch.old (concat more) begun → IsBetween batch.old begun
+        ensures taken { (more : List (List ℕ)) (begun : List ℕ) → IsBatchOf self.old.job.wanted.separator batch.old (concat more) begun → IsBetween batch.old begun
             → TakesMore self.old.job.wanted (table_of self.old.job.definition) result more self.old.progress self.new.progress (W.contents output.old) (W.contents output.new) }
-        ensures batch { (whole : List ℕ) (begun : List ℕ) → IsBatchOf batch.old whole begun → IsBetween batch.old begun → OnOk result (IsBatchOf batch.new [] begun) }
+        ensures batch { (whole : List ℕ) (begun : List ℕ) → IsBatchOf self.old.job.wanted.separator batch.old whole begun → IsBetween batch.old begun → OnOk result (IsBatchOf self.old.job.wanted.separator batch.new [] begun) }
         ensures quiet { OnOk result (IsQuiet self.old.progress.made.has_told self.new.progress.made.has_told (E.contents errors.old) (E.contents errors.new)) }
     {
         if let Err(stop) = self.take_text(batch.text(), output, errors) {
@@ -464,7 +467,7 @@ impl Filter<'_> {
         ensures quiet { OnOk result (IsQuiet self.old.progress.made.has_told self.new.progress.made.has_told (E.contents errors.old) (E.contents errors.new)) }
     {
         let job = self.job;
-        let Ok(mut batch) = Batch::new(job.alloc) else {
+        let Ok(mut batch) = Batch::new(job.alloc, job.wanted.separator) else {
             return Err(Stop::OutOfMemory);
         };
         match self.take_head(&mut batch, input, output, errors) {

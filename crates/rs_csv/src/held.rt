@@ -66,7 +66,7 @@ fn write_held<W: Write>(
     has_told: bool,
     output: &mut W,
 ) -> Result<bool, Stop>
-    ensures wrote { (raws : List (List ℕ)) → AreTexts (map (λ text. text.items) held.now) raws
+    ensures wrote { (raws : List (List ℕ)) → AreTexts job.now.wanted.separator (map (λ text. text.items) held.now) raws
         → MatchResult result (λ told. WroteOf job.now.wanted (table_of job.now.definition) told raws (W.contents output.old) (W.contents output.new))
         (λ _. WroteFront job.now.wanted (table_of job.now.definition) raws (W.contents output.old) (W.contents output.new)) }
     ensures told { IfOk result (λ told. told ≡ false → has_told ≡ false) }

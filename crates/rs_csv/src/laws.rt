@@ -3,7 +3,7 @@
 ghost use Rattle.std.specs.Prelude.{ℕ, List};
 ghost use Rattle.rs_csv.specs.Laws.{HasOneCut};
 
-/// Bytes are cut where records end into these and a rest in one way.
+/// Bytes are cut where records end into these and a rest in one way, whichever byte stands between two fields.
 pub fn input_has_one_cut()
-    ensures { (input : List ℕ) → HasOneCut input }
+    ensures { (separator : ℕ) (input : List ℕ) → HasOneCut separator input }
 {}

@@ -62,7 +62,7 @@ pub fn push_line(bytes: &mut Vec<u8>, line: &str) -> Result<(), AllocError>
     Ok(())
 }
 
-/// Makes the line of a record, or tells why there is none. A record with more fields than the header has none: a comma may lack its
+/// Makes the line of a record, or tells why there is none. A record with more fields than the header has none: a separator may lack its
 /// quotes there, so it is not known which field is which.
 pub fn take_record<E: Write>(
     alloc: Global,

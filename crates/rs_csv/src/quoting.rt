@@ -1,4 +1,4 @@
-//! Quotes of CSV: where a record ends, and which fields stand in quotes.
+//! Quotes of CSV: where a record ends, and which fields stand in quotes. One byte stands between two fields: a comma, or the one that is told.
 //!
 //! The opening quote of a field is written three times, so that the field reads with a quote before it. No field that does not
 //! stand in quotes begins with one.
@@ -22,29 +22,30 @@ pub enum Place {
 }
 
 // The place after a byte that stands in no quotes.
-fn after_plain(byte: u8) -> Place
-    ensures { result ≡ after Place.Plain byte }
+fn after_plain(separator: u8, byte: u8) -> Place
+    ensures { result ≡ after separator Place.Plain byte }
 {
-    match byte {
-        b',' | b'\n' | b'\r' => Place::Start,
-        _ => Place::Plain,
+    if byte == separator || byte == b'\n' || byte == b'\r' {
+        Place::Start
+    } else {
+        Place::Plain
     }
 }
 
 impl Place {
     /// The place after a byte.
-    pub fn after(self, byte: u8) -> Place
-        ensures { result ≡ after self byte }
+    pub fn after(self, separator: u8, byte: u8) -> Place
+        ensures { result ≡ after separator self byte }
     {
         match self {
             Place::Start => {
                 if byte == b'"' {
                     Place::Inside
                 } else {
-                    after_plain(byte)
+                    after_plain(separator, byte)
                 }
             }
-            Place::Plain => after_plain(byte),
+            Place::Plain => after_plain(separator, byte),
             Place::Inside => {
                 if byte == b'"' {
                     Place::Behind
@@ -56,7 +57,7 @@ impl Place {
                 if byte == b'"' {
                     Place::Inside
                 } else {
-                    after_plain(byte)
+                    after_plain(separator, byte)
                 }
             }
         }

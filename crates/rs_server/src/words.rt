@@ -1,12 +1,12 @@
 //! The words `csv` and `explain`: what they do, and how they end.
 
-ghost use Rattle.std.specs.Prelude.{◌≡◌, ◌<◌, IfSome, false};
+ghost use Rattle.std.specs.Prelude.{◌≡◌, ◌<◌, IfOk, IfSome, false};
 ghost use Rattle.std.specs.Io.KnownBytes.{Keeps};
 ghost use Rattle.rs_server.specs.Ending.{WritesLines};
 
 use crate::report::{FAILED, Failure, MISUSE, SUCCESS, report_failure};
 use itoa::Buffer;
-use rs_command_line::CsvWords;
+use rs_command_line::{CsvWords, separator_of};
 use rs_csv::{Stop, Wanted, write_lines};
 use rs_explain::{ALL, cure_by_csv, explain};
 use rs_protocol::{Fault, put_parts};
@@ -17,7 +17,7 @@ use std::io::{Read, Write};
 /// Makes the CSV of the input into lines on the output, and gives the exit status.
 ///
 /// 0 where nothing was told and left out; 1 where something was told and left out, where the header lacks a column, or for a failure; 2 where the
-/// words define no table, or name no session.
+/// words define no table, or name no session or no separator.
 pub(crate) fn convert<R: Read, W: Write, E: Write>(
     alloc: Global,
     words: &CsvWords<'_>,
@@ -28,20 +28,9 @@ pub(crate) fn convert<R: Read, W: Write, E: Write>(
     ensures lines { WritesLines result (R.remaining input.old) (R.remaining input.new) (W.contents output.old) (W.contents output.new) }
     ensures quiet { result ≡ SUCCESS → words.now.rounds ≡ false → Keeps (E.contents errors.old) (E.contents errors.new) }
 {
-    let Some(session) = session_of(words.session.unwrap_or("0")) else {
-        return refuse(errors, b"error: the session is no number from 0 to 63\n");
-    };
-    let wanted = Wanted {
-        define: words.define.unwrap_or(""),
-        session,
-        route: words.route.unwrap_or("route"),
-        from: words.from.unwrap_or("from"),
-        to: words.to.unwrap_or("to"),
-        at: words.at.unwrap_or("at"),
-        columns: words.columns.as_slice(),
-        defines_table: !words.omits_definition,
-        defines_routes: words.defines_routes,
-        rounds: words.rounds,
+    let wanted = match wanted_by(words) {
+        Ok(wanted) => wanted,
+        Err(line) => return refuse(errors, line),
     };
     match write_lines(alloc, wanted, input, output, errors) {
         Ok(false) => SUCCESS,
@@ -52,6 +41,32 @@ pub(crate) fn convert<R: Read, W: Write, E: Write>(
         }
         Err(Stop::Stream(fault)) => report_failure(errors, &Failure::Stream(fault)),
     }
+}
+
+// What is to be made of a CSV, or what is wrong with the words.
+fn wanted_by<'a>(words: &'a CsvWords<'a>) -> Result<Wanted<'a>, &'static [u8]>
+    ensures session { IfOk result (λ wanted. wanted.session < 64) }
+    ensures rounds { IfOk result (λ wanted. wanted.rounds ≡ words.now.rounds) }
+{
+    let Some(session) = session_of(words.session.unwrap_or("0")) else {
+        return Err(b"error: the session is no number from 0 to 63\n");
+    };
+    let Some(separator) = separator_of(words.separator.unwrap_or(",")) else {
+        return Err(b"error: the separator is no byte that parts fields, nor tab\n");
+    };
+    Ok(Wanted {
+        define: words.define.unwrap_or(""),
+        session,
+        route: words.route.unwrap_or("route"),
+        from: words.from.unwrap_or("from"),
+        to: words.to.unwrap_or("to"),
+        at: words.at.unwrap_or("at"),
+        separator,
+        columns: words.columns.as_slice(),
+        defines_table: !words.omits_definition,
+        defines_routes: words.defines_routes,
+        rounds: words.rounds,
+    })
 }
 
 // The session that a text names.

@@ -16,4 +16,5 @@ returns c =
     let seven = c.in_ok-arg-7.ensures.shape c.text_option-5.ensures.local ∙ ap₂ with_rule six c.text_option-5.ensures.rule in
     let eight = c.in_ok-arg-8.ensures.shape c.flag.ensures.local ∙ ap₂ with_rule seven c.flag.ensures.rule in
     let nine = c.in_ok-arg-9.ensures.shape c.flag-2.ensures.local ∙ ap₂ with_rule eight c.flag-2.ensures.rule in
-    IfOk-weaker c.arg-10.result _ _ (λ r adds. adds.shape c.flag-3.ensures.local ∙ ap₂ with_rule nine c.flag-3.ensures.rule) c.arg-10.ensures
+    let ten = c.in_ok-arg-10.ensures.shape c.flag-3.ensures.local ∙ ap₂ with_rule nine c.flag-3.ensures.rule in
+    IfOk-weaker c.arg-11.result _ _ (λ r adds. adds.shape c.text_option-6.ensures.local ∙ ap₂ with_rule ten c.text_option-6.ensures.rule) c.arg-11.ensures

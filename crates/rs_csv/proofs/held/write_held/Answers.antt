@@ -24,7 +24,7 @@ loop-text-preserved g c = record {
       let at : drop i texts ≡ text ∷ drop (i + 1) texts =
       text_at (λ text. text.items) held i c.text-item.result less ∙ ap (λ bytes. bytes ∷ drop (i + 1) texts) (sym (c.as_slice-text.ensures.value ∙ ap (λ text. text.items) c.text-item.is)) in
       let sends =
-      subst (λ (job : JobParts). (more : List (List ℕ)) → text ≡ text_of more → SendsMore {T = Unit {0}} {E = Unit {0}} job.wanted (table_of job.definition) (Ok tt) more c.loop-text.filter.progress c.write_text.new.self.progress (g.W.Write.contents c.loop-text.output) (g.W.Write.contents c.write_text.new.output)) c.loop-text.invariant.job
+      subst (λ (job : JobParts). (more : List (List ℕ)) → text ≡ text_of job.wanted.separator more → SendsMore {T = Unit {0}} {E = Unit {0}} job.wanted (table_of job.definition) (Ok tt) more c.loop-text.filter.progress c.write_text.new.self.progress (g.W.Write.contents c.loop-text.output) (g.W.Write.contents c.write_text.new.output)) c.loop-text.invariant.job
       c.in_default.ensures.sent in
       read_to_next c.args.job.now.wanted (table_of c.args.job.now.definition) {T = Unit {0}} {E = Unit {0}} (Ok tt) texts raws text i c.loop-text.filter.progress c.write_text.new.self.progress _ _ _ at sends
       (c.loop-text.invariant.read raws are);
@@ -40,7 +40,7 @@ returns-in-Err-clause-wrote g c = λ raws are.
     let at : drop i texts ≡ text ∷ drop (i + 1) texts =
     text_at (λ text. text.items) held i c.text-item.result less ∙ ap (λ bytes. bytes ∷ drop (i + 1) texts) (sym (c.as_slice-text.ensures.value ∙ ap (λ text. text.items) c.text-item.is)) in
     let sends =
-    subst (λ (job : JobParts). (more : List (List ℕ)) → text ≡ text_of more → SendsMore {T = Unit {0}} {E = Unit {0}} job.wanted (table_of job.definition) (Err tt) more c.loop-text.filter.progress c.write_text.new.self.progress (g.W.Write.contents c.loop-text.output) (g.W.Write.contents c.write_text.new.output)) c.loop-text.invariant.job
+    subst (λ (job : JobParts). (more : List (List ℕ)) → text ≡ text_of job.wanted.separator more → SendsMore {T = Unit {0}} {E = Unit {0}} job.wanted (table_of job.definition) (Err tt) more c.loop-text.filter.progress c.write_text.new.self.progress (g.W.Write.contents c.loop-text.output) (g.W.Write.contents c.write_text.new.output)) c.loop-text.invariant.job
     c.in-Err.ensures.sent in
     read_to_next c.args.job.now.wanted (table_of c.args.job.now.definition) {T = Unit {0}} {E = Unit {0}} (Err tt) texts raws text i c.loop-text.filter.progress c.write_text.new.self.progress _ _ _ at sends
     (c.loop-text.invariant.read raws are)

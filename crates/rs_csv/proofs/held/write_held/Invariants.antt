@@ -9,6 +9,6 @@ abbrev pub invariant-loop-text : goal.invariant-loop-text
 invariant-loop-text g l = record {
   job : l.filter.job ≡ l.fn.job;
   told : Stays l.has_told l.filter.progress.made.has_told;
-  read : (raws : List (List ℕ)) → AreTexts (map (λ text. text.items) l.held) raws
+  read : (raws : List (List ℕ)) → AreTexts l.fn.job.wanted.separator (map (λ text. text.items) l.held) raws
       → IsReadTo l.fn.job.wanted (table_of l.fn.job.definition) (map (λ text. text.items) l.held) raws l.text-index (g.W.Write.contents l.fn.output) l.filter.progress (g.W.Write.contents l.output);
 }

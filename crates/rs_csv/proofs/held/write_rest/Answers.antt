@@ -30,4 +30,4 @@ returns-clause-wrote g c = λ before raws taken.
     let held = taken.held (rw (← c.job.view_is) c.if-not-job.false) in
     ends_held wanted table c.write_held.result raws c.in-Ok.routes.items before _ _ _ (λ told plan. c.in-Ok.ensures.lines table plan told) held.put
     (subst (Appends (g.W.Write.contents c.args.output.now) (g.W.Write.contents c.put_parts.new.writer)) (append-nil c.as_slice.result.now ∙ c.as_slice.ensures.value) c.in_default.ensures)
-    (c.write_held.ensures.wrote raws (subst (λ list. AreTexts (map (λ text. text.items) list) raws) (sym c.as_slice-2.ensures.value) held.texts_are))
+    (c.write_held.ensures.wrote raws (subst (λ list. AreTexts wanted.separator (map (λ text. text.items) list) raws) (sym c.as_slice-2.ensures.value) held.texts_are))

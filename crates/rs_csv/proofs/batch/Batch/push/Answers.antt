@@ -9,6 +9,7 @@ pub returns : goal.returns
 returns c =
     let texted : IsTexted c.args.self.now c.args.byte c.if-not-self.self = elim c.if-not-self.branch [
       | then-not-self+in_ok-push_marked w ↦ subst (IsTexted c.args.self.now c.args.byte) (sym w.self-is) (record {
+        separated = refl;
         place = refl;
         long = refl;
         begun = refl;
@@ -17,6 +18,7 @@ returns c =
         same = λ long. absurd (false≢true (sym w.if-not-self.true ∙ long));
       })
       | else-not-self w ↦ subst (IsTexted c.args.self.now c.args.byte) (sym w.self-is) (record {
+        separated = refl;
         place = refl;
         long = refl;
         begun = refl;
@@ -25,8 +27,9 @@ returns c =
         same = λ _. refl;
       })
     ] in
-    λ whole begun is. batch_grown c.args.self.now _ c.args.byte whole begun (record {
-      place = c.after-self.ensures ∙ ap (λ at. after at c.args.byte) texted.place;
+    λ separator whole begun is. batch_grown separator c.args.self.now _ c.args.byte whole begun (record {
+      separated = texted.separated;
+      place = c.after-self.ensures ∙ ap (λ at. after c.if-not-self.self.separator at c.args.byte) texted.place ∙ ap (λ parts. after parts c.args.self.now.place c.args.byte) texted.separated;
       long = texted.long;
       begun = texted.begun;
       length_is = λ short. let same = texted.length_is in omega (arith, same, c.saturating_add-self.ensures);

@@ -9,12 +9,12 @@ use Rattle.rs_csv.proofs.filter.Filter.read_records.Goals as goal
 pub records-init : goal.records-init
 records-init g c =
     let reader = c.from_reader-reader.ensures in
-    let config = reader.config ∙ (ap builder_config c.flexible.ensures ∙ (ap builder_config c.has_headers.ensures ∙ c.new.ensures.config)) in
-    let trim = reader.trim ∙ (ap builder_trim c.flexible.ensures ∙ (ap builder_trim c.has_headers.ensures ∙ c.new.ensures.trim)) in
+    let config = reader.config ∙ (ap builder_config c.flexible.ensures ∙ (ap builder_config c.has_headers.ensures ∙ (ap builder_config c.delimiter.ensures ∙ ap (λ config. record config { delimiter = c.args.self.now.job.wanted.separator }) c.new.ensures.config))) in
+    let trim = reader.trim ∙ (ap builder_trim c.flexible.ensures ∙ (ap builder_trim c.has_headers.ensures ∙ (ap builder_trim c.delimiter.ensures ∙ c.new.ensures.trim))) in
     let names = reader.has_headers ∙ (ap builder_names_headers c.flexible.ensures ∙ ap builder_names_headers c.has_headers.ensures) in
     record {
       job = refl;
-      made = ([], read_none _ c.args.text.now c.from_reader-reader.result reader.state reader.source config trim (inr (inr (names, reader.headers))), makes_none c.args.self.now.job.wanted (table_of c.args.self.now.job.definition) c.args.self.now.progress);
+      made = ([], read_none _ _ c.args.text.now c.from_reader-reader.result reader.state reader.source config trim (inr (inr (names, reader.headers))), makes_none c.args.self.now.job.wanted (table_of c.args.self.now.job.definition) c.args.self.now.progress);
       held = refl;
       quiet = quiet_same c.args.self.now.progress.made.has_told (g.E.Write.contents c.args.errors.now);
     }
@@ -22,7 +22,7 @@ records-init g c =
 pub returns-in-Ok-false-clause-made : goal.returns-in-Ok-false-clause-made
 returns-in-Ok-false-clause-made g c =
     let made = c.records.invariant.made in
-    (made.0, read_all _ c.args.text.now made.0 _ c.records.reader c.read_byte_record.new.self c.in-Ok-false.field-0 c.in-Ok-false.field-0-test made.1 c.in-Ok-false.ensures.reads, made.2)
+    (made.0, read_all _ c.args.self.now.job.wanted.separator c.args.text.now made.0 _ c.records.reader c.read_byte_record.new.self c.in-Ok-false.field-0 c.in-Ok-false.field-0-test made.1 c.in-Ok-false.ensures.reads, made.2)
 
 pub records-preserved : goal.records-preserved
 records-preserved g c =
@@ -33,7 +33,7 @@ records-preserved g c =
       job = next.job ∙ c.records.invariant.job;
       made = (
         made.0 ++ fields ∷ [],
-        read_more _ c.args.text.now made.0 fields c.records.reader c.read_byte_record.new.self c.in-Ok-true.field-0 c.in-Ok-true.field-0-test made.1 c.in-Ok-true.ensures.reads c.in-Ok-true.ensures.ready,
+        read_more _ c.args.self.now.job.wanted.separator c.args.text.now made.0 fields c.records.reader c.read_byte_record.new.self c.in-Ok-true.field-0 c.in-Ok-true.field-0-test made.1 c.in-Ok-true.ensures.reads c.in-Ok-true.ensures.ready,
         makes_trans c.args.self.now.job.wanted (table_of c.args.self.now.job.definition) c.args.self.now.progress c.records.self.progress c.take_next.new.self.progress made.0 (fields ∷ []) made.2
             (subst (λ (job : JobParts). Makes job.wanted (table_of job.definition) (fields ∷ []) c.records.self.progress c.take_next.new.self.progress) c.records.invariant.job next.made),
       );

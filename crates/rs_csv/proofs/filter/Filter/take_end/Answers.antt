@@ -30,5 +30,5 @@ returns-clause-far g c = λ before input far.
           (far, λ long. absurd (false≢true (sym w.if-is_within_long.false ∙ c.is_within_long.ensures ∙ long)), refl)
     ] in
     let takes = subst (λ (j : JobParts). TakesMore j.wanted (table_of j.definition) c.take_text.result (last_of job.wanted table before now.0) filter.progress c.take_text.new.self.progress (g.W.Write.contents c.args.output.now) (g.W.Write.contents c.take_text.new.output)) now.2
-    (c.take_text.ensures.taken (last_of job.wanted table before now.0) (c.text.ensures ∙ text_all batch (kept now.0.waiting) now.0.rest now.0.in_batch)) in
+    (c.take_text.ensures.taken (last_of job.wanted table before now.0) (c.text.ensures ∙ text_all job.wanted.separator batch (kept now.0.waiting) now.0.rest now.0.in_batch)) in
     far_rest job.wanted table before c.take_text.result batch filter.progress c.take_text.new.self.progress input _ _ _ _ now.0 now.1 c.take_text.ensures.quiet (takes before (kept now.0.past) now.0.taken)
