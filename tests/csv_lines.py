@@ -338,7 +338,7 @@ def check_words():
     expect("no table", run("csv", "DEFINE ROUTE SR1 FROM 0 TO 1", data=b"")[:2], (2, b""))
     expect("a session past 63", run("csv", POINTS, "--session", "64", data=b"")[:2], (2, b""))
     expect("no words", run("csv")[:2], (2, b""))
-    told = b"roadseg: year: no such column in the header\n"
+    told = b"roadseg: year: no such column in the header, which has: at, route\n"
     expect("a column that is not there", run("csv", POINTS, data=b"at,route\n1,SR1\n"), (1, b"", told))
     told = b"roadseg: year: column twice in the header\n"
     expect("a column twice", run("csv", POINTS, data=b"at,route,year,year\n1,SR1,1,1\n"), (1, b"", told))
@@ -348,6 +348,28 @@ def check_words():
     expect("the status with --routes", got[0], 1)
     expect("the routes", got[1][: len(routes)], routes)
     expect("the route that is told", got[2], b"roadseg: SR3: no measure met on the route\n")
+
+
+def check_names():
+    """Names of the header in letters of another case, which are taken where there is one, and none as it is written."""
+    line = b"0 INSERT INTO crash ON SR1 AT 3.5 VALUES (1999)\n"
+    for header, words in (
+        (b"Route,AT,Year", []), (b"ROUTE,at,year", []), (b'"rOUTE","At","yEAR"', []), (b"Road,MP,Built", ["--route", "road", "--at", "Mp", "--column", "year=BUILT"]),
+    ):
+        got = run("csv", POINTS, "--no-define", *words, data=header + b"\nSR1,3.5,1999\n")
+        expect(header.decode(), got, (0, line, b""))
+    for header, record in ((b"route,at,YEAR,year,Year", b"SR1,3.5,1,1999,2"), (b"Year,at,ROUTE,route,year", b"1,3.5,SR2,SR1,1999")):
+        got = run("csv", POINTS, "--no-define", data=header + b"\n" + record + b"\n")
+        expect(header.decode(), got, (0, line, b""))
+    told = b"roadseg: year: column twice in the header but for the case of letters: route, at, Year, YEAR\n"
+    expect("two cases", run("csv", POINTS, data=b"route,at,Year,YEAR\nSR1,3.5,1,2\n"), (1, b"", told))
+    told = "roadseg: year: no such column in the header, which has: route, at, y\u00c9ar\n".encode()
+    expect("a letter that is not of ASCII", run("csv", POINTS, data="route,at,y\u00c9ar\nSR1,3.5,1\n".encode()), (1, b"", told))
+    names = ["c%d" % number for number in range(60)]
+    told = "roadseg: route: no such column in the header, which has: %s, ..\n" % ", ".join(names[:50])
+    expect("many names", run("csv", POINTS, data=(",".join(names) + "\n").encode()), (1, b"", told.encode()))
+    told = "roadseg: route: no such column in the header, which has: %s, at\n" % ("\u00e9" * 30)
+    expect("a long name", run("csv", POINTS, data=("\u00e9" * 40 + ",at\n").encode()), (1, b"", told.encode()))
 
 
 def check_separators():
@@ -546,6 +568,7 @@ def main():
         check_fields()
         check_quotes()
         check_words()
+        check_names()
         check_separators()
         check_loading()
         refusals = check_explained()

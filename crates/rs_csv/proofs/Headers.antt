@@ -11,32 +11,41 @@ use Rattle.rs_syntax.specs.declared.commands.ColumnDefinition.{ColumnDefinition}
 use Rattle.rs_syntax.specs.View.{column_tree}
 use Rattle.rs_csv_lines.specs.declared.plan.Column.{Column}
 use Rattle.rs_csv.specs.declared.filter.Wanted.{Wanted}
-use Rattle.rs_csv.specs.Header.{HasName, IsNamed, IsColumnOf, AreColumnsOf, IsCalled, Renames, is_equals}
+use Rattle.rs_csv.specs.declared.names.Case.{Case}
+use Rattle.rs_csv.specs.declared.names.Case.TheVariants as cases
+use Rattle.rs_csv.specs.Header.{Has, HasNone, IsOnly, IsColumnOf, AreColumnsOf, IsCalled, Renames, is_equals}
 
--- what was found among the fields before a place
-abbrev pub NamedBelow : List (List ℕ) → List ℕ → ℕ → Option ℕ → Type 0
-NamedBelow header name end None = (place : ℕ) → place < end → ¬ HasName header name place
-NamedBelow header name end (Some found) = HasName header name found × ((place : ℕ) → place < end → HasName header name place → place ≡ found)
-
-pub below_start : (header : List (List ℕ)) (name : List ℕ) → NamedBelow header name 0 None
-below_start header name place less has = let wrong : ⊥ = omega arith in wrong
+-- what was found among the places before one
+abbrev pub HasBelow : (ℕ → Type 0) → ℕ → Option ℕ → Type 0
+HasBelow Has end None = (place : ℕ) → place < end → ¬ Has place
+HasBelow Has end (Some found) = Has found × ((place : ℕ) → place < end → Has place → place ≡ found)
 
 last_or_below : (place end : ℕ) → place < end + 1 → (place < end) ⊎ (place ≡ end)
 last_or_below place zero less = inr (omega arith)
 last_or_below zero (suc end) less = inl (omega arith)
 last_or_below (suc place) (suc end) less = elim (last_or_below place end (omega arith)) [ inl below ↦ inl (omega arith) | inr last ↦ inr (ap suc last) ]
 
-pub below_first : (header : List (List ℕ)) (name : List ℕ) (end : ℕ) → NamedBelow header name end None → HasName header name end → NamedBelow header name (end + 1) (Some end)
-below_first header name end none has = (has, λ place less at. elim (last_or_below place end less) [ inl below ↦ absurd (none place below at) | inr last ↦ last ])
+module _ (Has : ℕ → Type 0) where
+  pub below_start : HasBelow Has 0 None
+  below_start place less has = let wrong : ⊥ = omega arith in wrong
 
-pub below_other : (header : List (List ℕ)) (name : List ℕ) (end : ℕ) (found : Option ℕ) → NamedBelow header name end found → ¬ HasName header name end → NamedBelow header name (end + 1) found
-below_other header name end None none other = λ place less at. elim (last_or_below place end less) [ inl below ↦ none place below at | inr last ↦ other (subst (HasName header name) last at) ]
-below_other header name end (Some found) named other =
-    (named.0, λ place less at. elim (last_or_below place end less) [ inl below ↦ named.1 place below at | inr last ↦ absurd (other (subst (HasName header name) last at)) ])
+  pub below_first : (end : ℕ) → HasBelow Has end None → Has end → HasBelow Has (end + 1) (Some end)
+  below_first end none has = (has, λ place less at. elim (last_or_below place end less) [ inl below ↦ absurd (none place below at) | inr last ↦ last ])
 
-pub below_none : (header : List (List ℕ)) (name : List ℕ) (end : ℕ) (found : Option ℕ) → is_some found ≡ false → NamedBelow header name end found → NamedBelow header name end None
-below_none header name end None is named = named
-below_none header name end (Some found) is named = absurd (false≢true (sym is))
+  pub below_other : (end : ℕ) (found : Option ℕ) → HasBelow Has end found → ¬ Has end → HasBelow Has (end + 1) found
+  below_other end None none other = λ place less at. elim (last_or_below place end less) [ inl below ↦ none place below at | inr last ↦ other (subst Has last at) ]
+  below_other end (Some found) named other = (named.0, λ place less at. elim (last_or_below place end less) [ inl below ↦ named.1 place below at | inr last ↦ absurd (other (subst Has last at)) ])
+
+  pub below_none : (end : ℕ) (found : Option ℕ) → is_some found ≡ false → HasBelow Has end found → HasBelow Has end None
+  below_none end None is named = named
+  below_none end (Some found) is named = absurd (false≢true (sym is))
+
+  -- where all places that have it are before this one
+  pub only_in_all : (end found : ℕ) → ((place : ℕ) → Has place → place < end) → HasBelow Has end (Some found) → IsOnly Has found
+  only_in_all end found inside named = record { has = named.0; alone = λ other has. named.1 other (inside other has) has }
+
+  pub none_in_all : (end : ℕ) → ((place : ℕ) → Has place → place < end) → HasBelow Has end None → HasNone Has
+  none_in_all end inside none place has = none place (inside place has) has
 
 within : (fields : List (List ℕ)) (place : ℕ) (field : List ℕ) → field_at fields place ≡ Some field → place < length fields
 unfolding field_at
@@ -44,11 +53,10 @@ within [] place field is = cc
 within (one ∷ fields) zero field is = omega arith
 within (one ∷ fields) (suc place) field is = let less : place < length fields = within fields place field is in omega arith
 
-pub named_all : (header : List (List ℕ)) (name : List ℕ) (end found : ℕ) → length header ≤ end → NamedBelow header name end (Some found) → IsNamed header name found
-named_all header name end found all named = record {
-  has = named.0;
-  alone = λ other has. named.1 other (let less : other < length header = within header other has.0 has.1 in omega arith) has;
-}
+-- a field that has a name is one of the header
+pub has_inside : (case : Case) (header : List (List ℕ)) (name : List ℕ) (end : ℕ) → length header ≤ end → (place : ℕ) → Has case header name place → place < end
+has_inside cases.Kept header name end all place has = let less : place < length header = within header place has.0 has.1 in omega arith
+has_inside cases.Ignored header name end all place has = let less : place < length header = within header place has.0 has.1 in omega arith
 
 -- ---- columns
 

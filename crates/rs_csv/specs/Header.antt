@@ -1,6 +1,7 @@
 -- Which fields of a record a plan takes: those that have the names that are wanted in the header.
 use Rattle.std.specs.Prelude.{◌≡◌, ◌⊎◌, ℕ, ◌<◌, ◌==◌, Bool, List, [], ◌∷◌, length, map, Some}
 use Rattle.std.specs.List.{position_or_len, before_first, after_first}
+use Rattle.std.specs.Char.{to_ascii_lowercase}
 use Rattle.csv.specs.Records.{field_at}
 use Rattle.rs_value.specs.declared.column.ColumnType.{ColumnType}
 use Rattle.rs_value.specs.declared.column.Kind.{Kind}
@@ -10,15 +11,47 @@ use Rattle.rs_csv_lines.specs.declared.plan.Place.{Place}
 use Rattle.rs_csv_lines.specs.declared.plan.Place.TheVariants as places
 use Rattle.rs_csv_lines.specs.Fields.{content}
 use Rattle.rs_csv.specs.declared.filter.Wanted.{Wanted}
+use Rattle.rs_csv.specs.declared.names.Case.{Case}
+use Rattle.rs_csv.specs.declared.names.Case.TheVariants as cases
+use Rattle.rs_csv.specs.declared.names.Found.{Found}
+use Rattle.rs_csv.specs.declared.names.Found.TheVariants as found
 
 -- the field of the header at a place is this name, in quotes or not
 abbrev pub HasName : List (List ℕ) → List ℕ → ℕ → Type 0
 HasName header name place = (field : List ℕ) × (field_at header place ≡ Some field) × (content field ≡ name)
 
--- It is that field, and no other is.
-pub record IsNamed (header : List (List ℕ)) (name : List ℕ) (place : ℕ) : Type 0 where
-  pub has : HasName header name place
-  pub alone : (other : ℕ) → HasName header name other → other ≡ place
+-- the same, but for the case of letters of ASCII
+abbrev pub small : List ℕ → List ℕ
+small bytes = map to_ascii_lowercase bytes
+
+abbrev pub HasLetters : List (List ℕ) → List ℕ → ℕ → Type 0
+HasLetters header name place = (field : List ℕ) × (field_at header place ≡ Some field) × (small (content field) ≡ small name)
+
+-- The place has it, and no other does.
+pub record IsOnly (Has : ℕ → Type 0) (place : ℕ) : Type 0 where
+  pub has : Has place
+  pub alone : (other : ℕ) → Has other → other ≡ place
+
+-- no place has it
+abbrev pub HasNone : (ℕ → Type 0) → Type 0
+HasNone Has = (place : ℕ) → ¬ Has place
+
+-- It is the only field that has this name; or where none has it, the only one that has it but for the case of letters.
+abbrev pub IsNamed : List (List ℕ) → List ℕ → ℕ → Type 0
+IsNamed header name place = IsOnly (HasName header name) place ⊎ (HasNone (HasName header name) × IsOnly (HasLetters header name) place)
+
+-- ---- a look for one
+
+-- the field at a place has this name, with the case of its letters or whatever that is
+abbrev pub Has : Case → List (List ℕ) → List ℕ → ℕ → Type 0
+Has cases.Kept = HasName
+Has cases.Ignored = HasLetters
+
+-- what is found: no place that has it, or the only one
+abbrev pub IsFound : (ℕ → Type 0) → Found → Type 0
+IsFound Has found.Nowhere = HasNone Has
+IsFound Has (found.At place) = IsOnly Has place
+IsFound Has found.Twice = Unit {0}
 
 -- ---- the names
 

@@ -1,54 +1,19 @@
 //! The header: which field gives the route, the place, and each column of the table.
 
-ghost use Rattle.std.specs.Prelude.{◌≡◌, ◌<◌, ◌↔◌, ℕ, List, IfOk, OnOk, map, true};
+ghost use Rattle.std.specs.Prelude.{◌≡◌, ◌<◌, ℕ, List, IfOk, OnOk, map};
 ghost use Rattle.std.specs.Io.KnownBytes.{Keeps};
 ghost use Rattle.csv.specs.Records.{fields_of};
-ghost use Rattle.rs_csv.specs.Header.{HasName, IsCalled, IsNamed, IsPlaceNamed};
+ghost use Rattle.rs_csv.specs.Header.{IsCalled, IsNamed, IsPlaceNamed};
 ghost use Rattle.rs_csv.specs.Output.{IsDefinition, IsPlanOf, table_of};
 
 use crate::definition::Definition;
 use crate::filter::{Stop, Wanted};
-use crate::tell::tell_column;
+use crate::names::field_named;
 use csv::ByteRecord;
-use rs_csv_lines::fields::content;
 use rs_csv_lines::{Column, Place, Plan};
 use rs_value::Kind;
 use std::alloc::Global;
 use std::io::Write;
-
-// Whether a field of the header has this name.
-fn is_named(header: &ByteRecord, place: usize, name: &str) -> bool
-    ensures { result ≡ true ↔ HasName (fields_of header.now) name.now place }
-{
-    match header.get(place) {
-        Some(field) => content(field) == name.as_bytes(),
-        None => false,
-    }
-}
-
-// The place of the one field of the header that has this name. It is told where there is none, or are two.
-fn field_named<E: Write>(header: &ByteRecord, name: &str, errors: &mut E) -> Result<usize, Stop>
-    ensures named { IfOk result (λ place. IsNamed (fields_of header.now) name.now place) }
-    ensures quiet { OnOk result (Keeps (E.contents errors.old) (E.contents errors.new)) }
-{
-    let mut found = None;
-    for place in 0..header.len() {
-        if is_named(header, place, name) {
-            if found.is_some() {
-                tell_column(errors, name, true);
-                return Err(Stop::NoColumn);
-            }
-            found = Some(place);
-        }
-    }
-    match found {
-        Some(place) => Ok(place),
-        None => {
-            tell_column(errors, name, false);
-            Err(Stop::NoColumn)
-        }
-    }
-}
 
 // The place of the field that gives a column: it has another name in the header, where the words say so.
 fn column_field<E: Write>(

@@ -12,6 +12,7 @@ pub mod header;
 pub mod held;
 pub mod laws;
 pub mod made;
+pub mod names;
 pub mod quoting;
 pub mod routes;
 pub mod tell;

@@ -12,6 +12,20 @@ use std::io::Write;
 /// How many bytes of a field are shown at the most.
 const SHOWN_BYTES: usize = 60;
 
+/// How many names of the header are shown at the most.
+const SHOWN_NAMES: usize = 50;
+
+/// Why no field of the header is taken for a name.
+#[derive(Clone, Copy, PartialEq, Eq, Debug)]
+pub enum Lack {
+    /// No field has the name, in letters of whichever case.
+    Nowhere,
+    /// Two have it.
+    Twice,
+    /// None has it, and two have it in letters of another case.
+    TwiceButForCase,
+}
+
 // What is wrong with a field that is shown before these words.
 fn cause_words(cause: Cause) -> &'static [u8] {
     match cause {
@@ -149,14 +163,30 @@ pub fn tell_more_fields<E: Write>(errors: &mut E, number: u64) {
     );
 }
 
+// Shows the names of the header's columns.
+fn show_names<E: Write>(errors: &mut E, header: &ByteRecord) {
+    for place in 0..header.len().min(SHOWN_NAMES) {
+        let part: &[u8] = if place == 0 { b"" } else { b", " };
+        let _ = put_parts(errors, &[part, beginning(column_name(header, place))]);
+    }
+    if header.len() > SHOWN_NAMES {
+        let _ = put_parts(errors, &[b", .."]);
+    }
+}
+
 /// Tells that the header has no column of this name, or two.
-pub fn tell_column<E: Write>(errors: &mut E, name: &str, is_twice: bool) {
-    let wrong: &[u8] = if is_twice {
-        b": column twice in the header\n"
-    } else {
-        b": no such column in the header\n"
+pub fn tell_column<E: Write>(errors: &mut E, header: &ByteRecord, name: &str, lack: Lack) {
+    let wrong: &[u8] = match lack {
+        Lack::Nowhere => b": no such column in the header, which has: ",
+        Lack::Twice => b": column twice in the header\n",
+        Lack::TwiceButForCase => b": column twice in the header but for the case of letters: ",
     };
     let _ = put_parts(errors, &[b"roadseg: ", name.as_bytes(), wrong]);
+    if lack == Lack::Twice {
+        return;
+    }
+    show_names(errors, header);
+    let _ = put_parts(errors, &[b"\n"]);
 }
 
 /// Tells that no extent of a route is known.

@@ -1,0 +1,90 @@
+//! A look for a name in the header: which field has it.
+//!
+//! It promises that the field is the only one that has the name as it is written, or where none has it so, the only one that has it in
+//! letters of another case.
+
+ghost use Rattle.std.specs.Prelude.{◌≡◌, ◌↔◌, IfOk, OnOk, true};
+ghost use Rattle.std.specs.Io.KnownBytes.{Keeps};
+ghost use Rattle.csv.specs.Records.{fields_of};
+ghost use Rattle.rs_csv.specs.Header.{Has, IsFound, IsNamed};
+
+use crate::filter::Stop;
+use crate::tell::{Lack, tell_column};
+use csv::ByteRecord;
+use rs_csv_lines::fields::content;
+use std::io::Write;
+
+/// Whether the case of letters of ASCII counts.
+#[derive(Clone, Copy, PartialEq, Eq, Debug)]
+pub enum Case {
+    /// It does.
+    Kept,
+    /// It does not.
+    Ignored,
+}
+
+/// What is found of a name in the header.
+#[derive(Clone, Copy, PartialEq, Eq, Debug)]
+pub enum Found {
+    /// No field has it.
+    Nowhere,
+    /// The field of this place, from 0, and no other.
+    At(usize),
+    /// Two fields have it, or more.
+    Twice,
+}
+
+// Whether a field of the header has this name.
+fn is_named(header: &ByteRecord, place: usize, name: &str, case: Case) -> bool
+    ensures { result ≡ true ↔ Has case (fields_of header.now) name.now place }
+{
+    match header.get(place) {
+        Some(field) => match case {
+            Case::Kept => content(field) == name.as_bytes(),
+            Case::Ignored => content(field).eq_ignore_ascii_case(name.as_bytes()),
+        },
+        None => false,
+    }
+}
+
+// The place of the one field of the header that has this name.
+fn find_field(header: &ByteRecord, name: &str, case: Case) -> Found
+    ensures { IsFound (Has case (fields_of header.now) name.now) result }
+{
+    let mut found = None;
+    for place in 0..header.len() {
+        if is_named(header, place, name, case) {
+            if found.is_some() {
+                return Found::Twice;
+            }
+            found = Some(place);
+        }
+    }
+    match found {
+        Some(place) => Found::At(place),
+        None => Found::Nowhere,
+    }
+}
+
+/// The place of the one field of the header that has this name, or where none has it, that has it in letters of another case. It is told
+/// where there is none, or are two.
+pub fn field_named<E: Write>(
+    header: &ByteRecord,
+    name: &str,
+    errors: &mut E,
+) -> Result<usize, Stop>
+    ensures named { IfOk result (λ place. IsNamed (fields_of header.now) name.now place) }
+    ensures quiet { OnOk result (Keeps (E.contents errors.old) (E.contents errors.new)) }
+{
+    let lack = match find_field(header, name, Case::Kept) {
+        Found::At(place) => return Ok(place),
+        Found::Twice => Lack::Twice,
+        Found::Nowhere => match find_field(header, name, Case::Ignored) {
+            Found::At(place) => return Ok(place),
+            Found::Twice => Lack::TwiceButForCase,
+            Found::Nowhere => Lack::Nowhere,
+        },
+    };
+    tell_column(errors, header, name, lack);
+    Err(Stop::NoColumn)
+}
