@@ -17,13 +17,7 @@ fn only_byte(text: &[u8]) -> Option<u8>
     ensures { result ≡ only_byte text.now }
 {
     match text {
-        [byte] => {
-            if parts_none(*byte) {
-                None
-            } else {
-                Some(*byte)
-            }
-        }
+        [byte] => { if parts_none(*byte) { None } else { Some(*byte) } }
         _ => None,
     }
 }

@@ -68,11 +68,7 @@ fn find_field(header: &ByteRecord, name: &str, case: Case) -> Found
 
 /// The place of the one field of the header that has this name, or where none has it, that has it in letters of another case. It is told
 /// where there is none, or are two.
-pub fn field_named<E: Write>(
-    header: &ByteRecord,
-    name: &str,
-    errors: &mut E,
-) -> Result<usize, Stop>
+pub fn field_named<E: Write>(header: &ByteRecord, name: &str, errors: &mut E) -> Result<usize, Stop>
     ensures named { IfOk result (λ place. IsNamed (fields_of header.now) name.now place) }
     ensures quiet { OnOk result (Keeps (E.contents errors.old) (E.contents errors.new)) }
 {
