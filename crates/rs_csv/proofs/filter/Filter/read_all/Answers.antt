@@ -1,7 +1,8 @@
-use Rattle.std.proofs.Common.{◌≡◌, ◌∙◌, ◌<◌, [], ◌++◌, Err, Ok, length, length-append, take, subst, sym, arith, append-nil}
+use Rattle.std.proofs.Common.{◌≡◌, ◌∙◌, ◌<◌, [], ◌++◌, Err, Ok, length, length-append, take, refl, subst, sym, arith, append-nil}
 use Rattle.std.specs.Io.KnownBytes.{Consumes}
 use Rattle.std.proofs.KnownBytes.{Consumes-kept, Consumes-nil, Consumes-trans}
 use Rattle.csv.specs.Reading.{strip_bom}
+use Rattle.rs_csv.specs.Cutting.{IsBatchOf}
 use Rattle.rs_csv.specs.Output.{GoesFar, JobParts, SoFar, TakesRest, WroteSoFar, table_of}
 use Rattle.rs_csv.proofs.Cuts.{strip_more}
 use Rattle.rs_csv.proofs.Outputs.{quiet_trans}
@@ -16,7 +17,8 @@ returns-in-Ok-true-clause-input g c =
     let wanted = c.args.self.now.job.wanted in
     let table = table_of c.args.self.now.job.definition in
     let output = g.W.Write.contents c.args.output.now in
-    let head = c.in-Ok-true.ensures.far output (far_start wanted table c.in-Ok.batch c.args.self.now.progress output c.in-Ok.ensures c.requires.no_plan c.requires.no_line c.requires.no_text) in
+    let same : c.job.inside.wanted.separator ≡ c.args.self.now.job.wanted.separator = rw (← c.self.view_is, ← c.job.view_is) refl in
+    let head = c.in-Ok-true.ensures.far output (far_start wanted table c.in-Ok.batch c.args.self.now.progress output (subst (λ separator. IsBatchOf separator c.in-Ok.batch [] []) same c.in-Ok.ensures) c.requires.no_plan c.requires.no_line c.requires.no_text) in
     let rest = subst (λ (job : JobParts). TakesRest job.wanted (table_of job.definition) c.take_end.result c.take_head.new.batch c.take_head.new.self.progress c.take_end.new.self.progress (g.W.Write.contents c.take_head.new.output) (g.W.Write.contents c.take_end.new.output)) c.in-Ok-true.ensures.job c.take_end.ensures.far in
     (head.0, head.1, took_last wanted table output c.take_end.result c.take_end.new.self.progress (strip_bom head.0) _ _ (head.2.1 c.in-Ok-true.field-0-test) (rest output (strip_bom head.0) head.2.0))
 
@@ -25,7 +27,8 @@ returns-in-Err-clause-input g c =
     let wanted = c.args.self.now.job.wanted in
     let table = table_of c.args.self.now.job.definition in
     let output = g.W.Write.contents c.args.output.now in
-    let head = c.in-Err.ensures.far output (far_start wanted table c.in-Ok.batch c.args.self.now.progress output c.in-Ok.ensures c.requires.no_plan c.requires.no_line c.requires.no_text) in
+    let same : c.job.inside.wanted.separator ≡ c.args.self.now.job.wanted.separator = rw (← c.self.view_is, ← c.job.view_is) refl in
+    let head = c.in-Err.ensures.far output (far_start wanted table c.in-Ok.batch c.args.self.now.progress output (subst (λ separator. IsBatchOf separator c.in-Ok.batch [] []) same c.in-Ok.ensures) c.requires.no_plan c.requires.no_line c.requires.no_text) in
     (head.0, head.1, wrote_early wanted table output (strip_bom head.0) _ _ head.2)
 
 pub pieces-init : goal.pieces-init
@@ -33,7 +36,8 @@ pieces-init g c =
     let wanted = c.args.self.now.job.wanted in
     let table = table_of c.args.self.now.job.definition in
     let output = g.W.Write.contents c.args.output.now in
-    let head = c.in-Ok-false.ensures.far output (far_start wanted table c.in-Ok.batch c.args.self.now.progress output c.in-Ok.ensures c.requires.no_plan c.requires.no_line c.requires.no_text) in
+    let same : c.job.inside.wanted.separator ≡ c.args.self.now.job.wanted.separator = rw (← c.self.view_is, ← c.job.view_is) refl in
+    let head = c.in-Ok-false.ensures.far output (far_start wanted table c.in-Ok.batch c.args.self.now.progress output (subst (λ separator. IsBatchOf separator c.in-Ok.batch [] []) same c.in-Ok.ensures) c.requires.no_plan c.requires.no_line c.requires.no_text) in
     let three : length head.0 ≡ 3 = head.2.2 c.in-Ok-false.field-0-test in
     record { job = c.in-Ok-false.ensures.job; far = (head.0, head.1, omega (arith, three), head.2.0); quiet = c.in-Ok-false.ensures.quiet }
 

@@ -1,6 +1,8 @@
-use Rattle.std.proofs.Common.{◌∙◌, [], ◌∷◌, ◌++◌, ap, inr, refl, subst}
+use Rattle.std.proofs.Common.{◌≡◌, ◌∙◌, [], ◌∷◌, ◌++◌, ap, inr, refl, subst}
 use Rattle.csv.specs.Records.{fields_of}
 use Rattle.csv.specs.Reading.{builder_config, builder_names_headers, builder_trim}
+use Rattle.csv.specs.declared.parser.Config.{Config}
+use Rattle.rs_csv.specs.Reading.{config_of}
 use Rattle.rs_csv.specs.Output.{JobParts, Makes, table_of}
 use Rattle.rs_csv.proofs.Outputs.{makes_none, makes_trans, quiet_same, quiet_trans}
 use Rattle.rs_csv.proofs.Readers.{read_all, read_more, read_none}
@@ -9,7 +11,8 @@ use Rattle.rs_csv.proofs.filter.Filter.read_records.Goals as goal
 pub records-init : goal.records-init
 records-init g c =
     let reader = c.from_reader-reader.ensures in
-    let config = reader.config ∙ (ap builder_config c.flexible.ensures ∙ (ap builder_config c.has_headers.ensures ∙ (ap builder_config c.delimiter.ensures ∙ ap (λ config. record config { delimiter = c.args.self.now.job.wanted.separator }) c.new.ensures.config))) in
+    let same : c.job.inside.wanted.separator ≡ c.args.self.now.job.wanted.separator = rw (← c.self.view_is, ← c.job.view_is) refl in
+    let config = reader.config ∙ (ap builder_config c.flexible.ensures ∙ (ap builder_config c.has_headers.ensures ∙ (ap builder_config c.delimiter.ensures ∙ ap (λ (config : Config). record config { delimiter = c.job.inside.wanted.separator }) c.new.ensures.config))) ∙ ap config_of same in
     let trim = reader.trim ∙ (ap builder_trim c.flexible.ensures ∙ (ap builder_trim c.has_headers.ensures ∙ (ap builder_trim c.delimiter.ensures ∙ c.new.ensures.trim))) in
     let names = reader.has_headers ∙ (ap builder_names_headers c.flexible.ensures ∙ ap builder_names_headers c.has_headers.ensures) in
     record {

@@ -1,6 +1,6 @@
 use Rattle.std.proofs.Common.{◌≡◌, ◌∙◌, true, ap, refl, subst, sym}
 use Rattle.std.proofs.lemmas.Bool.{false≢true}
-use Rattle.rs_csv.specs.Cutting.{kept}
+use Rattle.rs_csv.specs.Cutting.{kept, text_of}
 use Rattle.rs_csv.specs.Output.{FilterParts, JobParts, SoFar, TakesMore, table_of}
 use Rattle.rs_csv.proofs.Batches.{text_all}
 use Rattle.rs_csv.proofs.Steps.{end_front, far_rest, far_told, last_of}
@@ -29,6 +29,6 @@ returns-clause-far g c = λ before input far.
           subst (λ (f : FilterParts). SoFar job.wanted table before batch f.progress input (g.W.Write.contents c.args.output.now) × (batch.is_long ≡ true → f.progress.made.has_told ≡ true) × (f.job ≡ job)) (sym w.self-is)
           (far, λ long. absurd (false≢true (sym w.if-is_within_long.false ∙ c.is_within_long.ensures ∙ long)), refl)
     ] in
-    let takes = subst (λ (j : JobParts). TakesMore j.wanted (table_of j.definition) c.take_text.result (last_of job.wanted table before now.0) filter.progress c.take_text.new.self.progress (g.W.Write.contents c.args.output.now) (g.W.Write.contents c.take_text.new.output)) now.2
-    (c.take_text.ensures.taken (last_of job.wanted table before now.0) (c.text.ensures ∙ text_all job.wanted.separator batch (kept now.0.waiting) now.0.rest now.0.in_batch)) in
+    let takes = subst (λ (j : JobParts). c.text.result.now ≡ text_of j.wanted.separator (last_of job.wanted table before now.0) → TakesMore j.wanted (table_of j.definition) c.take_text.result (last_of job.wanted table before now.0) filter.progress c.take_text.new.self.progress (g.W.Write.contents c.args.output.now) (g.W.Write.contents c.take_text.new.output)) now.2
+    (c.take_text.ensures.taken (last_of job.wanted table before now.0)) (c.text.ensures ∙ text_all job.wanted.separator batch (kept now.0.waiting) now.0.rest now.0.in_batch) in
     far_rest job.wanted table before c.take_text.result batch filter.progress c.take_text.new.self.progress input _ _ _ _ now.0 now.1 c.take_text.ensures.quiet (takes before (kept now.0.past) now.0.taken)
