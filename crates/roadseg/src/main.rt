@@ -15,12 +15,16 @@ use std::{env, io};
 /// The system's number for a call on a stream that is closed.
 const CLOSED: i32 = 9;
 
+/// How much of the stack is taken as the program starts. The system refuses a stack to grow only by ending the program; so it has grown
+/// before memory gives out, which is then refused to a line by its number.
+const STACK_BYTES: usize = 262_144;
+
 fn main(rt: HostRuntime) -> ExitCode {
     let (mut input, mut output, mut errors) = (rt.stdin(), rt.stdout(), rt.stderr());
     if is_closed(&output.write(&[])) {
         return ExitCode::from(report_failure(&mut errors, &Failure::Stream(Fault::Write)));
     }
-    let lacks_one = is_closed(&input.read(&mut [])) || is_closed(&errors.write(&[]));
+    let lacks_one = is_closed(&read_nothing(&mut input)) || is_closed(&errors.write(&[]));
     let places = if lacks_one {
         held_places(&rt).map(Some)
     } else {
@@ -37,6 +41,13 @@ fn main(rt: HostRuntime) -> ExitCode {
         Err(error) => report_unread_words(&mut errors, &error),
     };
     ExitCode::from(status)
+}
+
+/// Reads no byte, from a place as deep on the stack as most lines go.
+#[inline(never)]
+fn read_nothing<R: Read>(input: &mut R) -> io::Result<usize> {
+    let mut room = [0; STACK_BYTES];
+    input.read(&mut room[..0])
 }
 
 /// Whether a call found its stream closed.
