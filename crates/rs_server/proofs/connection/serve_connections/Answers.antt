@@ -7,7 +7,7 @@ use Rattle.rs_server.specs.declared.connection.CannotAccept.{CannotAccept}
 use Rattle.rs_server.proofs.connection.serve_connections.Goals as goal
 
 pub loop-init : goal.loop-init
-loop-init g c = record { served = λ old is. (old, is, refl); became = g.E.Serve.becomes_itself c.args.engine.now }
+loop-init g c = record { served = λ old is. (old, is, refl); became = g.met.E.Serve.becomes_itself c.args.engine.now }
 
 pub returns-in_err-serve_next-clause-served : goal.returns-in_err-serve_next-clause-served
 returns-in_err-serve_next-clause-served g c = λ old is.
@@ -18,7 +18,7 @@ returns-in_err-serve_next-clause-served g c = λ old is.
     (next.0, next.1, subst (λ (r : Result (Unit {0}) CannotAccept). ServesThem r c.args.connections old next.0) (sym p.1) (c.loop.counter, c.loop-test.true, fewer))
 
 pub returns-in_err-serve_next-clause-becomes : goal.returns-in_err-serve_next-clause-becomes
-returns-in_err-serve_next-clause-becomes g c = g.E.Serve.becomes_later c.args.engine.now c.loop.engine c.serve_next.new.engine c.loop.invariant.became c.serve_next.ensures.becomes
+returns-in_err-serve_next-clause-becomes g c = g.met.E.Serve.becomes_later c.args.engine.now c.loop.engine c.serve_next.new.engine c.loop.invariant.became c.serve_next.ensures.becomes
 
 pub loop-preserved : goal.loop-preserved
 loop-preserved g c = record {
@@ -27,7 +27,7 @@ loop-preserved g c = record {
       let next = c.in_ok-serve_next.ensures.served before.0 before.1 in
       let more : suc c.loop.counter ≡ c.loop.counter + 1 = omega arith in
       (next.0, next.1, subst (λ (count : ℕ). ServesInTurn count old next.0) more (before.0, before.2, next.2));
-  became = g.E.Serve.becomes_later c.args.engine.now c.loop.engine c.serve_next.new.engine c.loop.invariant.became c.serve_next.ensures.becomes;
+  became = g.met.E.Serve.becomes_later c.args.engine.now c.loop.engine c.serve_next.new.engine c.loop.invariant.became c.serve_next.ensures.becomes;
 }
 
 pub returns-clause-served : goal.returns-clause-served

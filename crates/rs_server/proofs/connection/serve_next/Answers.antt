@@ -11,10 +11,10 @@ pub returns-in-Ok-None-clause-served : goal.returns-in-Ok-None-clause-served
 returns-in-Ok-None-clause-served g c = λ old is. (old, is, inl refl)
 
 pub returns-in-Ok-None-clause-becomes : goal.returns-in-Ok-None-clause-becomes
-returns-in-Ok-None-clause-becomes g c = g.E.Serve.becomes_itself c.args.engine.now
+returns-in-Ok-None-clause-becomes g c = g.met.E.Serve.becomes_itself c.args.engine.now
 
 pub returns-in-Err-clause-served : goal.returns-in-Err-clause-served
 returns-in-Err-clause-served g c = λ old is. (old, is, refl)
 
 pub returns-in-Err-clause-becomes : goal.returns-in-Err-clause-becomes
-returns-in-Err-clause-becomes g c = g.E.Serve.becomes_itself c.args.engine.now
+returns-in-Err-clause-becomes g c = g.met.E.Serve.becomes_itself c.args.engine.now

@@ -21,7 +21,7 @@ pub returns-in-Err-clause-served : goal.returns-in-Err-clause-served
 returns-in-Err-clause-served g c = λ old is. (old, is, (refl, Keeps-refl _, refl))
 
 pub returns-in-Err-clause-becomes : goal.returns-in-Err-clause-becomes
-returns-in-Err-clause-becomes g c = g.E.Serve.becomes_itself c.args.engine.now
+returns-in-Err-clause-becomes g c = g.met.E.Serve.becomes_itself c.args.engine.now
 
 pub returns-in-Ok-serve_connections-clause-served : goal.returns-in-Ok-serve_connections-clause-served
 returns-in-Ok-serve_connections-clause-served g c = λ old is.
@@ -40,4 +40,4 @@ returns-clause-served g c = λ old is.
     (old, is, not_said c.args.address c.args.connections c.in-Err-say_listening.fault c.in-Ok.bound.1 old _ _ c.in-Err-say_listening.ensures.0 says)
 
 pub returns-clause-becomes : goal.returns-clause-becomes
-returns-clause-becomes g c = g.E.Serve.becomes_itself c.args.engine.now
+returns-clause-becomes g c = g.met.E.Serve.becomes_itself c.args.engine.now
