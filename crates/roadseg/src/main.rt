@@ -15,16 +15,19 @@ use std::{env, io};
 /// The system's number for a call on a stream that is closed.
 const CLOSED: i32 = 9;
 
-/// How much of the stack is taken as the program starts. The system refuses a stack to grow only by ending the program; so it has grown
-/// before memory gives out, which is then refused to a line by its number.
-const STACK_BYTES: usize = 262_144;
+/// How much of the stack a step takes.
+const STEP_BYTES: usize = 16_384;
+
+/// How many steps the stack grows by as the program starts, to 256 KB. The system refuses a stack to grow only by ending the program; so it
+/// has grown before memory gives out, and a line that then wants memory is refused by its number.
+const STEPS: u32 = 15;
 
 fn main(rt: HostRuntime) -> ExitCode {
     let (mut input, mut output, mut errors) = (rt.stdin(), rt.stdout(), rt.stderr());
     if is_closed(&output.write(&[])) {
         return ExitCode::from(report_failure(&mut errors, &Failure::Stream(Fault::Write)));
     }
-    let lacks_one = is_closed(&read_nothing(&mut input)) || is_closed(&errors.write(&[]));
+    let lacks_one = is_closed(&read_nothing(&mut input, STEPS)) || is_closed(&errors.write(&[]));
     let places = if lacks_one {
         held_places(&rt).map(Some)
     } else {
@@ -43,10 +46,12 @@ fn main(rt: HostRuntime) -> ExitCode {
     ExitCode::from(status)
 }
 
-/// Reads no byte, from a place as deep on the stack as most lines go.
-#[inline(never)]
-fn read_nothing<R: Read>(input: &mut R) -> io::Result<usize> {
-    let mut room = [0; STACK_BYTES];
+/// Reads no byte, after so many steps down the stack and back.
+fn read_nothing<R: Read>(input: &mut R, steps: u32) -> io::Result<usize> {
+    let mut room = [0; STEP_BYTES];
+    if steps > 0 {
+        let _ = read_nothing(input, steps - 1);
+    }
     input.read(&mut room[..0])
 }
 
