@@ -4,6 +4,7 @@
 //! that no longer sees it, in eight. The highest byte of a number comes first.
 
 ghost use Rattle.std.specs.Prelude.{◌≡◌, ◌≤◌, ◌↔◌, IsTrue, length};
+ghost use Rattle.byteorder.specs.Endian.{big_number};
 ghost use Rattle.rs_cell_versions.specs.Version.{IsDated, born_of, died_of, ended, is_clearable, is_living, sees};
 
 use byteorder::{BigEndian, ByteOrder};
@@ -23,7 +24,8 @@ pub fn born_of(cell: &[u8]) -> u64
     requires width { VERSION_BYTES ≤ length cell.now }
     ensures { result ≡ born_of cell.now }
 {
-    BigEndian::read_u64(&cell[cell.len() - VERSION_BYTES..])
+    let at = cell.len() - VERSION_BYTES;
+    number_of_eight(&cell[at..at + 8])
 }
 
 /// The first version that no longer sees the cell; `LIVING` where there is none.
@@ -32,7 +34,15 @@ pub fn died_of(cell: &[u8]) -> u64
     requires width { VERSION_BYTES ≤ length cell.now }
     ensures { result ≡ died_of cell.now }
 {
-    BigEndian::read_u64(&cell[cell.len() - END_BYTES..])
+    number_of_eight(&cell[cell.len() - END_BYTES..])
+}
+
+/// The number of eight bytes, the highest first.
+fn number_of_eight(bytes: &[u8]) -> u64
+    requires { length bytes.now ≡ 8 }
+    ensures { result ≡ big_number 8 bytes.now }
+{
+    u64::from_be_bytes(bytes.try_into().unwrap())
 }
 
 /// Whether no version has ended the cell.

@@ -2,8 +2,12 @@
 
 ghost use Rattle.std.specs.Prelude.{◌≡◌, length};
 
+use crate::number::number_of_four;
 use byteorder::{BigEndian, ByteOrder};
 use rs_tree::Summary;
+
+/// The bytes of a cell after the version of its birth: where its record ends, and the version of its end.
+pub const AFTER_BIRTH_BYTES: usize = 12;
 
 /// The greatest end of some event records, in thousandths; 0 of none.
 #[derive(Clone, Copy)]
@@ -47,12 +51,12 @@ impl Summary for GreatestEnd {
     }
 
     fn of(cell: &[u8]) -> GreatestEnd {
-        if cell.len() < 12 {
+        if cell.len() < AFTER_BIRTH_BYTES {
             return GreatestEnd { end: 0 };
         }
-        let at = cell.len() - 12;
+        let at = cell.len() - AFTER_BIRTH_BYTES;
         GreatestEnd {
-            end: BigEndian::read_u32(&cell[at..]),
+            end: number_of_four(&cell[at..at + 4]),
         }
     }
 
@@ -62,7 +66,7 @@ impl Summary for GreatestEnd {
 
     fn read(bytes: &[u8]) -> GreatestEnd {
         GreatestEnd {
-            end: BigEndian::read_u32(bytes),
+            end: number_of_four(bytes),
         }
     }
 }

@@ -5,7 +5,9 @@
 
 pub mod greatest_end;
 pub mod laws;
+pub mod number;
 pub mod search;
 
-pub use greatest_end::GreatestEnd;
+pub use greatest_end::{AFTER_BIRTH_BYTES, GreatestEnd};
+pub use number::number_of_four;
 pub use search::{beginning, overlapping};

@@ -18,6 +18,12 @@ use rs_tree_edit::write_entry_of;
 /// The bytes of two entries at the most.
 pub const TWO_ENTRIES: usize = 2 * GREATEST_ENTRY;
 
+/// The bytes that hold an entry of most layouts.
+pub const NARROW_ENTRY: usize = 128;
+
+/// The bytes that hold two such entries.
+pub const TWO_NARROW_ENTRIES: usize = 2 * NARROW_ENTRY;
+
 /// Writes the entry of a page, and that of the page that was split off it, and answers how many there are.
 pub fn write_entries<P: Pages, S: Summary>(
     pages: &mut P,
@@ -26,7 +32,7 @@ pub fn write_entries<P: Pages, S: Summary>(
     put: Put,
     entries: &mut [u8],
 ) -> Result<usize, Refusal>
-    requires room { length entries.old ≡ TWO_ENTRIES }
+    requires room { length entries.old ≡ 2 * entry_bytes layout }
     requires summary { layout.summary ≡ S.WIDTH }
     ensures rests { OnlyReads P.Pages result pages.old pages.new }
     ensures works { WorksOn P.Pages (HasNoTops (form_in S.Summary layout) (P.store pages.old).map

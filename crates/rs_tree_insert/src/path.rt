@@ -7,6 +7,7 @@ ghost use Rattle.rs_records.specs.Records.{records};
 ghost use Rattle.rs_tree.specs.Content.{content};
 ghost use Rattle.rs_tree.specs.Form.{child_bytes};
 ghost use Rattle.rs_tree.specs.Layouts.{entry_bytes};
+ghost use Rattle.rs_tree.specs.declared.limits.TheConstants.{GREATEST_ENTRY};
 ghost use Rattle.rs_tree.specs.Forms.{form_in};
 ghost use Rattle.rs_tree_insert.specs.Finding.{BelongsAt, BelongsUnder};
 ghost use Rattle.rs_tree_insert.specs.Inserting.{HasNoShared, HasNoTops, PutsBelow, TellsBelow, WritesAbove, tops};
@@ -15,14 +16,14 @@ ghost use Rattle.rs_page_owners.specs.Calls.{Makes, WithPage, WorksOn};
 ghost use Rattle.rs_pages.specs.Calls.{Reads};
 
 use crate::answer::Put;
-use crate::entries::{TWO_ENTRIES, write_entries};
+use crate::entries::write_entries;
 use crate::finding::{Spot, find_spot};
 use crate::writing::put_records;
 use rs_page::{ContentKind, PageNumber};
 use rs_pages::Pages;
 use rs_refusal::Refusal;
 use rs_tree::entry::{child, summary};
-use rs_tree::{GREATEST_ENTRY, Layout, Summary};
+use rs_tree::{Layout, Summary};
 use rs_tree_edit::{Edit, EditedPage};
 
 /// A place in a page of a tree: the page, how many records it has, which of them, and whether the page is the last of its level.
@@ -34,21 +35,24 @@ pub struct Place {
     pub is_last: bool,
 }
 
-/// Puts a cell into the part of a tree with this page at its top, which is the last of its level or not. Entries are written
-/// into `entries` on the way up.
+/// Puts a cell into the part of a tree with this page at its top, which is the last of its level or not. The entry that it goes
+/// under is copied into `N` bytes on the way down, and entries are written into `entries` on the way up.
 #[cycle(inserting)]
-pub fn insert_below<P: Pages, S: Summary>(
+pub fn insert_below<P: Pages, S: Summary, const N: usize>(
     pages: &mut P,
     layout: Layout,
     number: PageNumber,
     levels: u32,
     cell: &[u8],
-    entries: &mut [u8; TWO_ENTRIES],
+    entries: &mut [u8],
     is_last: bool,
 ) -> Result<Put, Refusal>
     requires begun { (P.store pages.old).is_begun ≡ true }
     requires summary { layout.summary ≡ S.WIDTH }
     requires width { length cell.now ≡ layout.width }
+    requires room { entry_bytes layout ≤ N }
+    requires few { N ≤ GREATEST_ENTRY }
+    requires entries { length entries.old ≡ 2 * entry_bytes layout }
     ensures keeps { P.keeps pages.old pages.new }
     ensures works { WorksOn P.Pages (HasNoShared (form_in S.Summary layout)
         (P.store pages.old).map number levels) result pages.old pages.new }
@@ -57,7 +61,7 @@ pub fn insert_below<P: Pages, S: Summary>(
     ensures found { Reads P.Pages (λ map put. TellsBelow (form_in S.Summary layout) map number cell.now put) result pages.old }
     ensures same { Makes P.Pages (λ old new put. is_found put ≡ true → SamePages new old) result pages.old pages.new }
 {
-    let mut bytes = [0; GREATEST_ENTRY];
+    let mut bytes = [0; N];
     let entry = &mut bytes[..layout.entry_width()];
     let spot = find_spot(pages, number, layout, cell, entry)?;
     match spot {
@@ -81,7 +85,7 @@ pub fn insert_below<P: Pages, S: Summary>(
                 at,
                 is_last,
             };
-            insert_under::<P, S>(pages, layout, place, entry, levels, cell, entries)
+            insert_under::<P, S, N>(pages, layout, place, entry, levels, cell, entries)
         }
     }
 }
@@ -120,14 +124,14 @@ fn insert_here<P: Pages, S: Summary>(
 
 /// Puts a cell below an inner page of so many entries, under this one, which is at this place.
 #[cycle(inserting)]
-fn insert_under<P: Pages, S: Summary>(
+fn insert_under<P: Pages, S: Summary, const N: usize>(
     pages: &mut P,
     layout: Layout,
     place: Place,
     entry: &[u8],
     levels: u32,
     cell: &[u8],
-    entries: &mut [u8; TWO_ENTRIES],
+    entries: &mut [u8],
 ) -> Result<Put, Refusal>
     requires begun { (P.store pages.old).is_begun ≡ true }
     requires summary { layout.summary ≡ S.WIDTH }
@@ -136,6 +140,9 @@ fn insert_under<P: Pages, S: Summary>(
     requires fit { place.count * entry_bytes layout ≤ PAGE_ROOM }
     requires at { place.at < place.count }
     requires entry { length entry.now ≡ entry_bytes layout }
+    requires room { entry_bytes layout ≤ N }
+    requires few { N ≤ GREATEST_ENTRY }
+    requires entries { length entries.old ≡ 2 * entry_bytes layout }
     ensures keeps { P.keeps pages.old pages.new }
     ensures works { WorksOn P.Pages ((page : List ℕ) → (P.store pages.old).map.page place.number ≡ Some page
         → BelongsUnder page place.number layout cell.now entry.now place.count place.at
@@ -150,7 +157,7 @@ fn insert_under<P: Pages, S: Summary>(
 {
     let below = child(entry, layout);
     let below_last = is_last_below(place.is_last, place.count, place.at);
-    let put = insert_below::<P, S>(pages, layout, below, levels - 1, cell, entries, below_last)?;
+    let put = insert_below::<P, S, N>(pages, layout, below, levels - 1, cell, entries, below_last)?;
     match put {
         Put::Found => Ok(Put::Found),
         Put::Kept => Ok(Put::Kept),
@@ -176,13 +183,14 @@ fn write_above<P: Pages, S: Summary>(
     entry: &[u8],
     below: PageNumber,
     put: Put,
-    entries: &mut [u8; TWO_ENTRIES],
+    entries: &mut [u8],
 ) -> Result<Put, Refusal>
     requires begun { (P.store pages.old).is_begun ≡ true }
     requires summary { layout.summary ≡ S.WIDTH }
     requires fit { place.count * entry_bytes layout ≤ PAGE_ROOM }
     requires at { place.at < place.count }
     requires entry { length entry.now ≡ entry_bytes layout }
+    requires entries { length entries.old ≡ 2 * entry_bytes layout }
     ensures keeps { P.keeps pages.old pages.new }
     ensures works { WorksOn P.Pages (HasNoTops (form_in S.Summary layout) (P.store pages.old).map (tops below put)
         ⊎ IsBroken (P.store pages.old).map place.number) result pages.old pages.new }
@@ -215,7 +223,7 @@ fn write_above<P: Pages, S: Summary>(
 fn says_same<S: Summary>(layout: Layout, entry: &[u8], more: usize, entries: &[u8]) -> bool
     requires entry { length entry.now ≡ entry_bytes layout }
     requires summary { layout.summary ≡ S.WIDTH }
-    requires room { length entries.now ≡ TWO_ENTRIES }
+    requires room { length entries.now ≡ 2 * entry_bytes layout }
     ensures same { IsTrue result → records more (entry_bytes layout) entries.now ≡ entry.now ∷ [] }
     ensures one { (one other : S) → S.says (take layout.summary (drop child_bytes entry.now)) one
         → S.says (take layout.summary (drop child_bytes entry.now)) other → one ≡ other }

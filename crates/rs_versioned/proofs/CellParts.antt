@@ -10,9 +10,9 @@ use Rattle.rs_versioned.specs.Events.{Event, SaysEvent, event_width}
 use Rattle.rs_versioned.proofs.EventCells.{event_at, event_row_at, event_there}
 use Rattle.rs_versioned.proofs.Numbers.{AreBytes}
 
--- a number that is read from a place on
-pub number_from : (n k : ℕ) (bytes : List ℕ) → k + n ≤ length bytes → big_from 0 n (take (length bytes - k) (drop k bytes)) ≡ big_from 0 n (drop k bytes)
-number_from n k bytes long = big_from-take 0 n (length bytes - k) (drop k bytes) (omega arith)
+-- a number that is read at a place
+pub number_at : (n k : ℕ) (bytes : List ℕ) → big_from 0 n (take (k + n - k) (drop k bytes)) ≡ big_from 0 n (drop k bytes)
+number_at n k bytes = big_from-take 0 n (k + n - k) (drop k bytes) (omega arith)
 
 -- a name and zeros after it, between what is before and what is after it
 pub filled_name : (front name filled : List ℕ) (n : ℕ) → length front ≡ 4 → length name ≤ 32 → n ≡ length (front ++ name) → filled ≡ take 36 (front ++ name) ++ replicate (36 - n) 0

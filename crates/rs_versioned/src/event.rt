@@ -11,15 +11,18 @@ ghost use Rattle.rs_value.specs.Encoding.{SaysRow, row_width};
 ghost use Rattle.rs_value.specs.Values.{IsRowOf};
 ghost use Rattle.rs_versioned.specs.Events.{Event, SaysEvent, event_of, event_width, span_of};
 
-use byteorder::{BigEndian, ByteOrder};
 use rs_cell_versions::LIVING;
 use rs_facts::fact::Span;
+use rs_interval::{AFTER_BIRTH_BYTES, number_of_four};
 use rs_refusal::Refusal;
 use rs_value::{KeptRow, Schema, row_width, says_row};
 use std::alloc::{AllocError, Global};
 
 /// The bytes of an event's cell beside those of its row.
 pub const EVENT_BYTES: usize = 28;
+
+/// The bytes before the first thousandth.
+const ROUTE_BYTES: usize = 4;
 
 /// The bytes before the row.
 const FRONT_BYTES: usize = 8;
@@ -50,7 +53,7 @@ pub fn route_of(cell: &[u8]) -> u32
     requires width { EVENT_BYTES ≤ length cell.now }
     ensures { (types : List ColumnType) (event : Event) → SaysEvent types cell.now event → result ≡ event.route }
 {
-    BigEndian::read_u32(cell)
+    number_of_four(&cell[..ROUTE_BYTES])
 }
 
 /// The first thousandth of an event, and the first one after it.
@@ -58,8 +61,9 @@ pub fn place_of(cell: &[u8]) -> (u32, u32)
     requires width { EVENT_BYTES ≤ length cell.now }
     ensures { (types : List ColumnType) (event : Event) → SaysEvent types cell.now event → (result.0 ≡ event.lo) × (result.1 ≡ event.hi) }
 {
-    let lo = BigEndian::read_u32(&cell[4..]);
-    let hi = BigEndian::read_u32(&cell[cell.len() - 12..]);
+    let lo = number_of_four(&cell[ROUTE_BYTES..FRONT_BYTES]);
+    let at = cell.len() - AFTER_BIRTH_BYTES;
+    let hi = number_of_four(&cell[at..at + 4]);
     (lo, hi)
 }
 
@@ -84,7 +88,6 @@ pub fn span_of(alloc: Global, schema: &Schema, cell: &[u8]) -> Result<Span, Refu
     let Some(tuple) = KeptRow::of_encoded(alloc, schema, &cell[FRONT_BYTES..end])? else {
         return Err(Refusal::DamagedFile);
     };
-    let lo = BigEndian::read_u32(&cell[4..]);
-    let hi = BigEndian::read_u32(&cell[end + 8..]);
+    let (lo, hi) = place_of(cell);
     Ok(Span { lo, hi, tuple })
 }

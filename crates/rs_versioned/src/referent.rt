@@ -8,8 +8,8 @@ ghost use Rattle.std.specs.Int.{w32, to_be_bytes};
 ghost use Rattle.std.specs.List.{AllByRecursion, position_or_len};
 ghost use Rattle.rs_versioned.specs.Referents.{ReferentRecord, SaysReferent, record_of, referent_width};
 
-use byteorder::{BigEndian, ByteOrder};
 use rs_cell_versions::LIVING;
+use rs_interval::number_of_four;
 use rs_methods::Referent;
 use std::alloc::{AllocError, Global};
 
@@ -52,7 +52,7 @@ pub fn route_of(cell: &[u8]) -> u32
     requires width { length cell.now ≡ referent_width }
     ensures { (referent : ReferentRecord) → SaysReferent cell.now referent → result ≡ referent.route }
 {
-    BigEndian::read_u32(cell)
+    number_of_four(&cell[..ROUTE_BYTES])
 }
 
 /// The name of a referent.
@@ -69,7 +69,7 @@ pub fn measure_of(cell: &[u8]) -> u32
     requires width { length cell.now ≡ referent_width }
     ensures { (referent : ReferentRecord) → SaysReferent cell.now referent → result ≡ referent.measure }
 {
-    BigEndian::read_u32(&cell[MEASURE_AT..])
+    number_of_four(&cell[MEASURE_AT..MEASURE_AT + 4])
 }
 
 /// Whether the cell says a referent: no byte other than 0 is after a 0 among those of the name.

@@ -1,5 +1,5 @@
 -- One entry after the other.
-use Rattle.std.proofs.Common.{◌≡◌, ◌≤◌, ◌-◌, ◌*◌, ℕ, List, Some, ◌++◌, length, take, drop, slice_get, sym, ap, arith}
+use Rattle.std.proofs.Common.{◌≡◌, ◌-◌, ◌*◌, ℕ, List, Some, ◌++◌, length, take, drop, slice_get, sym, ap, arith}
 use Rattle.std.proofs.lemmas.Result.{err_from_is_err_and}
 use Rattle.std.proofs.lemmas.List.{length-take-le, length-take, length-drop, length-append}
 use borrow.Rule.Slice.PartMut.{post_of}
@@ -53,8 +53,8 @@ returns-in_ok-write_entry_of-in-Split-clause-says g c = λ tied.
     let one : List ℕ = c.write_entry_of.new.entry in
     let other : List ℕ = c.write_entry_of-in-Split.new.entry in
     let old : List ℕ = drop w c.args.entries.now in
-    let wide : 2 * w ≤ 2720 = omega (arith, c.entry_width-width.ensures.fits) in
-    let size : length one ≡ w = omega (arith, c.write_entry_of.auto.entry, length-take-le w c.args.entries.now (omega (arith, c.requires.room))) in
+    let wide : length c.args.entries.now ≡ 2 * w = omega (arith, c.requires.room, c.entry_width-width.ensures.width) in
+    let size : length one ≡ w = omega (arith, c.write_entry_of.auto.entry, length-take-le w c.args.entries.now (omega (arith, wide))) in
     let also : length other ≡ w = omega (
       arith,
       c.write_entry_of-in-Split.auto.entry,
@@ -62,7 +62,7 @@ returns-in_ok-write_entry_of-in-Split-clause-says g c = λ tied.
       length-drop w (one ++ old),
       length-append one old,
       length-drop w c.args.entries.now,
-      c.requires.room,
+      wide,
     ) in
     let later = g.met.P.Pages.keeps_tied c.args.pages.now c.write_entry_of.new.pages c.in_ok-write_entry_of.ensures.rests.below tied in
     let rest : List ℕ = post_of w (2 * w - w) (one ++ old) in
@@ -77,8 +77,8 @@ returns-in_default g c =
     let w : ℕ = c.entry_width-width.result in
     let one : List ℕ = c.write_entry_of.new.entry in
     let old : List ℕ = drop w c.args.entries.now in
-    let wide : 2 * w ≤ 2720 = omega (arith, c.entry_width-width.ensures.fits) in
-    let size : length one ≡ w = omega (arith, c.write_entry_of.auto.entry, length-take-le w c.args.entries.now (omega (arith, c.requires.room))) in
+    let wide : length c.args.entries.now ≡ 2 * w = omega (arith, c.requires.room, c.entry_width-width.ensures.width) in
+    let size : length one ≡ w = omega (arith, c.write_entry_of.auto.entry, length-take-le w c.args.entries.now (omega (arith, wide))) in
     let top = tops_one c.args.first c.args.put c.in_default.not-Split in
     let did = c.in_ok-write_entry_of.ensures in
     record {

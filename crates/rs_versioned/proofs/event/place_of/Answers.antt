@@ -3,7 +3,7 @@ use Rattle.std.proofs.Common.{◌≡◌, ◌+◌, ◌-◌, ◌∙◌, ℕ, drop,
 use Rattle.byteorder.specs.Endian.{big_number}
 use Rattle.rs_value.specs.Encoding.{row_width}
 use Rattle.rs_versioned.specs.Events.{Event}
-use Rattle.rs_versioned.proofs.CellParts.{number_from}
+use Rattle.rs_versioned.proofs.CellParts.{number_at}
 use Rattle.rs_versioned.proofs.EventCells.{event_at, event_row_at, event_said_once, event_there, event_wide}
 use Rattle.rs_versioned.proofs.event.place_of.Goals as goal
 
@@ -16,6 +16,6 @@ returns c types event says =
     let same : one ≡ event =
     event_said_once types cell one event (event_there types width cell event.row wide (λ i. (c.type_inv.cell i).fits) (event_row_at types cell event says)) says in
     let place : length cell - 12 ≡ 8 + width + 8 = omega (arith, wide) in (
-      c.read_u32-lo.ensures ∙ number_from 4 4 cell (omega (arith, wide)) ∙ ap (λ (e : Event). e.lo) same,
-      c.read_u32-hi.ensures ∙ number_from 4 (length cell - 12) cell (omega (arith, wide)) ∙ ap (λ (n : ℕ). big_number 4 (drop n cell)) place ∙ ap (λ (e : Event). e.hi) same,
+      c.number_of_four-lo.ensures ∙ number_at 4 4 cell ∙ ap (λ (e : Event). e.lo) same,
+      c.number_of_four-hi.ensures ∙ number_at 4 (length cell - 12) cell ∙ ap (λ (n : ℕ). big_number 4 (drop n cell)) place ∙ ap (λ (e : Event). e.hi) same,
     )
