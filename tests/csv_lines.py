@@ -372,6 +372,26 @@ def check_names():
     expect("a long name", run("csv", POINTS, data=("\u00e9" * 40 + ",at\n").encode()), (1, b"", told.encode()))
 
 
+def check_scales():
+    """Numbers that are multiplied, one by one, and words that scale nothing."""
+    head = b"route,from,to,surface,year\n"
+    for scale, number, made in (
+        ("10", "115.8", "1158"), ("10", "-.5", "-5"), ("10", "7", "70"), ("1000", "+1.", "1000"), ("1000000", "0.000001", "1"), ("10", "100000000000", "1000000000000"),
+        ("1", "2012.0", "2012"), ("1", "- 5", "-5"), ("100", "1.230", "123"), ("100", "", "NULL"),
+    ):
+        line = "0 INSERT INTO pavement ON SR1 FROM 0 TO 1 VALUES (NULL, %s)\n" % made
+        got = run("csv", DEFINE, "--no-define", "--scale", "year=" + scale, data=head + ("SR1,0,1,,%s\n" % number).encode())
+        expect("%s times %s" % (number, scale), got, (0, line.encode(), b""))
+    for scale, number, words in (
+        ("10", "115.83", "is not a whole number"), ("10", "100000000000.1", "is past 10^12"), ("10", "x", "is not a number"), ("10", "- 5", "is not a number"),
+    ):
+        got = run("csv", DEFINE, "--no-define", "--scale", "year=" + scale, data=head + ("SR1,0,1,,%s\n" % number).encode())
+        expect("%s times %s" % (number, scale), got, (1, b"", ("roadseg: record 1, year: %s %s\n" % (number, words)).encode()))
+    told = b"error: a scale is no column of numbers with 1, 10, 100 and so on up to 1000000\n"
+    for words in ("year", "year=", "year=7", "year=10000000", "year=010", "surface=10", "built=10", "=10"):
+        expect("--scale %s" % words, run("csv", DEFINE, "--scale", words, data=head), (2, b"", told))
+
+
 def check_separators():
     """Other bytes between fields, the word for a tab, and the texts that say none."""
     data = b'route,at,note\nSR1,1,"a;b"\nSR1,2,d\n'
@@ -569,6 +589,7 @@ def main():
         check_quotes()
         check_words()
         check_names()
+        check_scales()
         check_separators()
         check_loading()
         refusals = check_explained()

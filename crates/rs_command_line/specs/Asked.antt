@@ -22,6 +22,7 @@ pub record CsvSaid : Type 0 where
   pub session : Option Text
   pub separator : Option Text
   pub columns : List Text
+  pub scales : List Text
   pub omits_definition : Bool
   pub defines_routes : Bool
   pub rounds : Bool
@@ -81,6 +82,7 @@ asked_by_csv rows = Some (converts (record {
   session = first_of (codes "session") rows;
   separator = first_of (codes "separator") rows;
   columns = unwrap_or (all_of (codes "column") rows) [];
+  scales = unwrap_or (all_of (codes "scale") rows) [];
   omits_definition = flag_in (codes "no-define") rows;
   defines_routes = flag_in (codes "routes") rows;
   rounds = flag_in (codes "round") rows;
@@ -123,6 +125,7 @@ csv_said words = record {
   session = given_text words.session;
   separator = given_text words.separator;
   columns = map (λ t. t.now) words.columns.items;
+  scales = map (λ t. t.now) words.scales.items;
   omits_definition = words.omits_definition;
   defines_routes = words.defines_routes;
   rounds = words.rounds;

@@ -34,9 +34,15 @@ create_command = with_rule (new_app (codes "create")) (file_option true)
 abbrev pub text_option : Text → Rule
 text_option id = record (new_rule id) { long = Some id; value_names = 1 }
 
--- `--column COLUMN=NAME`, as often as it is wanted
+-- `--column COLUMN=NAME` and `--scale COLUMN=NUMBER`, as often as they are wanted
+abbrev pub texts_option : Text → Rule
+texts_option id = record (text_option id) { action = Some Append }
+
 abbrev pub column_option : Rule
-column_option = record (text_option (codes "column")) { action = Some Append }
+column_option = texts_option (codes "column")
+
+abbrev pub scale_option : Rule
+scale_option = texts_option (codes "scale")
 
 -- `--ID`
 abbrev pub flag : Text → Rule
@@ -57,7 +63,7 @@ csv_command =
     let fields = with_rule (with_rule (with_rule (with_rule (with_rule (new_app (codes "csv")) define_argument) (text_option (codes "route"))) (text_option (codes "from")))
     (text_option (codes "to"))) (text_option (codes "at")) in
     let lines = with_rule (with_rule (with_rule (with_rule fields column_option) (text_option (codes "session"))) (flag (codes "no-define"))) (flag (codes "routes")) in
-    with_rule (with_rule lines (flag (codes "round"))) (text_option (codes "separator"))
+    with_rule (with_rule (with_rule lines (flag (codes "round"))) (text_option (codes "separator"))) scale_option
 
 abbrev pub dump_command : App
 dump_command = with_rule (with_rule (with_rule (new_app (codes "dump")) (file_option true)) (flag (codes "definitions"))) (text_option (codes "table"))

@@ -10,7 +10,7 @@ ghost use Rattle.rs_command_line.specs.CommandLine.{command_line, file_option, l
 ghost use Rattle.rs_command_line.specs.CommandLine.{connections_option};
 ghost use Rattle.rs_command_line.specs.CommandLine.{create_command, run_command, serve_command};
 ghost use Rattle.rs_command_line.specs.CommandLine.{csv_command, dump_command, explain_command, text_option};
-ghost use Rattle.rs_command_line.specs.CommandLine.{column_option, flag, define_argument, refusal_argument};
+ghost use Rattle.rs_command_line.specs.CommandLine.{column_option, scale_option, flag, define_argument, refusal_argument};
 ghost use Rattle.rs_command_line.specs.Asked.{asked_of, asked_by, asked_by_csv, asked_by_dump, asked_by_run, flag_in};
 ghost use Rattle.rs_command_line.specs.Asked.{said_by, HasConnectionsInRange};
 
@@ -37,6 +37,8 @@ pub struct CsvWords<'a> {
     pub separator: Option<&'a str>,
     /// Each `--column`.
     pub columns: Vec<&'a str>,
+    /// Each `--scale`.
+    pub scales: Vec<&'a str>,
     /// Whether `--no-define` is given.
     pub omits_definition: bool,
     /// Whether `--routes` is given.
@@ -163,6 +165,7 @@ fn asked_of_csv<'a>(alloc: Global, given: &ArgMatches<'a>) -> Result<Asked<'a>, 
     ensures { IfOk result (λ asked. asked_by_csv (rows_of (found_of given.now)) ≡ Some (said_by asked)) }
 {
     let columns = texts_of(alloc, given, "column")?;
+    let scales = texts_of(alloc, given, "scale")?;
     Ok(Asked::Csv(CsvWords {
         define: given.get_str("define"),
         route: given.get_str("route"),
@@ -172,6 +175,7 @@ fn asked_of_csv<'a>(alloc: Global, given: &ArgMatches<'a>) -> Result<Asked<'a>, 
         session: given.get_str("session"),
         separator: given.get_str("separator"),
         columns,
+        scales,
         omits_definition: has_flag(given, "no-define"),
         defines_routes: has_flag(given, "routes"),
         rounds: has_flag(given, "round"),
@@ -324,7 +328,8 @@ fn csv_command<'a>(alloc: Global) -> Result<Command<'a>, AllocError>
             alloc,
             "separator",
             "The byte between two fields, as ';', or the word tab [default: ,]",
-        ))
+        ))?
+        .arg(scale_option(alloc))
 }
 
 fn dump_command<'a>(alloc: Global) -> Result<Command<'a>, AllocError>
@@ -397,6 +402,20 @@ fn column_option<'a>(alloc: Global) -> Arg<'a>
         .action(ArgAction::Append)
         .help(
             "The name that the CSV has for a column of the table, where it is another one; for each such column once",
+        )
+}
+
+/// `--scale COLUMN=NUMBER`, as often as it is wanted.
+fn scale_option<'a>(alloc: Global) -> Arg<'a>
+    ensures rule { rule_of result ≡ scale_option }
+    ensures local { result.global ≡ false }
+{
+    Arg::new(alloc, "scale")
+        .long("scale")
+        .value_name("COLUMN=NUMBER")
+        .action(ArgAction::Append)
+        .help(
+            "A column whose numbers are multiplied by 10, 100 and so on up to 1000000, as length=10, so that 115.8 is 1158; for each such column once",
         )
 }
 

@@ -13,7 +13,7 @@ use Rattle.rs_csv_lines.specs.declared.plan.Column.{Column}
 use Rattle.rs_csv.specs.declared.filter.Wanted.{Wanted}
 use Rattle.rs_csv.specs.declared.names.Case.{Case}
 use Rattle.rs_csv.specs.declared.names.Case.TheVariants as cases
-use Rattle.rs_csv.specs.Header.{Has, HasNone, IsOnly, IsColumnOf, AreColumnsOf, IsCalled, Renames, is_equals}
+use Rattle.rs_csv.specs.Header.{Has, HasNone, IsOnly, IsColumnOf, AreColumnsOf, IsTold, Renames, is_equals}
 
 -- what was found among the places before one
 abbrev pub HasBelow : (ℕ → Type 0) → ℕ → Option ℕ → Type 0
@@ -91,17 +91,17 @@ pub words_at : (list : List (Bor (List ℕ))) (i : ℕ) (d : Bor (List ℕ)) →
 words_at list i d less =
     drop-map (λ (words : Bor (List ℕ)). words.now) i list ∙ (ap texts (drop_more list i d less) ∙ ap (λ rest. (get_or list i d).now ∷ rest) (sym (drop-map (λ (words : Bor (List ℕ)). words.now) (i + 1) list)))
 
--- the name that the words at a place give
-pub is_called_at : (list : List (Bor (List ℕ))) (i : ℕ) (d : Bor (List ℕ)) (column name : List ℕ) → i < length list → Renames (get_or list i d).now column name → IsCalled (drop i (map (λ words. words.now) list)) column name
-is_called_at list i d column name less renames = subst (λ rest. IsCalled rest column name) (sym (words_at list i d less)) (inl renames)
+-- what the words at a place tell
+pub told_at : (list : List (Bor (List ℕ))) (i : ℕ) (d : Bor (List ℕ)) (column fallback text : List ℕ) → i < length list → Renames (get_or list i d).now column text → IsTold (drop i (map (λ words. words.now) list)) column fallback text
+told_at list i d column fallback text less renames = subst (λ rest. IsTold rest column fallback text) (sym (words_at list i d less)) (inl renames)
 
--- those at a place give it none
-pub is_called_after : (list : List (Bor (List ℕ))) (i : ℕ) (d : Bor (List ℕ)) (column name : List ℕ) → i < length list → ((other : List ℕ) → ¬ Renames (get_or list i d).now column other)
-    → IsCalled (drop (i + 1) (map (λ words. words.now) list)) column name → IsCalled (drop i (map (λ words. words.now) list)) column name
-is_called_after list i d column name less none called = subst (λ rest. IsCalled rest column name) (sym (words_at list i d less)) (inr (none, called))
+-- those at a place tell nothing of it
+pub told_after : (list : List (Bor (List ℕ))) (i : ℕ) (d : Bor (List ℕ)) (column fallback text : List ℕ) → i < length list → ((other : List ℕ) → ¬ Renames (get_or list i d).now column other)
+    → IsTold (drop (i + 1) (map (λ words. words.now) list)) column fallback text → IsTold (drop i (map (λ words. words.now) list)) column fallback text
+told_after list i d column fallback text less none called = subst (λ rest. IsTold rest column fallback text) (sym (words_at list i d less)) (inr (none, called))
 
-pub is_called_itself : (list : List (Bor (List ℕ))) (i : ℕ) (column : List ℕ) → length list ≤ i → IsCalled (drop i (map (λ words. words.now) list)) column column
-is_called_itself list i column past = subst (λ rest. IsCalled rest column column) (sym (drop_all i (texts list) (omega (arith, length-map list (λ (words : Bor (List ℕ)). words.now))))) refl
+pub told_none : (list : List (Bor (List ℕ))) (i : ℕ) (column fallback : List ℕ) → length list ≤ i → IsTold (drop i (map (λ words. words.now) list)) column fallback fallback
+told_none list i column fallback past = subst (λ rest. IsTold rest column fallback fallback) (sym (drop_all i (texts list) (omega (arith, length-map list (λ (words : Bor (List ℕ)). words.now))))) refl
 
 pub not_cut : (words column : List ℕ) → position_or_len is_equals words ≡ length words → (other : List ℕ) → ¬ Renames words column other
 not_cut words column none other renames = let less = renames.0 in let wrong : ⊥ = omega arith in wrong

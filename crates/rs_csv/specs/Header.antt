@@ -1,5 +1,5 @@
 -- Which fields of a record a plan takes: those that have the names that are wanted in the header.
-use Rattle.std.specs.Prelude.{◌≡◌, ◌⊎◌, ℕ, ◌<◌, ◌==◌, Bool, List, [], ◌∷◌, length, map, Some}
+use Rattle.std.specs.Prelude.{◌≡◌, ◌⊎◌, ℕ, ◌<◌, ◌==◌, Bool, List, [], ◌∷◌, length, map, Some, codes}
 use Rattle.std.specs.List.{position_or_len, before_first, after_first}
 use Rattle.std.specs.Char.{to_ascii_lowercase}
 use Rattle.csv.specs.Records.{field_at}
@@ -8,8 +8,10 @@ use Rattle.rs_value.specs.declared.column.Kind.{Kind}
 use Rattle.rs_value.specs.declared.column.Kind.TheVariants as kinds
 use Rattle.rs_csv_lines.specs.declared.plan.Column.{Column}
 use Rattle.rs_csv_lines.specs.declared.plan.Place.{Place}
+use Rattle.rs_csv_lines.specs.declared.plan.Scale.{Scale}
 use Rattle.rs_csv_lines.specs.declared.plan.Place.TheVariants as places
 use Rattle.rs_csv_lines.specs.Fields.{content}
+use Rattle.rs_csv_lines.specs.Numbers.{scale_text}
 use Rattle.rs_csv.specs.declared.filter.Wanted.{Wanted}
 use Rattle.rs_csv.specs.declared.names.Case.{Case}
 use Rattle.rs_csv.specs.declared.names.Case.TheVariants as cases
@@ -58,14 +60,22 @@ IsFound Has found.Twice = Unit {0}
 abbrev pub is_equals : ℕ → Bool
 is_equals byte = byte == 61
 
--- the words are `column=name`, cut at their first `=`
+-- the words are `column=text`, cut at their first `=`
 abbrev pub Renames : List ℕ → List ℕ → List ℕ → Type 0
 Renames words column name = (position_or_len is_equals words < length words) × (before_first is_equals words ≡ column) × (after_first is_equals words ≡ name)
 
--- the name that is wanted for a column: the first `column=name` of the words gives it, or it is the column's own
+-- what words tell of a column: the first `column=text` of them gives it, or it is what is told of any other
+abbrev pub IsTold : List (List ℕ) → List ℕ → List ℕ → List ℕ → Type 0
+IsTold [] column fallback text = text ≡ fallback
+IsTold (words ∷ more) column fallback text = Renames words column text ⊎ (((other : List ℕ) → ¬ Renames words column other) × IsTold more column fallback text)
+
+-- the name that is wanted for a column is told so, or its own
 abbrev pub IsCalled : List (List ℕ) → List ℕ → List ℕ → Type 0
-IsCalled [] column name = name ≡ column
-IsCalled (words ∷ more) column name = Renames words column name ⊎ (((other : List ℕ) → ¬ Renames words column other) × IsCalled more column name)
+IsCalled words column name = IsTold words column column name
+
+-- the scale of a column is told so, or 1
+abbrev pub IsScaled : List (List ℕ) → List ℕ → Scale → Type 0
+IsScaled words column scale = IsTold words column (codes "1") (scale_text scale)
 
 -- ---- the fields of a plan
 
@@ -75,10 +85,11 @@ IsPlaceNamed wanted header kinds.Line (places.Along from to) = IsNamed header wa
 IsPlaceNamed wanted header kinds.Point (places.At at) = IsNamed header wanted.at.now at
 IsPlaceNamed wanted header _ _ = ⊥
 
--- the column of a plan is of the type of this column of the table, and takes the field that has the name that is wanted for it
+-- the column of a plan is of the type of this column of the table, takes the field that has the name that is wanted for it, and has its scale
 abbrev pub IsColumnOf : Wanted → List (List ℕ) → List ℕ × ColumnType → Column → Type 0
 IsColumnOf wanted header definition column =
     (column.column_type ≡ definition.1) × ((name : List ℕ) × IsCalled (map (λ words. words.now) wanted.columns.now) definition.0 name × IsNamed header name column.field)
+    × IsScaled (map (λ words. words.now) wanted.scales.now) definition.0 column.scale
 
 -- the same of each, in their order
 abbrev pub AreColumnsOf : Wanted → List (List ℕ) → List (List ℕ × ColumnType) → List Column → Type 0

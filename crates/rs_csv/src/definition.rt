@@ -5,11 +5,11 @@ ghost use Rattle.rs_csv.specs.Output.{IsDefinition};
 ghost use Rattle.rs_csv_lines.specs.Texts.{session_text};
 
 use crate::filter::Stop;
-use rs_csv_lines::write_words;
+use rs_csv_lines::{Scale, write_words};
 use rs_methods::Name;
 use rs_refusal::Refusal;
 use rs_syntax::{ColumnDefinition, Command};
-use rs_value::Kind;
+use rs_value::{ColumnType, Kind};
 use std::alloc::Global;
 
 /// A table as the words define it.
@@ -50,4 +50,33 @@ pub fn read_definition(alloc: Global, session: u8, words: &str) -> Result<Defini
         }),
         _ => Err(Stop::NoTable),
     }
+}
+
+// Whether these words say the scale of a column of numbers.
+fn is_scale(definition: &Definition, words: &str) -> bool {
+    let Some((name, text)) = words.split_once('=') else {
+        return false;
+    };
+    if Scale::from_text(text).is_none() {
+        return false;
+    }
+    for column in &definition.columns {
+        if column.name.as_str() == name {
+            return match column.column_type {
+                ColumnType::Int => true,
+                ColumnType::Text(_) => false,
+            };
+        }
+    }
+    false
+}
+
+/// Whether each of the words says the scale of a column of numbers, as `length=10`.
+pub fn are_scales(definition: &Definition, scales: &[&str]) -> bool {
+    for words in scales {
+        if !is_scale(definition, words) {
+            return false;
+        }
+    }
+    true
 }

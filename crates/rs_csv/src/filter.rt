@@ -12,7 +12,7 @@ ghost use Rattle.rs_csv.specs.Output.{Ends, EndsTaken, GoesFar, GoesOn, IsAsked,
 ghost use Rattle.rs_csv.specs.Reading.{ReadsAll};
 
 use crate::batch::{Batch, Taken};
-use crate::definition::{Definition, read_definition};
+use crate::definition::{Definition, are_scales, read_definition};
 use crate::head::{is_mark, read_head};
 use crate::header::make_plan;
 use crate::held::write_rest;
@@ -47,6 +47,8 @@ pub struct Wanted<'a> {
     pub separator: u8,
     /// `column=name`, where the CSV has another name for a column.
     pub columns: &'a [&'a str],
+    /// `column=number`, where the numbers of a column are to be multiplied.
+    pub scales: &'a [&'a str],
     /// Whether the line that defines the table is written.
     pub defines_table: bool,
     /// Whether lines that define the routes are written.
@@ -60,6 +62,8 @@ pub struct Wanted<'a> {
 pub enum Stop {
     /// The words define no table.
     NoTable,
+    /// They name a scale of no column of numbers, or a number that is no scale.
+    NoScale,
     /// The header lacks a column, or has it twice, which was told.
     NoColumn,
     /// A growth was refused.
@@ -516,7 +520,7 @@ fn end_lines<W: Write, E: Write>(
 
 /// Writes the lines of a CSV, and says whether something was told and left out. Where measures are rounded, it is told of how many.
 ///
-/// The lines are of the table that the words define. `NoTable` where the words define no table; `NoColumn` where the header lacks a column, which is told. Then nothing is written.
+/// The lines are of the table that the words define. `NoTable` where the words define no table, `NoScale` where they scale no column of numbers; `NoColumn` where the header lacks a column, which is told. Then nothing is written.
 pub fn write_lines<R: Read, W: Write, E: Write>(
     alloc: Global,
     wanted: Wanted<'_>,
@@ -535,6 +539,9 @@ pub fn write_lines<R: Read, W: Write, E: Write>(
         Ok(definition) => definition,
         Err(stop) => return Err(stop),
     };
+    if !are_scales(&definition, wanted.scales) {
+        return Err(Stop::NoScale);
+    }
     let job = Job {
         alloc,
         wanted,

@@ -3,14 +3,14 @@
 ghost use Rattle.std.specs.Prelude.{◌≡◌, ◌<◌, ℕ, List, IfOk, OnOk, map};
 ghost use Rattle.std.specs.Io.KnownBytes.{Keeps};
 ghost use Rattle.csv.specs.Records.{fields_of};
-ghost use Rattle.rs_csv.specs.Header.{IsCalled, IsNamed, IsPlaceNamed};
+ghost use Rattle.rs_csv.specs.Header.{IsCalled, IsNamed, IsPlaceNamed, IsScaled};
 ghost use Rattle.rs_csv.specs.Output.{IsDefinition, IsPlanOf, table_of};
 
 use crate::definition::Definition;
 use crate::filter::{Stop, Wanted};
 use crate::names::field_named;
 use csv::ByteRecord;
-use rs_csv_lines::{Column, Place, Plan};
+use rs_csv_lines::{Column, Place, Plan, Scale};
 use rs_value::Kind;
 use std::alloc::Global;
 use std::io::Write;
@@ -34,6 +34,23 @@ fn column_field<E: Write>(
         }
     }
     field_named(header, column, errors)
+}
+
+// What the numbers of a column are multiplied by: 1, where the words do not say so.
+fn column_scale(wanted: &Wanted<'_>, column: &str) -> Result<Scale, Stop>
+    ensures { IfOk result (λ scale. IsScaled (map (λ words. words.now) wanted.now.scales.now) column.now scale) }
+{
+    for telling in wanted.scales {
+        if let Some((name, text)) = telling.split_once('=') {
+            if name == column {
+                return match Scale::from_text(text) {
+                    Some(scale) => Ok(scale),
+                    None => Err(Stop::NoScale),
+                };
+            }
+        }
+    }
+    Ok(Scale::One)
 }
 
 // Which fields say the place of an event of this kind.
@@ -78,7 +95,12 @@ pub fn make_plan<E: Write>(
     for column in &definition.columns {
         let field = column_field(header, wanted, column.name.as_str(), errors)?;
         let column_type = column.column_type;
-        columns.push(Column { column_type, field })?;
+        let scale = column_scale(wanted, column.name.as_str())?;
+        columns.push(Column {
+            column_type,
+            field,
+            scale,
+        })?;
     }
     Ok(Plan {
         session: wanted.session,

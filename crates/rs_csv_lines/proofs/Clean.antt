@@ -29,6 +29,7 @@ use Rattle.rs_csv_lines.specs.declared.plan.Column.{Column}
 use Rattle.rs_csv_lines.specs.declared.plan.Place.{Place}
 use Rattle.rs_csv_lines.specs.declared.plan.Place.TheVariants as places
 use Rattle.rs_csv_lines.specs.Fields.{content, SaysName}
+use Rattle.rs_csv_lines.specs.declared.plan.Scale.{Scale}
 use Rattle.rs_csv_lines.specs.Texts.{session_text, position_text, signed_text, PutsPosition, PutsNumber, PutsDatum}
 use Rattle.rs_csv_lines.proofs.NumberTexts.{three_are}
 use Rattle.rs_csv_lines.specs.Inserts.{PutsPositionAt, PutsPlace, PutsFurther, PutsRow, insert_line}
@@ -126,17 +127,17 @@ signed_clean : (is_negative : Bool) (digits : List ℕ) → IsClean digits → I
 signed_clean true digits p = p
 signed_clean false digits p = p
 
-number_clean : (field : List ℕ) (datum : Datum) (bytes : List ℕ) → IsClean field → PutsNumber field datum bytes → IsClean bytes
-number_clean field datum bytes p (inl puts) = subst IsClean (sym puts.4) (signed_clean puts.0 (token_text field puts.1) (clean_token field puts.1 p))
-number_clean field datum bytes p (inr puts) = subst IsClean (sym puts.4) (signed_clean puts.0 (decimal puts.1) (digits_clean (decimal puts.1) (digits_decimal numerals puts.1 (omega (arith, puts.2.few)))))
+number_clean : (scale : Scale) (field : List ℕ) (datum : Datum) (bytes : List ℕ) → IsClean field → PutsNumber scale field datum bytes → IsClean bytes
+number_clean scale field datum bytes p (inl puts) = subst IsClean (sym puts.4) (signed_clean puts.0 (token_text field puts.1) (clean_token field puts.1 p))
+number_clean scale field datum bytes p (inr puts) = subst IsClean (sym puts.4) (signed_clean puts.0 (decimal puts.1) (digits_clean (decimal puts.1) (digits_decimal numerals puts.1 (omega (arith, puts.2.few)))))
 
-datum_clean : (type : ColumnType) (field : List ℕ) (datum : Datum) (bytes : List ℕ) → IsClean (content field) → PutsDatum type field datum bytes → IsClean bytes
-datum_clean type [] datum bytes p puts = null_clean datum bytes puts
+datum_clean : (type : ColumnType) (scale : Scale) (field : List ℕ) (datum : Datum) (bytes : List ℕ) → IsClean (content field) → PutsDatum type scale field datum bytes → IsClean bytes
+datum_clean type scale [] datum bytes p puts = null_clean datum bytes puts
   where
     null_clean : (datum : Datum) (bytes : List ℕ) → (datum ≡ null) × (bytes ≡ codes "NULL") → IsClean bytes
     null_clean datum bytes puts = subst IsClean (sym puts.1) refl
-datum_clean types.Int (byte ∷ rest) datum bytes p puts = number_clean (content (byte ∷ rest)) datum bytes p puts
-datum_clean (types.Text most) (byte ∷ rest) datum bytes p puts =
+datum_clean types.Int scale (byte ∷ rest) datum bytes p puts = number_clean scale (content (byte ∷ rest)) datum bytes p puts
+datum_clean (types.Text most) scale (byte ∷ rest) datum bytes p puts =
     subst IsClean (sym puts.1) (clean_append (codes "'" ++ quotes_doubled (content (byte ∷ rest))) (codes "'") (doubled_clean (content (byte ∷ rest)) p) refl)
 
 module _ (rounds : Bool) (fields : List (List ℕ)) where
@@ -161,7 +162,7 @@ module _ (rounds : Bool) (fields : List (List ℕ)) where
   further_clean [] [] bytes puts = subst IsClean (sym puts) refl
   further_clean (column ∷ columns) (datum ∷ row) bytes puts =
       subst IsClean (sym puts.4)
-      (clean_append (codes ", " ++ puts.0) puts.1 (clean_append (codes ", ") puts.0 refl (datum_clean column.column_type puts.2.0 datum puts.0 (clean_text (content puts.2.0) puts.2.2) puts.2.3))
+      (clean_append (codes ", " ++ puts.0) puts.1 (clean_append (codes ", ") puts.0 refl (datum_clean column.column_type column.scale puts.2.0 datum puts.0 (clean_text (content puts.2.0) puts.2.2) puts.2.3))
       (further_clean columns row puts.1 puts.3))
   further_clean [] (datum ∷ row) bytes puts = elim puts [ ]
   further_clean (column ∷ columns) [] bytes puts = elim puts [ ]
@@ -169,7 +170,7 @@ module _ (rounds : Bool) (fields : List (List ℕ)) where
   row_clean : (columns : List Column) (row : Row) (bytes : List ℕ) → PutsRow fields columns row bytes → IsClean bytes
   row_clean (column ∷ columns) (datum ∷ row) bytes puts =
       subst IsClean (sym puts.4)
-      (clean_append puts.0 puts.1 (datum_clean column.column_type puts.2.0 datum puts.0 (clean_text (content puts.2.0) puts.2.2) puts.2.3) (further_clean columns row puts.1 puts.3))
+      (clean_append puts.0 puts.1 (datum_clean column.column_type column.scale puts.2.0 datum puts.0 (clean_text (content puts.2.0) puts.2.2) puts.2.3) (further_clean columns row puts.1 puts.3))
   row_clean [] row bytes puts = elim puts [ ]
   row_clean (column ∷ columns) [] bytes puts = elim puts [ ]
 

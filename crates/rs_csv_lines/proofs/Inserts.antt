@@ -19,6 +19,7 @@ use Rattle.rs_csv_lines.specs.declared.plan.Column.{Column}
 use Rattle.rs_csv_lines.specs.declared.plan.Place.{Place}
 use Rattle.rs_csv_lines.specs.declared.plan.Place.TheVariants as places
 use Rattle.rs_csv_lines.specs.declared.plan.Plan.{Plan}
+use Rattle.rs_csv_lines.specs.declared.plan.Scale.{Scale}
 use Rattle.rs_csv_lines.specs.Fields.{content, SaysName, TellsPosition, TellsNumber, TellsDatum}
 use Rattle.rs_csv_lines.specs.Texts.{session_text, PutsPosition, PutsNumber, PutsDatum}
 use Rattle.rs_csv_lines.specs.Inserts.{TellsRoute, TellsPositionAt, TellsPlace, TellsRow, IsInsertOf, PutsPositionAt, PutsPlace, PutsFurther, PutsRow, insert_line}
@@ -48,15 +49,15 @@ position_told : (rounds : Bool) (field : List ℕ) (position : PositionExpressio
 position_told rounds field position bytes (inl puts) = inl (puts.0, puts.1)
 position_told rounds field position bytes (inr puts) = inr (puts.0, puts.1, puts.2)
 
-number_told : (field : List ℕ) (datum : Datum) (bytes : List ℕ) → PutsNumber field datum bytes → TellsNumber field datum
-number_told field datum bytes (inl puts) = inl (puts.0, puts.1, puts.2, puts.3)
-number_told field datum bytes (inr puts) = inr (puts.0, puts.1, puts.2, puts.3)
+number_told : (scale : Scale) (field : List ℕ) (datum : Datum) (bytes : List ℕ) → PutsNumber scale field datum bytes → TellsNumber scale field datum
+number_told scale field datum bytes (inl puts) = inl (puts.0, puts.1, puts.2, puts.3, puts.5)
+number_told scale field datum bytes (inr puts) = inr (puts.0, puts.1, puts.2, puts.3)
 
-datum_told : (type : ColumnType) (field : List ℕ) (datum : Datum) (bytes : List ℕ) → PutsDatum type field datum bytes → TellsDatum type field datum
-datum_told types.Int [] datum bytes puts = puts.0
-datum_told (types.Text most) [] datum bytes puts = puts.0
-datum_told types.Int (byte ∷ rest) datum bytes puts = number_told (content (byte ∷ rest)) datum bytes puts
-datum_told (types.Text most) (byte ∷ rest) datum bytes puts = puts.0
+datum_told : (type : ColumnType) (scale : Scale) (field : List ℕ) (datum : Datum) (bytes : List ℕ) → PutsDatum type scale field datum bytes → TellsDatum type scale field datum
+datum_told types.Int scale [] datum bytes puts = puts.0
+datum_told (types.Text most) scale [] datum bytes puts = puts.0
+datum_told types.Int scale (byte ∷ rest) datum bytes puts = number_told scale (content (byte ∷ rest)) datum bytes puts
+datum_told (types.Text most) scale (byte ∷ rest) datum bytes puts = puts.0
 
 module _ (rounds : Bool) (fields : List (List ℕ)) where
   position_at_told : (i : ℕ) (position : PositionExpression) (bytes : List ℕ) → PutsPositionAt rounds fields i position bytes → TellsPositionAt rounds fields i position
@@ -73,14 +74,14 @@ module _ (fields : List (List ℕ)) where
   further_told [] [] bytes puts = tt
   further_told (column ∷ columns) (datum ∷ row) bytes puts =
       let one = puts.2 in
-      ((one.0, one.1, one.2, datum_told column.column_type one.0 datum puts.0 one.3), further_told columns row puts.1 puts.3)
+      ((one.0, one.1, one.2, datum_told column.column_type column.scale one.0 datum puts.0 one.3), further_told columns row puts.1 puts.3)
   further_told [] (datum ∷ row) bytes puts = elim puts [ ]
   further_told (column ∷ columns) [] bytes puts = elim puts [ ]
 
   row_told : (columns : List Column) (row : Row) (bytes : List ℕ) → PutsRow fields columns row bytes → TellsRow fields columns row
   row_told (column ∷ columns) (datum ∷ row) bytes puts =
       let one = puts.2 in
-      ((one.0, one.1, one.2, datum_told column.column_type one.0 datum puts.0 one.3), further_told columns row puts.1 puts.3)
+      ((one.0, one.1, one.2, datum_told column.column_type column.scale one.0 datum puts.0 one.3), further_told columns row puts.1 puts.3)
   row_told [] row bytes puts = elim puts [ ]
   row_told (column ∷ columns) [] bytes puts = elim puts [ ]
 

@@ -9,6 +9,7 @@ use Rattle.rs_value.specs.Row.{Datum, Row, text}
 use Rattle.rs_value.specs.Text.{datum_text}
 use Rattle.rs_syntax.specs.Tree.{along, at_point}
 use Rattle.rs_csv_lines.specs.declared.plan.Column.{Column}
+use Rattle.rs_csv_lines.specs.declared.plan.Scale.{Scale}
 use Rattle.rs_csv_lines.specs.declared.plan.Place.{Place}
 use Rattle.rs_csv_lines.specs.declared.plan.Place.TheVariants as places
 use Rattle.rs_csv_lines.specs.Fields.{content}
@@ -24,24 +25,24 @@ filled : (bytes : List ℕ) (is_empty : Bool) (field : List ℕ) (Puts : List �
 filled bytes is_empty [] Puts has other each = absurd (false≢true (sym other ∙ has.1.1 refl))
 filled bytes is_empty (byte ∷ rest) Puts has other each = each byte rest has.0
 
-pub puts_number : (fields : List (List ℕ)) (i : ℕ) (type : ColumnType) (bytes : List ℕ) (is_empty : Bool) (datum : Datum) (put : List ℕ) → Field fields i (HasText bytes is_empty) → is_empty ≡ false → type ≡ types.Int
-    → PutsNumber bytes datum put → Field fields i (λ field. PutsDatum type field datum put)
-puts_number fields i type bytes is_empty datum put found other is puts = (
+pub puts_number : (fields : List (List ℕ)) (i : ℕ) (type : ColumnType) (scale : Scale) (bytes : List ℕ) (is_empty : Bool) (datum : Datum) (put : List ℕ) → Field fields i (HasText bytes is_empty) → is_empty ≡ false → type ≡ types.Int
+    → PutsNumber scale bytes datum put → Field fields i (λ field. PutsDatum type scale field datum put)
+puts_number fields i type scale bytes is_empty datum put found other is puts = (
   found.0,
   found.1,
   found.2,
-  subst (λ t. PutsDatum t found.0 datum put) (sym is)
-      (filled bytes is_empty found.0 (λ field. PutsDatum types.Int field datum put) found.3 other (λ byte rest same. subst (λ bs. PutsNumber bs datum put) same puts)),
+  subst (λ t. PutsDatum t scale found.0 datum put) (sym is)
+      (filled bytes is_empty found.0 (λ field. PutsDatum types.Int scale field datum put) found.3 other (λ byte rest same. subst (λ bs. PutsNumber scale bs datum put) same puts)),
 )
 
-pub puts_text : (fields : List (List ℕ)) (i most : ℕ) (type : ColumnType) (bytes : List ℕ) (is_empty : Bool) → Field fields i (HasText bytes is_empty) → is_empty ≡ false → type ≡ types.Text most
-    → Field fields i (λ field. PutsDatum type field (text bytes) (datum_text (text bytes)))
-puts_text fields i most type bytes is_empty found other is = (
+pub puts_text : (fields : List (List ℕ)) (i most : ℕ) (type : ColumnType) (scale : Scale) (bytes : List ℕ) (is_empty : Bool) → Field fields i (HasText bytes is_empty) → is_empty ≡ false → type ≡ types.Text most
+    → Field fields i (λ field. PutsDatum type scale field (text bytes) (datum_text (text bytes)))
+puts_text fields i most type scale bytes is_empty found other is = (
   found.0,
   found.1,
   found.2,
-  subst (λ t. PutsDatum t found.0 (text bytes) (datum_text (text bytes))) (sym is)
-      (filled bytes is_empty found.0 (λ field. PutsDatum (types.Text most) field (text bytes) (datum_text (text bytes))) found.3 other (λ byte rest same. (ap text same, ap (λ bs. datum_text (text bs)) same))),
+  subst (λ t. PutsDatum t scale found.0 (text bytes) (datum_text (text bytes))) (sym is)
+      (filled bytes is_empty found.0 (λ field. PutsDatum (types.Text most) scale field (text bytes) (datum_text (text bytes))) found.3 other (λ byte rest same. (ap text same, ap (λ bs. datum_text (text bs)) same))),
 )
 
 pub two_more : (old first last a b : List ℕ) → first ≡ old ++ a → last ≡ first ++ b → last ≡ old ++ (a ++ b)
@@ -71,7 +72,7 @@ abbrev pub Further : List (List ℕ) → List Column → List ℕ → List ℕ �
 Further fields columns before after = (row : Row) × (bytes : List ℕ) × PutsFurther fields columns row bytes × (after ≡ before ++ bytes)
 
 abbrev pub One : List (List ℕ) → Column → List ℕ → List ℕ → Type 0
-One fields column before after = (datum : Datum) × (bytes : List ℕ) × Field fields column.field (λ field. PutsDatum column.column_type field datum bytes) × (after ≡ before ++ bytes)
+One fields column before after = (datum : Datum) × (bytes : List ℕ) × Field fields column.field (λ field. PutsDatum column.column_type column.scale field datum bytes) × (after ≡ before ++ bytes)
 
 pub more_further : (fields : List (List ℕ)) (columns : List Column) (column : Column) (others : List Column) (before first second last : List ℕ) → columns ≡ column ∷ others → first ≡ before ++ codes ", " → One fields column first second
     → Further fields others second last → Further fields columns before last

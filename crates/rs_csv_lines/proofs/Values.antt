@@ -19,6 +19,7 @@ use Rattle.rs_syntax.specs.declared.written.WrittenValue.TheVariants as written_
 use Rattle.rs_syntax.specs.Written.{mark, lexeme_of, lexemes_of, value_lexemes, further_lexemes, list_lexemes, signed, unquoted, unquoted_rest, AreToldOf, SaysDatum, SaysRow}
 use Rattle.rs_syntax.proofs.VerdictLaws.{told_of}
 use Rattle.rs_csv_lines.specs.declared.plan.Column.{Column}
+use Rattle.rs_csv_lines.specs.declared.plan.Scale.{Scale}
 use Rattle.rs_csv_lines.specs.Fields.{content, SpellsNumber}
 use Rattle.rs_csv_lines.specs.Texts.{signed_text, PutsNumber, PutsDatum}
 use Rattle.rs_csv_lines.specs.Inserts.{PutsFurther, PutsRow}
@@ -126,27 +127,27 @@ module _ (line : List ℕ) (place : ℕ) (rest : List ℕ) (ends : Ends rest) wh
   spelled_kind : (field : List ℕ) (is_negative : Bool) (digits : Token) → SpellsNumber field is_negative digits → token_kind (token_text field digits) ≡ Some kinds.Whole
   spelled_kind field is_negative digits spells = whole_of field is_negative digits (subst (AreToldOf field) spells.spelled (told_of field spells.tokens (cut_inside field spells.cut)))
 
-  number_stands : (field : List ℕ) (datum : Datum) (bytes : List ℕ) → PutsNumber field datum bytes → drop place line ≡ bytes ++ rest → ValueStands line place (place + length bytes) datum
-  number_stands field datum bytes (inl puts) at =
+  number_stands : (scale : Scale) (field : List ℕ) (datum : Datum) (bytes : List ℕ) → PutsNumber scale field datum bytes → drop place line ≡ bytes ++ rest → ValueStands line place (place + length bytes) datum
+  number_stands scale field datum bytes (inl puts) at =
       let digits = token_text field puts.1 in
       subst (λ d. ValueStands line place (place + length bytes) d) (sym puts.3)
       (subst (λ bs. ValueStands line place (place + length bs) (number (signed puts.0 (number_of_digits digits)))) (sym puts.4)
       (digits_stand puts.0 digits (spelled_kind field puts.0 puts.1 puts.2) puts.2.few (at ∙ ap (λ bs. bs ++ rest) puts.4)))
-  number_stands field datum bytes (inr puts) at =
+  number_stands scale field datum bytes (inr puts) at =
       let said = amount_said puts.1 puts.2.few in
       subst (λ d. ValueStands line place (place + length bytes) d) (ap (λ n. number (signed puts.0 n)) said ∙ sym puts.3)
       (subst (λ bs. ValueStands line place (place + length bs) (number (signed puts.0 (number_of_digits (decimal puts.1))))) (sym puts.4)
       (digits_stand puts.0 (decimal puts.1) (printed_amount puts.1 puts.2.few) (subst (λ n. n ≤ 10 ^ 12) (sym said) puts.2.few) (at ∙ ap (λ bs. bs ++ rest) puts.4)))
 
-  pub value_stands : (type : ColumnType) (field : List ℕ) (datum : Datum) (bytes : List ℕ) → PutsDatum type field datum bytes → drop place line ≡ bytes ++ rest → ValueStands line place (place + length bytes) datum
-  value_stands type [] datum bytes puts at = at_null datum bytes puts at
+  pub value_stands : (type : ColumnType) (scale : Scale) (field : List ℕ) (datum : Datum) (bytes : List ℕ) → PutsDatum type scale field datum bytes → drop place line ≡ bytes ++ rest → ValueStands line place (place + length bytes) datum
+  value_stands type scale [] datum bytes puts at = at_null datum bytes puts at
     where
       at_null : (datum : Datum) (bytes : List ℕ) → (datum ≡ null) × (bytes ≡ codes "NULL") → drop place line ≡ bytes ++ rest → ValueStands line place (place + length bytes) datum
       at_null datum bytes puts at =
           subst (λ d. ValueStands line place (place + length bytes) d) (sym puts.0)
           (subst (λ bs. ValueStands line place (place + length bs) null) (sym puts.1) (null_stands (at ∙ ap (λ bs. bs ++ rest) puts.1)))
-  value_stands types.Int (byte ∷ field) datum bytes puts at = number_stands (content (byte ∷ field)) datum bytes puts at
-  value_stands (types.Text most) (byte ∷ field) datum bytes puts at =
+  value_stands types.Int scale (byte ∷ field) datum bytes puts at = number_stands scale (content (byte ∷ field)) datum bytes puts at
+  value_stands (types.Text most) scale (byte ∷ field) datum bytes puts at =
       subst (λ d. ValueStands line place (place + length bytes) d) (sym puts.0)
       (subst (λ bs. ValueStands line place (place + length bs) (text (content (byte ∷ field)))) (sym puts.1) (text_stands (content (byte ∷ field)) (at ∙ ap (λ bs. bs ++ rest) puts.1)))
 
@@ -238,7 +239,7 @@ module _ (line : List ℕ) (fields : List (List ℕ)) where
       let whole : drop place line ≡ codes ", " ++ (one ++ (others ++ 41 ∷ rest)) =
       at ∙ ap (λ bs. bs ++ (41 ∷ rest)) puts.4 ∙ append_assoc (codes ", " ++ one) others (41 ∷ rest) in
       let first : drop (place + 2) line ≡ one ++ (others ++ 41 ∷ rest) = after_here line place (codes ", ") (one ++ (others ++ 41 ∷ rest)) whole in
-      let value = value_stands line (place + 2) (others ++ 41 ∷ rest) (further_ends columns row others rest puts.3) column.column_type puts.2.0 datum one puts.2.3 first in
+      let value = value_stands line (place + 2) (others ++ 41 ∷ rest) (further_ends columns row others rest puts.3) column.column_type column.scale puts.2.0 datum one puts.2.3 first in
       let more = further_stand columns row others (place + 2 + length one) rest puts.3 (after_here line (place + 2) one (others ++ 41 ∷ rest) first) in
       let end : place + 2 + length one + length others ≡ place + length bytes = omega (arith, ap length puts.4, length-append (codes ", " ++ one) others) in
       subst (λ n. FurtherStand line place n (datum ∷ row)) end
@@ -252,7 +253,7 @@ module _ (line : List ℕ) (fields : List (List ℕ)) where
       let one = puts.0 in
       let others = puts.1 in
       let first : drop place line ≡ one ++ (others ++ 41 ∷ rest) = at ∙ ap (λ bs. bs ++ (41 ∷ rest)) puts.4 ∙ append_assoc one others (41 ∷ rest) in
-      let value = value_stands line place (others ++ 41 ∷ rest) (further_ends columns row others rest puts.3) column.column_type puts.2.0 datum one puts.2.3 first in
+      let value = value_stands line place (others ++ 41 ∷ rest) (further_ends columns row others rest puts.3) column.column_type column.scale puts.2.0 datum one puts.2.3 first in
       let more = further_stand columns row others (place + length one) rest puts.3 (after_here line place one (others ++ 41 ∷ rest) first) in
       let end : place + length one + length others ≡ place + length bytes = omega (arith, ap length puts.4, length-append one others) in
       subst (λ n. RowStands line place n (datum ∷ row)) end (join line place (place + length one) (place + length one + length others) datum row value more)

@@ -14,6 +14,8 @@ use Rattle.rs_value.specs.Row.{Datum, null, number, text}
 use Rattle.rs_syntax.specs.declared.written.WrittenValue.TheVariants as written_values
 use Rattle.rs_syntax.specs.declared.written.WrittenPosition.{WrittenPosition}
 use Rattle.rs_syntax.specs.Written.{lexemes_of, position_lexemes, value_lexemes, signed, SaysPosition}
+use Rattle.rs_csv_lines.specs.declared.plan.Scale.{Scale}
+use Rattle.rs_csv_lines.specs.declared.plan.Scale.TheVariants as scales
 use Rattle.rs_csv_lines.specs.Numbers.{WritesMeasure, WritesWhole}
 
 -- the quote of a record
@@ -52,14 +54,14 @@ abbrev pub TellsPosition : Bool → List ℕ → PositionExpression → Type 0
 TellsPosition rounds bytes position = ((written : WrittenPosition) × SpellsPosition bytes written position)
     ⊎ ((thousandths : ℕ) × WritesMeasure rounds bytes thousandths × (position ≡ absolute thousandths))
 
--- A field says a number of the grammar, or a whole number as offices write it.
-abbrev pub TellsNumber : List ℕ → Datum → Type 0
-TellsNumber bytes datum =
-    ((is_negative : Bool) × (digits : Token) × SpellsNumber bytes is_negative digits × (datum ≡ number (signed is_negative (number_of_digits (token_text bytes digits)))))
-    ⊎ ((is_negative : Bool) × (amount : ℕ) × WritesWhole bytes is_negative amount × (datum ≡ number (signed is_negative amount)))
+-- A field says a number of the grammar, which is not multiplied, or a number as offices write it that times the scale is a whole one.
+abbrev pub TellsNumber : Scale → List ℕ → Datum → Type 0
+TellsNumber scale bytes datum =
+    ((is_negative : Bool) × (digits : Token) × SpellsNumber bytes is_negative digits × (datum ≡ number (signed is_negative (number_of_digits (token_text bytes digits)))) × (scale ≡ scales.One))
+    ⊎ ((is_negative : Bool) × (amount : ℕ) × WritesWhole scale bytes is_negative amount × (datum ≡ number (signed is_negative amount)))
 
 -- What a field says in a column: nothing is NULL; in a column of numbers it is a number, in one of texts its own text.
-abbrev pub TellsDatum : ColumnType → List ℕ → Datum → Type 0
-TellsDatum type [] datum = datum ≡ null
-TellsDatum types.Int (byte ∷ bytes) datum = TellsNumber (content (byte ∷ bytes)) datum
-TellsDatum (types.Text most) (byte ∷ bytes) datum = datum ≡ text (content (byte ∷ bytes))
+abbrev pub TellsDatum : ColumnType → Scale → List ℕ → Datum → Type 0
+TellsDatum type scale [] datum = datum ≡ null
+TellsDatum types.Int scale (byte ∷ bytes) datum = TellsNumber scale (content (byte ∷ bytes)) datum
+TellsDatum (types.Text most) scale (byte ∷ bytes) datum = datum ≡ text (content (byte ∷ bytes))

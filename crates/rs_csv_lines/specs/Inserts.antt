@@ -31,7 +31,7 @@ TellsPlace rounds fields _ _ = ⊥
 -- the values of the record, in the columns' order
 abbrev pub TellsRow : List (List ℕ) → List Column → Row → Type 0
 TellsRow fields [] [] = Unit {0}
-TellsRow fields (column ∷ columns) (datum ∷ row) = Field fields column.field (λ field. TellsDatum column.column_type field datum) × TellsRow fields columns row
+TellsRow fields (column ∷ columns) (datum ∷ row) = Field fields column.field (λ field. TellsDatum column.column_type column.scale field datum) × TellsRow fields columns row
 TellsRow fields _ _ = ⊥
 
 -- The command is the INSERT of the record: into the table, on its route, at its place, with its values.
@@ -61,14 +61,14 @@ PutsPlace rounds fields _ _ _ = ⊥
 abbrev pub PutsFurther : List (List ℕ) → List Column → Row → List ℕ → Type 0
 PutsFurther fields [] [] bytes = bytes ≡ []
 PutsFurther fields (column ∷ columns) (datum ∷ row) bytes =
-    (one : List ℕ) × (others : List ℕ) × Field fields column.field (λ field. PutsDatum column.column_type field datum one)
+    (one : List ℕ) × (others : List ℕ) × Field fields column.field (λ field. PutsDatum column.column_type column.scale field datum one)
     × PutsFurther fields columns row others × (bytes ≡ codes ", " ++ one ++ others)
 PutsFurther fields _ _ _ = ⊥
 
 -- the values, with a comma and a blank between them
 abbrev pub PutsRow : List (List ℕ) → List Column → Row → List ℕ → Type 0
 PutsRow fields (column ∷ columns) (datum ∷ row) bytes =
-    (one : List ℕ) × (others : List ℕ) × Field fields column.field (λ field. PutsDatum column.column_type field datum one)
+    (one : List ℕ) × (others : List ℕ) × Field fields column.field (λ field. PutsDatum column.column_type column.scale field datum one)
     × PutsFurther fields columns row others × (bytes ≡ one ++ others)
 PutsRow fields _ _ _ = ⊥
 

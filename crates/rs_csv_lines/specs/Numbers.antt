@@ -4,6 +4,8 @@ use Rattle.rs_measure.specs.FixedPoint.{number_of_digits, AreDigits}
 use Rattle.rs_measure.specs.Measure.{IsMeasure}
 use Rattle.rs_csv_lines.specs.declared.numbers.Rest.{Rest}
 use Rattle.rs_csv_lines.specs.declared.numbers.Rest.TheVariants as rests
+use Rattle.rs_csv_lines.specs.declared.plan.Scale.{Scale}
+use Rattle.rs_csv_lines.specs.declared.plan.Scale.TheVariants as scales
 
 -- blanks alone
 abbrev pub AreBlanks : List ℕ → Type 0
@@ -74,10 +76,32 @@ pub record WritesMeasure (rounds : Bool) (text : List ℕ) (thousandths : ℕ) :
   pub read : AreReadUnits rounds 3 whole decimals thousandths
   pub in_range : IsMeasure thousandths
 
--- The text is this whole number of at most 10^12, after a minus sign or not.
-pub record WritesWhole (text : List ℕ) (is_negative : Bool) (amount : ℕ) : Type 0 where
+-- ---- numbers that are multiplied
+
+-- how many zeros a scale has
+abbrev pub places_of : Scale → ℕ
+places_of scales.One = 0
+places_of scales.Ten = 1
+places_of scales.Hundred = 2
+places_of scales.Thousand = 3
+places_of scales.TenThousand = 4
+places_of scales.HundredThousand = 5
+places_of scales.Million = 6
+
+-- it in digits
+abbrev pub scale_text : Scale → List ℕ
+scale_text scales.One = codes "1"
+scale_text scales.Ten = codes "10"
+scale_text scales.Hundred = codes "100"
+scale_text scales.Thousand = codes "1000"
+scale_text scales.TenThousand = codes "10000"
+scale_text scales.HundredThousand = codes "100000"
+scale_text scales.Million = codes "1000000"
+
+-- The text times the scale is this whole number of at most 10^12, after a minus sign or not.
+pub record WritesWhole (scale : Scale) (text : List ℕ) (is_negative : Bool) (amount : ℕ) : Type 0 where
   pub whole : List ℕ
   pub decimals : List ℕ
   pub written : WritesNumber text is_negative whole decimals
-  pub read : AreUnits 0 whole decimals amount
+  pub read : AreUnits (places_of scale) whole decimals amount
   pub few : amount ≤ 10 ^ 12

@@ -12,6 +12,8 @@ use Rattle.rs_value.specs.Text.{datum_text}
 use Rattle.rs_syntax.specs.declared.written.WrittenPosition.{WrittenPosition}
 use Rattle.rs_syntax.specs.declared.written.WrittenPosition.TheVariants as written_positions
 use Rattle.rs_syntax.specs.Written.{signed}
+use Rattle.rs_csv_lines.specs.declared.plan.Scale.{Scale}
+use Rattle.rs_csv_lines.specs.declared.plan.Scale.TheVariants as scales
 use Rattle.rs_csv_lines.specs.Fields.{content, SpellsPosition, SpellsNumber}
 use Rattle.rs_csv_lines.specs.Numbers.{WritesMeasure, WritesWhole}
 
@@ -38,16 +40,16 @@ signed_text true digits = codes "-" ++ digits
 signed_text false digits = digits
 
 -- the text is put for a field that says the number: the sign and the digits that spell it, or its own
-abbrev pub PutsNumber : List ℕ → Datum → List ℕ → Type 0
-PutsNumber field datum bytes =
+abbrev pub PutsNumber : Scale → List ℕ → Datum → List ℕ → Type 0
+PutsNumber scale field datum bytes =
     ((is_negative : Bool) × (digits : Token) × SpellsNumber field is_negative digits
-    × (datum ≡ number (signed is_negative (number_of_digits (token_text field digits)))) × (bytes ≡ signed_text is_negative (token_text field digits)))
-    ⊎ ((is_negative : Bool) × (amount : ℕ) × WritesWhole field is_negative amount
+    × (datum ≡ number (signed is_negative (number_of_digits (token_text field digits)))) × (bytes ≡ signed_text is_negative (token_text field digits)) × (scale ≡ scales.One))
+    ⊎ ((is_negative : Bool) × (amount : ℕ) × WritesWhole scale field is_negative amount
     × (datum ≡ number (signed is_negative amount)) × (bytes ≡ signed_text is_negative (decimal amount)))
 
 -- the text is put for a field of a column that says the datum
-abbrev pub PutsDatum : ColumnType → List ℕ → Datum → List ℕ → Type 0
-PutsDatum type [] datum bytes = (datum ≡ null) × (bytes ≡ codes "NULL")
-PutsDatum types.Int (byte ∷ rest) datum bytes = PutsNumber (content (byte ∷ rest)) datum bytes
-PutsDatum (types.Text most) (byte ∷ rest) datum bytes = (datum ≡ text (content (byte ∷ rest)))
+abbrev pub PutsDatum : ColumnType → Scale → List ℕ → Datum → List ℕ → Type 0
+PutsDatum type scale [] datum bytes = (datum ≡ null) × (bytes ≡ codes "NULL")
+PutsDatum types.Int scale (byte ∷ rest) datum bytes = PutsNumber scale (content (byte ∷ rest)) datum bytes
+PutsDatum (types.Text most) scale (byte ∷ rest) datum bytes = (datum ≡ text (content (byte ∷ rest)))
     × (bytes ≡ datum_text (text (content (byte ∷ rest))))

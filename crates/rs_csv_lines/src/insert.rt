@@ -87,7 +87,14 @@ fn put_further(
         None => Ok(()),
         Some((column, others)) => {
             line.push_str(", ")?;
-            put_value(alloc, csv_record, column.field, column.column_type, line)?;
+            put_value(
+                alloc,
+                csv_record,
+                column.field,
+                column.column_type,
+                column.scale,
+                line,
+            )?;
             put_further(alloc, csv_record, others, line)
         }
     }
@@ -107,7 +114,14 @@ fn put_row(
     match columns.split_first() {
         None => unreachable!(),
         Some((column, others)) => {
-            put_value(alloc, csv_record, column.field, column.column_type, line)?;
+            put_value(
+                alloc,
+                csv_record,
+                column.field,
+                column.column_type,
+                column.scale,
+                line,
+            )?;
             put_further(alloc, csv_record, others, line)
         }
     }

@@ -11,5 +11,5 @@ pub mod put;
 pub mod words;
 
 pub use insert::{Ends, Event, write_insert};
-pub use plan::{Cause, Column, Misfit, Place, Plan};
+pub use plan::{Cause, Column, Misfit, Place, Plan, Scale};
 pub use words::write_words;

@@ -4,7 +4,7 @@ ghost use Rattle.std.specs.Prelude.{◌≡◌, ◌↔◌, ◌⊎◌, ◌+◌, �
 ghost use Rattle.rs_measure.specs.FixedPoint.{number_from, number_of_digits, AreDigits};
 ghost use Rattle.rs_csv_lines.specs.Numbers.{AreBlanks, AreReadUnits, AreUnits, IsRest, IsRounded, IsSign, WritesMeasure, WritesNumber, WritesWhole};
 
-use crate::plan::Cause;
+use crate::plan::{Cause, Scale};
 use rs_measure::{GREATEST_MEASURE, Measure};
 
 /// The greatest number of a column.
@@ -277,14 +277,14 @@ pub fn written_measure(text: &[u8], rounds: bool) -> Result<(Measure, bool), Cau
     Ok((measure, units.is_rounded))
 }
 
-/// The whole number that a text is written as: whether a minus sign stands before it, and how much it is.
-pub fn written_whole(text: &[u8]) -> Result<(bool, u64), Cause>
-    ensures { IfOk result (λ found. WritesWhole text.now found.0 found.1) }
+/// The whole number that a text is written as, once it is multiplied: whether a minus sign stands before it, and how much it is.
+pub fn written_whole(text: &[u8], scale: Scale) -> Result<(bool, u64), Cause>
+    ensures { IfOk result (λ found. WritesWhole scale text.now found.0 found.1) }
 {
     let Some(number) = written_number(text) else {
         return Err(Cause::NotNumber);
     };
-    match read_units(&number, 0, GREATEST_WHOLE, false) {
+    match read_units(&number, scale.places(), GREATEST_WHOLE, false) {
         Ok(units) => Ok((number.is_negative, units.count)),
         Err(Cause::PastGreatest) => Err(Cause::LargeNumber),
         Err(_) => Err(Cause::Decimal),

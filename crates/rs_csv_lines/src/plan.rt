@@ -2,9 +2,75 @@
 //!
 //! A plan says which column of the CSV gives the route, the place and each value of the table.
 
+ghost use Rattle.std.specs.Prelude.{◌≡◌, ◌≤◌, IfSome, false};
+ghost use Rattle.rs_csv_lines.specs.Numbers.{places_of, scale_text};
+
 use rs_methods::Name;
 use rs_value::ColumnType;
 use std::alloc::AllocError;
+
+/// What each number of a column is multiplied by.
+#[derive(Clone, Copy, PartialEq, Eq, Debug)]
+pub enum Scale {
+    /// 1: it is taken as it is.
+    One,
+    /// 10.
+    Ten,
+    /// 100.
+    Hundred,
+    /// 1000.
+    Thousand,
+    /// 10^4.
+    TenThousand,
+    /// 10^5.
+    HundredThousand,
+    /// 10^6.
+    Million,
+}
+
+impl Scale {
+    /// How many zeros it has.
+    pub fn places(self) -> usize
+        ensures value { result ≡ places_of self }
+        ensures few { result ≤ 6 }
+    {
+        match self {
+            Scale::One => 0,
+            Scale::Ten => 1,
+            Scale::Hundred => 2,
+            Scale::Thousand => 3,
+            Scale::TenThousand => 4,
+            Scale::HundredThousand => 5,
+            Scale::Million => 6,
+        }
+    }
+
+    /// Whether numbers are not taken as they are.
+    pub fn multiplies(self) -> bool
+        ensures { result ≡ false → self ≡ Scale.One }
+    {
+        match self {
+            Scale::One => false,
+            _ => true,
+        }
+    }
+
+    /// The scale that a text is, in digits.
+    pub fn from_text(text: &str) -> Option<Scale>
+        ensures { IfSome result (λ scale. text.now ≡ scale_text scale) }
+    {
+        match text {
+            "1" => Some(Scale::One),
+            "10" => Some(Scale::Ten),
+            "100" => Some(Scale::Hundred),
+            "1000" => Some(Scale::Thousand),
+            "10000" => Some(Scale::TenThousand),
+            "100000" => Some(Scale::HundredThousand),
+            "1000000" => Some(Scale::Million),
+            _ => None,
+        }
+    }
+}
 
 /// A column of the table.
 #[derive(Clone, Copy)]
@@ -13,6 +79,8 @@ pub struct Column {
     pub column_type: ColumnType,
     /// Which field of a record gives its value, from 0.
     pub field: usize,
+    /// What each number is multiplied by.
+    pub scale: Scale,
 }
 
 /// Which fields of a record say where its event is, each from 0.

@@ -18,7 +18,7 @@ ghost use Rattle.rs_csv_lines.specs.Inserts.{Field, TellsRoute, PutsPositionAt};
 
 use crate::fields::{field_text, name_in, number_in, position_in};
 use crate::numbers::{written_measure, written_whole};
-use crate::plan::Misfit;
+use crate::plan::{Misfit, Scale};
 use csv::ByteRecord;
 use itoa::Buffer;
 use rs_meaning::meaning::text;
@@ -145,12 +145,12 @@ pub fn put_position(
     }
 }
 
-// Puts a whole number as an office wrote it.
-fn put_amount(text: &str, place: usize, line: &mut String) -> Result<(), Misfit>
-    ensures { OnOk result ((is_negative : Bool) × (amount : ℕ) × WritesWhole text.now is_negative amount
+// Puts a number as an office wrote it, once it is multiplied.
+fn put_amount(text: &str, place: usize, scale: Scale, line: &mut String) -> Result<(), Misfit>
+    ensures { OnOk result ((is_negative : Bool) × (amount : ℕ) × WritesWhole scale text.now is_negative amount
         × (string_bytes line.new ≡ string_bytes line.old ++ signed_text is_negative (decimal amount))) }
 {
-    match written_whole(text.as_bytes()) {
+    match written_whole(text.as_bytes(), scale) {
         Ok((is_negative, amount)) => {
             put_signed(line, is_negative, Buffer::new().format(amount))?;
             Ok(())
@@ -160,16 +160,25 @@ fn put_amount(text: &str, place: usize, line: &mut String) -> Result<(), Misfit>
 }
 
 // Puts the number that a field says.
-fn put_number(alloc: Global, field: &str, place: usize, line: &mut String) -> Result<(), Misfit>
-    ensures { OnOk result ((datum : Datum) × (bytes : List ℕ) × PutsNumber field.now datum bytes × (string_bytes line.new ≡ string_bytes line.old ++ bytes)) }
+fn put_number(
+    alloc: Global,
+    field: &str,
+    place: usize,
+    scale: Scale,
+    line: &mut String,
+) -> Result<(), Misfit>
+    ensures { OnOk result ((datum : Datum) × (bytes : List ℕ) × PutsNumber scale field.now datum bytes × (string_bytes line.new ≡ string_bytes line.old ++ bytes)) }
 {
+    if scale.multiplies() {
+        return put_amount(field, place, scale, line);
+    }
     match number_in(alloc, field, place) {
         Ok((is_negative, digits)) => {
             put_signed(line, is_negative, text(field, digits))?;
             Ok(())
         }
         Err(Misfit::OutOfMemory) => Err(Misfit::OutOfMemory),
-        Err(_) => put_amount(field, place, line),
+        Err(_) => put_amount(field, place, scale, line),
     }
 }
 
@@ -179,10 +188,11 @@ pub fn put_value(
     csv_record: &ByteRecord,
     place: usize,
     column_type: ColumnType,
+    scale: Scale,
     line: &mut String,
 ) -> Result<(), Misfit>
     ensures { OnOk result ((datum : Datum) × (bytes : List ℕ)
-        × Field (fields_of csv_record.now) place (λ field. PutsDatum column_type field datum bytes)
+        × Field (fields_of csv_record.now) place (λ field. PutsDatum column_type scale field datum bytes)
         × (string_bytes line.new ≡ string_bytes line.old ++ bytes)) }
 {
     let field = field_text(csv_record, place)?;
@@ -191,7 +201,7 @@ pub fn put_value(
         return Ok(());
     }
     match column_type {
-        ColumnType::Int => put_number(alloc, field.text, place, line)?,
+        ColumnType::Int => put_number(alloc, field.text, place, scale, line)?,
         ColumnType::Text(_) => put_text(line, field.text)?,
     }
     Ok(())

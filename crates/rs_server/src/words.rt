@@ -36,6 +36,10 @@ pub(crate) fn convert<R: Read, W: Write, E: Write>(
         Ok(false) => SUCCESS,
         Ok(true) | Err(Stop::NoColumn) => FAILED,
         Err(Stop::NoTable) => refuse(errors, b"error: the words define no table\n"),
+        Err(Stop::NoScale) => refuse(
+            errors,
+            b"error: a scale is no column of numbers with 1, 10, 100 and so on up to 1000000\n",
+        ),
         Err(Stop::OutOfMemory) => {
             report_failure(errors, &Failure::Refused(Refusal::OutOfMemory))
         }
@@ -63,6 +67,7 @@ fn wanted_by<'a>(words: &'a CsvWords<'a>) -> Result<Wanted<'a>, &'static [u8]>
         at: words.at.unwrap_or("at"),
         separator,
         columns: words.columns.as_slice(),
+        scales: words.scales.as_slice(),
         defines_table: !words.omits_definition,
         defines_routes: words.defines_routes,
         rounds: words.rounds,

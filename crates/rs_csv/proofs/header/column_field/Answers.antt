@@ -1,6 +1,6 @@
 use Rattle.std.proofs.Common.{◌≡◌, ◌≢◌, ◌∙◌, sym, rules, arith}
 use Rattle.std.proofs.lemmas.Result.{IfOk-weaker}
-use Rattle.rs_csv.proofs.Headers.{is_called_after, is_called_at, is_called_itself, not_cut, not_named}
+use Rattle.rs_csv.proofs.Headers.{told_after, told_at, told_none, not_cut, not_named}
 use Rattle.rs_csv.proofs.header.column_field.Goals as goal
 use Rattle.rs_csv.proofs.header.column_field.Goals.{in-Some+else-eq, in_default}
 
@@ -12,7 +12,7 @@ returns-then-eq-clause-named g c =
     (λ place named. (
       c.in-Some.other.now,
       c.loop-renaming.invariant.others c.in-Some.other.now
-          (is_called_at c.args.wanted.now.columns.now c.loop-renaming.renaming-index _ c.args.column.now c.in-Some.other.now c.loop-renaming-test.true (cut.2, sym cut.0 ∙ same, sym cut.1)),
+          (told_at c.args.wanted.now.columns.now c.loop-renaming.renaming-index _ c.args.column.now c.args.column.now c.in-Some.other.now c.loop-renaming-test.true (cut.2, sym cut.0 ∙ same, sym cut.1)),
       named,
     ))
     c.field_named.ensures.named
@@ -20,7 +20,7 @@ returns-then-eq-clause-named g c =
 pub returns-clause-named : goal.returns-clause-named
 returns-clause-named g c =
     IfOk-weaker c.field_named-2.result _ _
-    (λ place named. (c.args.column.now, c.loop-renaming.invariant.others c.args.column.now (is_called_itself c.args.wanted.now.columns.now c.loop-renaming.renaming-index c.args.column.now c.loop-renaming-test.false), named))
+    (λ place named. (c.args.column.now, c.loop-renaming.invariant.others c.args.column.now (told_none c.args.wanted.now.columns.now c.loop-renaming.renaming-index c.args.column.now c.args.column.now c.loop-renaming-test.false), named))
     c.field_named-2.ensures.named
 
 pub loop-renaming-preserved : goal.loop-renaming-preserved
@@ -28,7 +28,7 @@ loop-renaming-preserved g c = record {
   errors = c.loop-renaming.invariant.errors;
   others = λ name called.
       c.loop-renaming.invariant.others name
-      (is_called_after c.args.wanted.now.columns.now c.loop-renaming.renaming-index _ c.args.column.now name c.loop-renaming-test.true
+      (told_after c.args.wanted.now.columns.now c.loop-renaming.renaming-index _ c.args.column.now c.args.column.now name c.loop-renaming-test.true
       (elim c.match-split_once.branch [
         | in-Some+else-eq w ↦
             let cut = w.in-Some.ensures.byte (omega arith) (λ w o h. h) in

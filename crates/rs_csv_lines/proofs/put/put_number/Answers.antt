@@ -21,10 +21,14 @@ returns-in_ok-put_signed-in-Ok c =
     let digits = token_text c.args.field.now found.digits in (
       number (signed found.is_negative (number_of_digits digits)),
       signed_text found.is_negative digits,
-      inl (found.is_negative, found.digits, found.ensures, refl, refl),
+      inl (found.is_negative, found.digits, found.ensures, refl, refl, c.multiplies.ensures c.if-multiplies.false),
       c.in_ok-put_signed-in-Ok.ensures ∙ ap (λ ds. string_bytes c.args.line.now ++ signed_text found.is_negative ds) c.text.ensures,
     )
 
+pub returns-then-multiplies : goal.returns-then-multiplies
+returns-then-multiplies c =
+    on_ok_weaker c.put_amount.result (λ put. (number (signed put.0 put.1), signed_text put.0 (decimal put.1), inr (put.0, put.1, put.2, refl, refl), put.3)) c.put_amount.ensures
+
 pub returns-in-Err : goal.returns-in-Err
 returns-in-Err c =
-    on_ok_weaker c.put_amount.result (λ put. (number (signed put.0 put.1), signed_text put.0 (decimal put.1), inr (put.0, put.1, put.2, refl, refl), put.3)) c.put_amount.ensures
+    on_ok_weaker c.put_amount-in-Err.result (λ put. (number (signed put.0 put.1), signed_text put.0 (decimal put.1), inr (put.0, put.1, put.2, refl, refl), put.3)) c.put_amount-in-Err.ensures

@@ -28,6 +28,11 @@ returns-in-Err-NoTable-clause-lines g c =
     let all = c.write_lines.ensures.wrote in
     inr (_, all.0, all.1, c.write_lines.result, all.2.0, all.2.1, all.2.2, λ is. absurd (omega (arith, c.refuse-in-Err-NoTable.ensures, is)))
 
+pub returns-in-Err-NoScale-clause-lines : goal.returns-in-Err-NoScale-clause-lines
+returns-in-Err-NoScale-clause-lines g c =
+    let all = c.write_lines.ensures.wrote in
+    inr (_, all.0, all.1, c.write_lines.result, all.2.0, all.2.1, all.2.2, λ is. absurd (omega (arith, c.refuse-in-Err-NoScale.ensures, is)))
+
 pub returns-in-Err-OutOfMemory-clause-lines : goal.returns-in-Err-OutOfMemory-clause-lines
 returns-in-Err-OutOfMemory-clause-lines g c =
     let all = c.write_lines.ensures.wrote in
