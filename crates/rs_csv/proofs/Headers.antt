@@ -2,7 +2,7 @@
 use Rattle.std.proofs.Common.{◌≡◌, ◌∙◌, ◌⊎◌, inl, inr, ℕ, zero, suc, ◌+◌, ◌<◌, ◌≤◌, List, [], ◌∷◌, ◌++◌, length, map, Option, Some, None, refl, sym, ap, subst, arith}
 use Rattle.std.specs.Prelude.{is_some}
 use Rattle.std.proofs.lemmas.Bool.{false≢true}
-use Rattle.std.proofs.Common.{false, Bor, drop, get_or, take}
+use Rattle.std.proofs.Common.{false, true, Bor, drop, get_or, take}
 use Rattle.std.proofs.lemmas.List.{drop-map, drop_all, drop_more, length-map, map-append, take_more}
 use Rattle.std.specs.List.{position_or_len, before_first}
 use Rattle.csv.specs.Records.{field_at}
@@ -13,12 +13,12 @@ use Rattle.rs_csv_lines.specs.declared.plan.Column.{Column}
 use Rattle.rs_csv.specs.declared.filter.Wanted.{Wanted}
 use Rattle.rs_csv.specs.declared.names.Case.{Case}
 use Rattle.rs_csv.specs.declared.names.Case.TheVariants as cases
-use Rattle.rs_csv.specs.Header.{Has, HasNone, IsOnly, IsColumnOf, AreColumnsOf, IsTold, Renames, is_equals}
+use Rattle.rs_csv.specs.Header.{Has, HasNone, IsOnly, IsTwice, IsColumnOf, AreColumnsOf, IsTold, Renames, is_equals}
 
 -- what was found among the places before one
 abbrev pub HasBelow : (ℕ → Type 0) → ℕ → Option ℕ → Type 0
 HasBelow Has end None = (place : ℕ) → place < end → ¬ Has place
-HasBelow Has end (Some found) = Has found × ((place : ℕ) → place < end → Has place → place ≡ found)
+HasBelow Has end (Some found) = Has found × ((place : ℕ) → place < end → Has place → place ≡ found) × (found < end)
 
 last_or_below : (place end : ℕ) → place < end + 1 → (place < end) ⊎ (place ≡ end)
 last_or_below place zero less = inr (omega arith)
@@ -30,11 +30,17 @@ module _ (Has : ℕ → Type 0) where
   below_start place less has = let wrong : ⊥ = omega arith in wrong
 
   pub below_first : (end : ℕ) → HasBelow Has end None → Has end → HasBelow Has (end + 1) (Some end)
-  below_first end none has = (has, λ place less at. elim (last_or_below place end less) [ inl below ↦ absurd (none place below at) | inr last ↦ last ])
+  below_first end none has = (has, λ place less at. elim (last_or_below place end less) [ inl below ↦ absurd (none place below at) | inr last ↦ last ], omega arith)
 
   pub below_other : (end : ℕ) (found : Option ℕ) → HasBelow Has end found → ¬ Has end → HasBelow Has (end + 1) found
   below_other end None none other = λ place less at. elim (last_or_below place end less) [ inl below ↦ none place below at | inr last ↦ other (subst Has last at) ]
-  below_other end (Some found) named other = (named.0, λ place less at. elim (last_or_below place end less) [ inl below ↦ named.1 place below at | inr last ↦ absurd (other (subst Has last at)) ])
+  below_other end (Some found) named other =
+      let inside = named.2 in
+      (named.0, λ place less at. elim (last_or_below place end less) [ inl below ↦ named.1 place below at | inr last ↦ absurd (other (subst Has last at)) ], omega arith)
+
+  pub below_twice : (end : ℕ) (found : Option ℕ) → is_some found ≡ true → HasBelow Has end found → Has end → IsTwice Has
+  below_twice end None is named has = absurd (false≢true is)
+  below_twice end (Some found) is named has = record { first = found; second = end; in_order = named.2; first_has = named.0; second_has = has }
 
   pub below_none : (end : ℕ) (found : Option ℕ) → is_some found ≡ false → HasBelow Has end found → HasBelow Has end None
   below_none end None is named = named

@@ -17,6 +17,8 @@ use Rattle.rs_csv.specs.declared.names.Case.{Case}
 use Rattle.rs_csv.specs.declared.names.Case.TheVariants as cases
 use Rattle.rs_csv.specs.declared.names.Found.{Found}
 use Rattle.rs_csv.specs.declared.names.Found.TheVariants as found
+use Rattle.rs_csv.specs.declared.tell.Lack.{Lack}
+use Rattle.rs_csv.specs.declared.tell.Lack.TheVariants as lacks
 
 -- the field of the header at a place is this name, in quotes or not
 abbrev pub HasName : List (List ℕ) → List ℕ → ℕ → Type 0
@@ -34,6 +36,14 @@ pub record IsOnly (Has : ℕ → Type 0) (place : ℕ) : Type 0 where
   pub has : Has place
   pub alone : (other : ℕ) → Has other → other ≡ place
 
+-- Two places have it.
+pub record IsTwice (Has : ℕ → Type 0) : Type 0 where
+  pub first : ℕ
+  pub second : ℕ
+  pub in_order : first < second
+  pub first_has : Has first
+  pub second_has : Has second
+
 -- no place has it
 abbrev pub HasNone : (ℕ → Type 0) → Type 0
 HasNone Has = (place : ℕ) → ¬ Has place
@@ -49,11 +59,20 @@ abbrev pub Has : Case → List (List ℕ) → List ℕ → ℕ → Type 0
 Has cases.Kept = HasName
 Has cases.Ignored = HasLetters
 
--- what is found: no place that has it, or the only one
+-- what is found: no place that has it, the only one, or two
 abbrev pub IsFound : (ℕ → Type 0) → Found → Type 0
 IsFound Has found.Nowhere = HasNone Has
 IsFound Has (found.At place) = IsOnly Has place
-IsFound Has found.Twice = Unit {0}
+IsFound Has found.Twice = IsTwice Has
+
+-- why none is taken: no field has the name, in letters of whichever case; two have it; or none has it, and two but for the case of letters
+abbrev pub IsLack : List (List ℕ) → List ℕ → Lack → Type 0
+IsLack header name lacks.Nowhere = HasNone (HasLetters header name)
+IsLack header name lacks.Twice = IsTwice (HasName header name)
+IsLack header name lacks.TwiceButForCase = HasNone (HasName header name) × IsTwice (HasLetters header name)
+
+abbrev pub IsUnnamed : List (List ℕ) → List ℕ → Type 0
+IsUnnamed header name = (lack : Lack) × IsLack header name lack
 
 -- ---- the names
 

@@ -3,10 +3,10 @@
 //! It promises that the field is the only one that has the name as it is written, or where none has it so, the only one that has it in
 //! letters of another case.
 
-ghost use Rattle.std.specs.Prelude.{◌≡◌, ◌↔◌, IfOk, OnOk, true};
+ghost use Rattle.std.specs.Prelude.{◌≡◌, ◌↔◌, IfOk, IfErr, MatchResult, OnOk, true};
 ghost use Rattle.std.specs.Io.KnownBytes.{Keeps};
 ghost use Rattle.csv.specs.Records.{fields_of};
-ghost use Rattle.rs_csv.specs.Header.{Has, IsFound, IsNamed};
+ghost use Rattle.rs_csv.specs.Header.{Has, IsFound, IsLack, IsNamed, IsUnnamed};
 
 use crate::filter::Stop;
 use crate::tell::{Lack, tell_column};
@@ -66,21 +66,33 @@ fn find_field(header: &ByteRecord, name: &str, case: Case) -> Found
     }
 }
 
+// The place of the one field of the header that has this name, or where none has it, that has it in letters of another case; or why none is taken.
+fn look_for(header: &ByteRecord, name: &str) -> Result<usize, Lack>
+    ensures { MatchResult result (λ place. IsNamed (fields_of header.now) name.now place) (λ lack. IsLack (fields_of header.now) name.now lack) }
+{
+    match find_field(header, name, Case::Kept) {
+        Found::At(place) => Ok(place),
+        Found::Twice => Err(Lack::Twice),
+        Found::Nowhere => match find_field(header, name, Case::Ignored) {
+            Found::At(place) => Ok(place),
+            Found::Twice => Err(Lack::TwiceButForCase),
+            Found::Nowhere => Err(Lack::Nowhere),
+        },
+    }
+}
+
 /// The place of the one field of the header that has this name, or where none has it, that has it in letters of another case. It is told
 /// where there is none, or are two.
 pub fn field_named<E: Write>(header: &ByteRecord, name: &str, errors: &mut E) -> Result<usize, Stop>
     ensures named { IfOk result (λ place. IsNamed (fields_of header.now) name.now place) }
+    ensures refused { IfErr result (λ stop. (stop ≡ Stop.NoColumn) × IsUnnamed (fields_of header.now) name.now) }
     ensures quiet { OnOk result (Keeps (E.contents errors.old) (E.contents errors.new)) }
 {
-    let lack = match find_field(header, name, Case::Kept) {
-        Found::At(place) => return Ok(place),
-        Found::Twice => Lack::Twice,
-        Found::Nowhere => match find_field(header, name, Case::Ignored) {
-            Found::At(place) => return Ok(place),
-            Found::Twice => Lack::TwiceButForCase,
-            Found::Nowhere => Lack::Nowhere,
-        },
-    };
-    tell_column(errors, header, name, lack);
-    Err(Stop::NoColumn)
+    match look_for(header, name) {
+        Ok(place) => Ok(place),
+        Err(lack) => {
+            tell_column(errors, header, name, lack);
+            Err(Stop::NoColumn)
+        }
+    }
 }

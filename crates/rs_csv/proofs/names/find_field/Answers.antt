@@ -2,9 +2,14 @@ use Rattle.std.proofs.Common.{◌∙◌, ◌+◌, ◌≤◌, length, subst, sym,
 use Rattle.std.proofs.lemmas.Bool.{false≢true}
 use Rattle.csv.specs.Records.{fields_of}
 use Rattle.rs_csv.specs.Header.{Has}
-use Rattle.rs_csv.proofs.Headers.{HasBelow, below_first, below_none, below_other, below_start, has_inside, none_in_all, only_in_all}
+use Rattle.rs_csv.proofs.Headers.{HasBelow, below_first, below_none, below_other, below_start, below_twice, has_inside, none_in_all, only_in_all}
 use Rattle.rs_csv.proofs.names.find_field.Goals as goal
 use Rattle.rs_csv.proofs.names.find_field.Goals.{then-is_named+else-is_some, else-is_named}
+
+pub returns-then-is_some : goal.returns-then-is_some
+returns-then-is_some c =
+    let This = Has c.args.case (fields_of c.args.header.now) c.args.name.now in
+    below_twice This c.loop-place.place c.loop-place.found (sym c.is_some.ensures ∙ c.if-is_some.true) c.loop-place.invariant.below (c.is_named.ensures.0 c.if-is_named.true)
 
 pub returns-in-Some : goal.returns-in-Some
 returns-in-Some c =
