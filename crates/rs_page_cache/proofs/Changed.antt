@@ -1,19 +1,15 @@
 -- The changed pages: what is held after one was written, and after the copies were committed or dropped.
-use Rattle.std.proofs.Common.{◌≡◌, ◌≢◌, ◌<◌, inl, inr, ℕ, true, false, Option, Some, None, IsSome, List, [], ◌∷◌, ◌++◌, length, slice_index, Contains, refl, sym, ap, ◌∙◌, subst, arith}
+use Rattle.std.proofs.Common.{◌≡◌, ◌≢◌, ◌<◌, inl, inr, ℕ, true, false, Option, Some, None, IsSome, List, [], ◌∷◌, ◌++◌, length, slice_index, refl, sym, ap, ◌∙◌, subst, arith}
 use Rattle.std.specs.Option.{unwrap_or}
-use Rattle.std.specs.Map.{lookup, keys_of}
-use Rattle.std.specs.List.Sorted.{IsStrictlySortedBy}
+use Rattle.std.specs.Map.{lookup}
 use Rattle.std.specs.BTreeMap.{is_at}
 use Rattle.std.specs.Ordering.{nat_cmp, eq_by_cmp}
 use Rattle.std.specs.Cmp.{Equal-is}
 use Rattle.std.proofs.lemmas.Bool.{cases_eq}
 use Rattle.std.proofs.lemmas.Grind.{common_steps}
 use Rattle.std.proofs.lemmas.Map.Lookups.{exact_unsigned}
-use Rattle.std.proofs.lemmas.Map.Views.{Contains-from_lookup, lookup-from_Contains}
-use Rattle.std.proofs.lemmas.Map.Keys.{IsDistinct-from_sorted}
-use Rattle.std.proofs.lemmas.Cmp.{eq_by_cmp_equiv, nat_cmp_total}
-use Rattle.rs_pages.specs.Held.{HeldPage, nothing_held, page_or, held_change, with_copy}
-use Rattle.rs_page_cache.specs.Changes.{Changes, held_at, committed_held, abandoned_held, HasCopied, HoldsEach, ListsHeld}
+use Rattle.rs_pages.specs.Held.{HeldPage, nothing_held, page_or, with_copy}
+use Rattle.rs_page_cache.specs.Changes.{Changes, held_at, committed_held, abandoned_held, HasCopied}
 
 -- another number is found at another place
 pub apart : (a b : ℕ) → b ≢ a → is_at (nat_cmp a) b ≡ false
@@ -23,13 +19,10 @@ apart a b ne = elim (is_at (nat_cmp a) b) as (λ t. is_at (nat_cmp a) b ≡ t �
 ] refl
 
 -- what is found by a number has it
-same_number : (a b : ℕ) → eq_by_cmp nat_cmp a b ≡ true → a ≡ b
+pub same_number : (a b : ℕ) → eq_by_cmp nat_cmp a b ≡ true → a ≡ b
 same_number a b is = exact_unsigned a b ((Equal-is (nat_cmp a b)).0 is)
 
--- what is held where the entry is the same
-pub held-same : (old new : Changes) (n : ℕ) → lookup (is_at (nat_cmp n)) new ≡ lookup (is_at (nat_cmp n)) old → held_at new n ≡ held_at old n
-held-same old new n same = ap (λ (found : Option HeldPage). unwrap_or found nothing_held) same
-
+-- what is held, by what a look-up finds
 pub held-found : (changes : Changes) (n : ℕ) (held : HeldPage) → lookup (is_at (nat_cmp n)) changes ≡ Some held → held_at changes n ≡ held
 held-found changes n held found = ap (λ (o : Option HeldPage). unwrap_or o nothing_held) found
 
@@ -88,7 +81,7 @@ all_abandoned old new copied among abandons done others n =
     abandoned-none (held_at new n) (no_copy_left old new copied among done others n) ∙ abandons n
 
 -- no copy is listed where there is none
-none_some : (o : Option (List ℕ)) → o ≡ None → IsSome o → ⊥
+pub none_some : (o : Option (List ℕ)) → o ≡ None → IsSome o → ⊥
 none_some None is some = cc
 none_some (Some page) is some = cc
 
@@ -173,49 +166,3 @@ module _ (first old new : Changes) (x : ℕ) (there : held_at new x ≡ abandone
     | inl same ↦ subst (λ i. abandoned_held (held_at new i) ≡ abandoned_held (held_at first i)) (sym same) (ap abandoned_held there ∙ abandons x)
     | inr ne ↦ ap abandoned_held (others n ne) ∙ abandons n
   ]
-
--- something is held in each entry after one was put in place, or taken out
-pub holds_put : (old new : Changes) (n : ℕ) (v : HeldPage) → lookup (is_at (nat_cmp n)) new ≡ Some v
-    → ((m : ℕ) → is_at (nat_cmp n) m ≡ false → lookup (is_at (nat_cmp m)) new ≡ lookup (is_at (nat_cmp m)) old)
-    → IsSome (held_change v) → HoldsEach old → HoldsEach new
-holds_put old new n v there others some holds = record {
-  some = λ m h found. elim (cases_eq m n) [
-    | inl same ↦
-        let at : lookup (is_at (nat_cmp n)) new ≡ Some h = subst (λ i. lookup (is_at (nat_cmp i)) new ≡ Some h) same found in
-        let both : Some v ≡ Some h = sym there ∙ at in
-        let is : v ≡ h = cc in
-        subst (λ x. IsSome (held_change x)) is some
-    | inr ne ↦ holds.some m h (sym (others m (apart n m ne)) ∙ found)
-  ];
-}
-
-pub holds_removed : (old new : Changes) (n : ℕ) → lookup (is_at (nat_cmp n)) new ≡ None
-    → ((m : ℕ) → is_at (nat_cmp n) m ≡ false → lookup (is_at (nat_cmp m)) new ≡ lookup (is_at (nat_cmp m)) old)
-    → HoldsEach old → HoldsEach new
-holds_removed old new n gone others holds = record {
-  some = λ m h found. elim (cases_eq m n) [
-    | inl same ↦
-        let at : lookup (is_at (nat_cmp n)) new ≡ Some h = subst (λ i. lookup (is_at (nat_cmp i)) new ≡ Some h) same found in
-        let wrong : None ≡ Some h = sym gone ∙ at in
-        cc
-    | inr ne ↦ holds.some m h (sym (others m (apart n m ne)) ∙ found)
-  ];
-}
-
--- a page that is held has an entry
-entry_of : (changes : Changes) (n : ℕ) (found : Option HeldPage) → lookup (is_at (nat_cmp n)) changes ≡ found → IsSome (held_change (held_at changes n))
-    → Contains changes (n, held_at changes n)
-entry_of changes n None is some = absurd (none_some (held_change (held_at changes n)) (ap held_change (held-none changes n is)) some)
-entry_of changes n (Some held) is some =
-    subst (λ h. Contains changes (n, h)) (sym (held-found changes n held is)) (Contains-from_lookup {eq = eq_by_cmp nat_cmp} same_number n held changes is)
-
--- the entries are the pages that are held
-pub lists_held : (changes : Changes) → IsStrictlySortedBy nat_cmp (keys_of changes) → HoldsEach changes → ListsHeld changes
-lists_held changes ordered holds =
-    let at = λ (n : ℕ) (h : HeldPage) (there : Contains changes (n, h)). lookup-from_Contains (eq_by_cmp_equiv nat_cmp_total) n h changes (IsDistinct-from_sorted nat_cmp (keys_of changes) ordered) there in
-    record {
-      once = ordered;
-      each = λ n h there. sym (held-found changes n h (at n h there));
-      some = λ n h there. holds.some n h (at n h there);
-      all = λ n some. entry_of changes n (lookup (is_at (nat_cmp n)) changes) refl some;
-    }

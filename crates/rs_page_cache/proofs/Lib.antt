@@ -1,3 +1,5 @@
 pub mod Changed
 pub mod CleanLists
 pub mod DiskPages
+pub mod Numbers
+pub mod Placed

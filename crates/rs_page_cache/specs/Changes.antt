@@ -1,6 +1,7 @@
 -- The pages that are held as changes.
-use Rattle.std.specs.Prelude.{◌≡◌, ◌≢◌, ◌<◌, ℕ, false, Option, Some, None, IsSome, List, length, slice_index, Contains}
-use Rattle.std.specs.List.Sorted.{IsStrictlySortedBy}
+use Rattle.std.specs.Prelude.{◌≡◌, ◌≢◌, ◌<◌, ◌^◌, ℕ, suc, nat_eq, false, Option, Some, None, IsSome, List, length, slice_index, filter, is_some, All, Contains}
+use Rattle.std.specs.List.{IsDistinct}
+use Rattle.std.specs.List.Sorted.{IsStrictlyIncreasing}
 use Rattle.std.specs.Option.{option_map, unwrap_or}
 use Rattle.std.specs.Map.{lookup, keys_of}
 use Rattle.std.specs.BTreeMap.{is_at}
@@ -13,9 +14,13 @@ use Rattle.rs_page.specs.PageBytes.{IsBlank, is_free}
 use Rattle.rs_page.specs.declared.header.PageKind.{PageKind}
 use Rattle.rs_pages.specs.Held.{HeldPage, nothing_held, held_change, with_copy}
 
--- each changed page by its number
+-- the number of a changed page, and what is held of it
+abbrev pub HeldSlot : Type 0
+HeldSlot = ℕ × HeldPage
+
+-- each changed page by its number, in any order
 abbrev pub Changes : Type 0
-Changes = List (ℕ × HeldPage)
+Changes = List HeldSlot
 
 -- what is held of the page with this number
 abbrev pub held_at : Changes → ℕ → HeldPage
@@ -39,15 +44,45 @@ pub record HasCopied (changes : Changes) (copied : List ℕ) : Type 0 where
   pub only : (k : ℕ) → k < length copied → IsSome (held_at changes (slice_index copied k)).copy
 
 -- each entry holds something
-pub record HoldsEach (changes : Changes) : Type 0 where
-  pub some : (number : ℕ) (held : HeldPage) → lookup (is_at (nat_cmp number)) changes ≡ Some held → IsSome (held_change held)
+abbrev pub HoldsEach : Changes → Type 0
+HoldsEach changes = All (λ entry. IsSome (held_change entry.1)) changes
+
+-- what is written for a number is one more than its place among the numbers, or 0 where it is none of them
+pub record ArePlaced (numbers places : List ℕ) : Type 0 where
+  pub listed : (k : ℕ) → k < length numbers → slice_index places (slice_index numbers k) ≡ suc k
+  pub only : (number k : ℕ) → slice_index places number ≡ suc k → (k < length numbers) × (slice_index numbers k ≡ number)
+
+-- each slot has its place in a list whose length is a number, and holds something
+pub record HasPlaces (slots : Changes) (places : List ℕ) : Type 0 where
+  pub placed : ArePlaced (keys_of slots) places
+  pub few : length places < 2 ^ 32
+  pub some : HoldsEach slots
 
 -- the entries are the pages that are held as changes: each is there once, with what is held of it, and something is
 pub record ListsHeld (changes : Changes) : Type 0 where
-  pub once : IsStrictlySortedBy nat_cmp (keys_of changes)
+  pub once : IsDistinct nat_eq (keys_of changes)
   pub each : (number : ℕ) (held : HeldPage) → Contains changes (number, held) → held ≡ held_at changes number
   pub some : (number : ℕ) (held : HeldPage) → Contains changes (number, held) → IsSome (held_change held)
   pub all : (number : ℕ) → IsSome (held_change (held_at changes number)) → Contains changes (number, held_at changes number)
+
+-- the numbers of the pages whose committed version is held
+abbrev pub committed_numbers : Changes → List ℕ
+committed_numbers changes = keys_of (filter (λ slot. is_some slot.1.committed) changes)
+
+-- the committed version that is held is a whole page
+abbrev pub IsWhole : HeldSlot → Type 0
+IsWhole slot = (page : List ℕ) → slot.1.committed ≡ Some page → length page ≡ PAGE_SIZE
+
+-- and so is each of these
+abbrev pub AreWhole : Changes → Type 0
+AreWhole changes = All IsWhole changes
+
+-- the numbers are those of the pages whose committed version is held, in ascending order, and each such version is a whole page
+pub record NumbersCommitted (changes : Changes) (numbers : List ℕ) : Type 0 where
+  pub ascending : IsStrictlyIncreasing numbers
+  pub each : (number : ℕ) → Contains numbers number → IsSome (held_at changes number).committed
+  pub all : (number : ℕ) → IsSome (held_at changes number).committed → Contains numbers number
+  pub whole : (number : ℕ) (page : List ℕ) → (held_at changes number).committed ≡ Some page → length page ≡ PAGE_SIZE
 
 -- a page with a header of this kind and zeros after it is the working copy now, and all else stays
 pub record PutsBlank (kind : PageKind) (number next : ℕ) (old new : Changes) : Type 0 where

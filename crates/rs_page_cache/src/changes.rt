@@ -4,21 +4,18 @@
 //! that list is made before each copy, so neither of the two takes memory. The memory of some pages that a commit put others in
 //! place of is kept for the next copies.
 
-ghost use Rattle.std.specs.Prelude.{◌≡◌, ◌≢◌, ◌≤◌, ◌<◌, ◌^◌, ℕ, List, Some, None, true, [], length, is_some, IsOk, IsSome, IfOk, IfSome, IfNone, OnOk, OnErr, IsOkUnless, slice_index};
-ghost use Rattle.std.specs.BTreeMap.{is_at};
-ghost use Rattle.std.specs.Map.{lookup};
+ghost use Rattle.std.specs.Prelude.{◌≡◌, ◌≢◌, ◌≤◌, ◌<◌, ◌^◌, ◌++◌, ◌∷◌, ◌↔◌, ℕ, List, Some, None, true, [], length, is_some, IsOk, IsSome, IsTrue, IfOk, IfSome, IfNone, OnOk, OnErr, IsOkUnless, slice_index};
 ghost use Rattle.std.specs.Option.{option_map};
-ghost use Rattle.std.specs.Ordering.{nat_cmp};
 ghost use Rattle.rs_page.specs.PageBytes.{is_free};
-ghost use Rattle.rs_pages.specs.Held.{HeldPage, nothing_held, held_change, with_copy};
-ghost use Rattle.rs_page_cache.specs.Changes.{held_at, committed_held, abandoned_held, HasCopied, HoldsEach, IsUsedCopy, ListsHeld, PutsBlank};
+ghost use Rattle.rs_pages.specs.Held.{held_change, with_copy};
+ghost use Rattle.rs_page_cache.specs.Changes.{held_at, committed_held, abandoned_held, committed_numbers, AreWhole, HasCopied, IsUsedCopy, IsWhole, ListsHeld, NumbersCommitted, PutsBlank};
 
 use crate::slot::Slot;
+use crate::slots::Slots;
 use arrayvec::ArrayVec;
 use rs_page::{Page, PageKind, PageNumber};
 use rs_refusal::Refusal;
 use std::alloc::{AllocError, Global};
-use std::collections::BTreeMap;
 use std::marker::Model;
 
 /// How many pages are kept for their memory alone.
@@ -27,7 +24,7 @@ const MOST_SPARES: usize = 4;
 /// The changed pages.
 #[derive(Drop)]
 pub struct Changes {
-    slots: BTreeMap<u32, Slot>,
+    slots: Slots,
     /// The numbers of the pages with a working copy are among these.
     copied: Vec<u32>,
     /// Memory of pages that nobody needs any more.
@@ -35,13 +32,13 @@ pub struct Changes {
 }
 
 impl Model for Changes {
-    ghost use Rattle.rs_page_cache.specs.Changes.{Changes, HasCopied, HoldsEach};
+    ghost use Rattle.rs_page_cache.specs.Changes.{Changes, HasCopied};
 
     ghost Value = { Changes };
 
-    ghost view = { λ c. c.slots.entries };
+    ghost view = { λ c. c.slots };
 
-    ghost invariant = { λ c. HasCopied c.slots.entries c.copied.items × HoldsEach c.slots.entries };
+    ghost invariant = { λ c. HasCopied c.slots c.copied.items };
 }
 
 impl Changes {
@@ -53,7 +50,7 @@ impl Changes {
         ensures { result ≡ [] }
     {
         Changes {
-            slots: BTreeMap::new(alloc),
+            slots: Slots::new(alloc),
             copied: Vec::new(alloc),
             spares: ArrayVec::new(),
         }
@@ -66,6 +63,13 @@ impl Changes {
         self.slots.len()
     }
 
+    /// Whether no page is changed.
+    pub fn is_empty(&self) -> bool
+        ensures { IsTrue result ↔ (self.now ≡ []) }
+    {
+        self.slots.len() == 0
+    }
+
     /// How many pages are held as changes: each entry is one of them, and each of them has one entry.
     pub fn held(&self) -> usize
         ensures count { result ≡ length self.now }
@@ -74,46 +78,31 @@ impl Changes {
         self.slots.len()
     }
 
-    /// What the changed pages are by number, to be read.
-    pub fn slots(&self) -> &BTreeMap<u32, Slot>
-        ensures same { result.now.entries ≡ self.now }
-        ensures pages { ListsHeld self.now }
-    {
-        // For the proof: that the entries are in order.
-        let _entries = self.slots.len();
-        &self.slots
-    }
-
     /// The working page with this number, where it is changed.
     pub fn working(&self, number: PageNumber) -> Option<&Page>
         ensures { option_map (λ page. page.now.bytes) result ≡ held_change (held_at self.now number) }
     {
-        match self.slot(number.number()) {
+        match self.slots.get(number.number()) {
             Some(slot) => slot.working(),
             None => None,
         }
     }
 
-    /// What is held of the page with this number. What is added in order goes to the last page again and again, so that one is
-    /// tried before the map is searched.
-    fn slot(&self, number: u32) -> Option<&Slot>
-        ensures { option_map (λ slot. slot.now) result ≡ lookup (is_at (nat_cmp number)) self.now }
+    /// The committed page with this number, where it is held as a change.
+    pub fn committed(&self, number: PageNumber) -> Option<&Page>
+        ensures { option_map (λ page. page.now.bytes) result ≡ (held_at self.now number).committed }
     {
-        if self.copied.last() == Some(&number) {
-            if let Some((last, slot)) = self.slots.last_key_value() {
-                if *last == number {
-                    return Some(slot);
-                }
-            }
+        match self.slots.get(number.number()) {
+            Some(slot) => slot.committed(),
+            None => None,
         }
-        self.slots.get(&number)
     }
 
     /// The working copy of the page with this number, where it has one.
     pub fn copy(&self, number: PageNumber) -> Option<&Page>
         ensures { option_map (λ page. page.now.bytes) result ≡ (held_at self.now number).copy }
     {
-        match self.slots.get(&number.number()) {
+        match self.slots.get(number.number()) {
             Some(slot) => slot.copy(),
             None => None,
         }
@@ -123,7 +112,7 @@ impl Changes {
     pub fn has_copy(&self, number: PageNumber) -> bool
         ensures { result ≡ is_some (held_at self.now number).copy }
     {
-        match self.slots.get(&number.number()) {
+        match self.slots.get(number.number()) {
             Some(slot) => slot.has_copy(),
             None => false,
         }
@@ -135,9 +124,9 @@ impl Changes {
         ensures held { IfSome result (λ page. IsUsedCopy page.now.bytes (held_at self.old number)) }
         ensures none { IfNone result ((page : List ℕ) → (held_at self.old number).copy ≡ Some page → is_free page ≡ true) }
     {
-        match self.slots.get_mut(&number.number()) {
-            Some(slot) if slot.has_used_copy() => slot.copy_mut(),
-            _ => None,
+        match self.slots.used_copy_mut(number.number()) {
+            Some(page) => Some(page),
+            None => None,
         }
     }
 
@@ -148,7 +137,7 @@ impl Changes {
         ensures refused { OnErr result (self.new ≡ self.old) }
     {
         if self.has_copy(number) {
-            put_slot(&mut self.slots, number.number(), page)
+            self.slots.put_copy(number.number(), page)
         } else {
             self.add_copy(number, page)
         }
@@ -162,7 +151,7 @@ impl Changes {
         ensures refused { OnErr result (self.new ≡ self.old) }
     {
         self.copied.push(number.number())?;
-        match put_slot(&mut self.slots, number.number(), page) {
+        match self.slots.put_copy(number.number(), page) {
             Ok(()) => Ok(()),
             Err(error) => {
                 let _ = self.copied.pop();
@@ -218,33 +207,23 @@ impl Changes {
         self.copied.clear();
     }
 
+    /// Puts the numbers of the pages whose committed version is held into the list, in ascending order and in place of what it
+    /// had. After a refusal it may have some of them.
+    pub fn list_committed(&self, numbers: &mut Vec<u32>) -> Result<(), AllocError>
+        ensures { OnOk result (NumbersCommitted self.now numbers.new.items) }
+    {
+        numbers.clear();
+        list_numbers(self.slots.all(), numbers)?;
+        numbers.sort_unstable();
+        Ok(())
+    }
+
     /// No page is changed any more.
     pub fn clear(&mut self)
         ensures { self.new ≡ [] }
     {
         self.slots.clear();
         self.copied.clear();
-    }
-}
-
-/// Puts a working copy of the page with this number in place. After a refusal nothing has changed.
-fn put_slot(slots: &mut BTreeMap<u32, Slot>, number: u32, page: Box<Page>) -> Result<(), AllocError>
-    ensures there { OnOk result (held_at slots.new.entries number
-        ≡ with_copy page.value.bytes (held_at slots.old.entries number)) }
-    ensures others { OnOk result ((other : ℕ) → other ≢ number
-        → held_at slots.new.entries other ≡ held_at slots.old.entries other) }
-    ensures some { HoldsEach slots.old.entries → HoldsEach slots.new.entries }
-    ensures refused { OnErr result (slots.new.entries ≡ slots.old.entries) }
-{
-    match slots.get_mut(&number) {
-        Some(slot) => {
-            slot.put_copy(page);
-            Ok(())
-        }
-        None => match slots.insert(number, Slot::copied(page)) {
-            Ok(_) => Ok(()),
-            Err(_) => Err(AllocError),
-        },
     }
 }
 
@@ -268,20 +247,16 @@ pub fn copy_into_spare(
 
 /// Commits the pages with these numbers, and keeps the memory of some whose place they took.
 fn commit_all(
-    slots: &mut BTreeMap<u32, Slot>,
+    slots: &mut Slots,
     copied: &[u32],
     spares: &mut ArrayVec<Option<Box<Page>>, MOST_SPARES>,
 )
-    ensures commits { (number : ℕ) → committed_held (held_at slots.new.entries number)
-        ≡ committed_held (held_at slots.old.entries number) }
-    ensures done { (k : ℕ) → k < length copied.now
-        → (held_at slots.new.entries (slice_index copied.now k)).copy ≡ None }
-    ensures others { (number : ℕ) → (held_at slots.old.entries number).copy ≡ None
-        → (held_at slots.new.entries number).copy ≡ None }
-    ensures some { HoldsEach slots.old.entries → HoldsEach slots.new.entries }
+    ensures commits { (number : ℕ) → committed_held (held_at slots.new number) ≡ committed_held (held_at slots.old number) }
+    ensures done { (k : ℕ) → k < length copied.now → (held_at slots.new (slice_index copied.now k)).copy ≡ None }
+    ensures others { (number : ℕ) → (held_at slots.old number).copy ≡ None → (held_at slots.new number).copy ≡ None }
 {
     for number in copied {
-        keep(spares, commit_one(slots, *number));
+        keep(spares, slots.commit(*number));
     }
 }
 
@@ -292,67 +267,41 @@ fn keep(spares: &mut ArrayVec<Option<Box<Page>>, MOST_SPARES>, page: Option<Box<
     }
 }
 
-/// Commits the page with this number, if it is changed. The page whose place it took is answered.
-fn commit_one(slots: &mut BTreeMap<u32, Slot>, number: u32) -> Option<Box<Page>>
-    ensures there { held_at slots.new.entries number ≡ committed_held (held_at slots.old.entries number) }
-    ensures others { (other : ℕ) → other ≢ number
-        → held_at slots.new.entries other ≡ held_at slots.old.entries other }
-    ensures some { HoldsEach slots.old.entries → HoldsEach slots.new.entries }
-{
-    match slots.get_mut(&number) {
-        Some(slot) => slot.commit(),
-        None => None,
-    }
-}
-
 /// Abandons the pages with these numbers.
-fn abandon_all(slots: &mut BTreeMap<u32, Slot>, copied: &[u32])
-    ensures abandons { (number : ℕ) → abandoned_held (held_at slots.new.entries number)
-        ≡ abandoned_held (held_at slots.old.entries number) }
-    ensures done { (k : ℕ) → k < length copied.now
-        → (held_at slots.new.entries (slice_index copied.now k)).copy ≡ None }
-    ensures others { (number : ℕ) → (held_at slots.old.entries number).copy ≡ None
-        → (held_at slots.new.entries number).copy ≡ None }
-    ensures some { HoldsEach slots.old.entries → HoldsEach slots.new.entries }
+fn abandon_all(slots: &mut Slots, copied: &[u32])
+    ensures abandons { (number : ℕ) → abandoned_held (held_at slots.new number) ≡ abandoned_held (held_at slots.old number) }
+    ensures done { (k : ℕ) → k < length copied.now → (held_at slots.new (slice_index copied.now k)).copy ≡ None }
+    ensures others { (number : ℕ) → (held_at slots.old number).copy ≡ None → (held_at slots.new number).copy ≡ None }
 {
     for number in copied {
-        abandon_one(slots, *number);
+        slots.abandon(*number);
     }
 }
 
-/// Abandons the page with this number, if it is changed. Where nothing is held of it then, it is no changed page.
-fn abandon_one(slots: &mut BTreeMap<u32, Slot>, number: u32)
-    ensures there { held_at slots.new.entries number ≡ abandoned_held (held_at slots.old.entries number) }
-    ensures others { (other : ℕ) → other ≢ number
-        → held_at slots.new.entries other ≡ held_at slots.old.entries other }
-    ensures some { HoldsEach slots.old.entries → HoldsEach slots.new.entries }
+/// Lists the numbers of the pages whose committed version is held, in any order. After a refusal it may have listed some.
+fn list_numbers(slots: &[Slot], numbers: &mut Vec<u32>) -> Result<(), AllocError>
+    requires { numbers.old.items ≡ [] }
+    ensures listed { OnOk result (numbers.new.items ≡ committed_numbers slots.now) }
+    ensures whole { OnOk result (AreWhole slots.now) }
 {
-    if is_committed(slots, number) {
-        drop_copy(slots, number);
-    } else {
-        slots.remove(&number);
+    for slot in slots {
+        list_number(numbers, slot)?;
     }
+    Ok(())
 }
 
-/// Whether the committed page with this number is held.
-fn is_committed(slots: &BTreeMap<u32, Slot>, number: u32) -> bool
-    ensures { result ≡ is_some (held_at slots.now.entries number).committed }
+/// Lists the number of a page whose committed version is held.
+fn list_number(numbers: &mut Vec<u32>, slot: &Slot) -> Result<(), AllocError>
+    ensures listed { OnOk result (numbers.new.items ≡ numbers.old.items ++ committed_numbers (slot.now ∷ [])) }
+    ensures whole { IsWhole slot.now }
 {
-    match slots.get(&number) {
-        Some(slot) => slot.committed().is_some(),
-        None => false,
-    }
-}
-
-/// Drops the working copy of a page whose committed page is held.
-fn drop_copy(slots: &mut BTreeMap<u32, Slot>, number: u32)
-    requires { IsSome (held_at slots.old.entries number).committed }
-    ensures there { held_at slots.new.entries number ≡ abandoned_held (held_at slots.old.entries number) }
-    ensures others { (other : ℕ) → other ≢ number
-        → held_at slots.new.entries other ≡ held_at slots.old.entries other }
-    ensures some { HoldsEach slots.old.entries → HoldsEach slots.new.entries }
-{
-    if let Some(slot) = slots.get_mut(&number) {
-        slot.abandon();
+    match slot.committed() {
+        Some(page) => {
+            // For the proof: that the page is whole.
+            let _bytes: &[u8] = &page.bytes;
+            numbers.push(slot.number())?;
+            Ok(())
+        }
+        None => Ok(()),
     }
 }

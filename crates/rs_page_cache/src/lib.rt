@@ -7,8 +7,8 @@
 pub mod changes;
 pub mod clean;
 pub mod limits;
-pub mod slot;
+mod slot;
+mod slots;
 
 pub use changes::{Changes, copy_into_spare};
 pub use clean::{CleanPages, MOST_CLEAN, MOST_WHILE_OPENING};
-pub use slot::Slot;

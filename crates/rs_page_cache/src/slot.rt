@@ -1,6 +1,6 @@
-//! What is held of one changed page: the committed page that the disk lacks, and the working copy.
+//! What is held of one changed page: its number, the committed page that the disk lacks, and the working copy.
 //!
-//! Both are side by side, so that a commit moves one into the other's place and takes no memory.
+//! Both pages are side by side, so that a commit moves one into the other's place and takes no memory.
 
 ghost use Rattle.std.specs.Prelude.{◌≡◌, ℕ, List, Some, None, true, false, is_some, IsSome, IsTrue, IsSomeAnd};
 ghost use Rattle.std.specs.Option.{option_map};
@@ -14,7 +14,8 @@ use std::mem;
 
 /// What is held of one changed page.
 #[derive(Drop)]
-pub struct Slot {
+pub(crate) struct Slot {
+    number: u32,
     /// The committed page, where the disk lacks it.
     committed: Option<Box<Page>>,
     /// The working page, where it is another.
@@ -22,12 +23,11 @@ pub struct Slot {
 }
 
 impl Model for Slot {
-    ghost use Rattle.rs_pages.specs.Held.{HeldPage};
-    ghost use Rattle.rs_page_cache.specs.Changes.{bytes_of};
+    ghost use Rattle.rs_page_cache.specs.Changes.{HeldSlot, bytes_of};
 
-    ghost Value = { HeldPage };
+    ghost Value = { HeldSlot };
 
-    ghost view = { λ s. record { committed = bytes_of s.committed; copy = bytes_of s.copy } };
+    ghost view = { λ s. (s.number, record { committed = bytes_of s.committed; copy = bytes_of s.copy }) };
 }
 
 impl Slot {
@@ -35,18 +35,26 @@ impl Slot {
     ghost use Rattle.std.specs.Borrow.{sem};
 
     /// A page of which nothing but a working copy is held.
-    pub fn copied(page: Box<Page>) -> Slot
-        ensures { result ≡ record { committed = None; copy = Some page.value.bytes } }
+    pub(crate) fn copied(number: u32, page: Box<Page>) -> Slot
+        ensures { result ≡ (number, record { committed = None; copy = Some page.value.bytes }) }
     {
         Slot {
+            number,
             committed: None,
             copy: Some(page),
         }
     }
 
+    /// The number of its page.
+    pub(crate) fn number(&self) -> u32
+        ensures { result ≡ self.now.0 }
+    {
+        self.number
+    }
+
     /// The working page: the copy, else the committed one.
-    pub fn working(&self) -> Option<&Page>
-        ensures { option_map (λ page. page.now.bytes) result ≡ held_change self.now }
+    pub(crate) fn working(&self) -> Option<&Page>
+        ensures { option_map (λ page. page.now.bytes) result ≡ held_change self.now.1 }
     {
         match &self.copy {
             Some(page) => Some(page),
@@ -55,8 +63,8 @@ impl Slot {
     }
 
     /// The committed page.
-    pub fn committed(&self) -> Option<&Page>
-        ensures { option_map (λ page. page.now.bytes) result ≡ self.now.committed }
+    pub(crate) fn committed(&self) -> Option<&Page>
+        ensures { option_map (λ page. page.now.bytes) result ≡ self.now.1.committed }
     {
         match &self.committed {
             Some(page) => Some(page),
@@ -65,8 +73,8 @@ impl Slot {
     }
 
     /// The working copy.
-    pub fn copy(&self) -> Option<&Page>
-        ensures { option_map (λ page. page.now.bytes) result ≡ self.now.copy }
+    pub(crate) fn copy(&self) -> Option<&Page>
+        ensures { option_map (λ page. page.now.bytes) result ≡ self.now.1.copy }
     {
         match &self.copy {
             Some(page) => Some(page),
@@ -75,17 +83,17 @@ impl Slot {
     }
 
     /// Whether there is a working copy.
-    pub fn has_copy(&self) -> bool
-        ensures { result ≡ is_some self.now.copy }
+    pub(crate) fn has_copy(&self) -> bool
+        ensures { result ≡ is_some self.now.1.copy }
     {
         self.copy.is_some()
     }
 
     /// Whether there is a working copy that is in use.
-    pub fn has_used_copy(&self) -> bool
-        ensures some { IsTrue result → IsSome self.now.copy }
-        ensures used { IsTrue result → IsSomeAnd self.now.copy (λ page. IsUsedCopy page self.now) }
-        ensures none { result ≡ false → (page : List ℕ) → self.now.copy ≡ Some page → is_free page ≡ true }
+    pub(crate) fn has_used_copy(&self) -> bool
+        ensures some { IsTrue result → IsSome self.now.1.copy }
+        ensures used { IsTrue result → IsSomeAnd self.now.1.copy (λ page. IsUsedCopy page self.now.1) }
+        ensures none { result ≡ false → (page : List ℕ) → self.now.1.copy ≡ Some page → is_free page ≡ true }
     {
         match &self.copy {
             Some(page) => !page.is_free(),
@@ -94,16 +102,16 @@ impl Slot {
     }
 
     /// Puts a working copy in place.
-    pub fn put_copy(&mut self, page: Box<Page>)
-        ensures { self.new ≡ with_copy page.value.bytes self.old }
+    pub(crate) fn put_copy(&mut self, page: Box<Page>)
+        ensures { self.new ≡ (self.old.0, with_copy page.value.bytes self.old.1) }
     {
         self.copy = Some(page);
     }
 
     /// The copy, to be changed.
-    pub fn copy_mut(&mut self) -> Option<&mut Page>
+    pub(crate) fn copy_mut(&mut self) -> Option<&mut Page>
         ensures* lends { sem 𝓛 (lends_copy self.entry result) }
-        ensures held { self.old.copy ≡ option_map (λ page. page.now.bytes) result }
+        ensures held { self.old.1.copy ≡ option_map (λ page. page.now.bytes) result }
     {
         match &mut self.copy {
             Some(page) => Some(page),
@@ -112,8 +120,8 @@ impl Slot {
     }
 
     /// The copy becomes the committed page. The page whose place it took is answered.
-    pub fn commit(&mut self) -> Option<Box<Page>>
-        ensures { self.new ≡ committed_held self.old }
+    pub(crate) fn commit(&mut self) -> Option<Box<Page>>
+        ensures { self.new ≡ (self.old.0, committed_held self.old.1) }
     {
         match self.copy.take() {
             Some(page) => mem::replace(&mut self.committed, Some(page)),
@@ -122,8 +130,8 @@ impl Slot {
     }
 
     /// The copy goes.
-    pub fn abandon(&mut self)
-        ensures { self.new ≡ abandoned_held self.old }
+    pub(crate) fn abandon(&mut self)
+        ensures { self.new ≡ (self.old.0, abandoned_held self.old.1) }
     {
         self.copy = None;
     }

@@ -6,7 +6,7 @@ use Rattle.rs_pages.specs.declared.pages.TheConstants.{GREATEST_LIMIT}
 use Rattle.rs_disk.specs.Content.{Content}
 use Rattle.rs_disk.specs.declared.disk.Disk as disk
 use Rattle.rs_journal.specs.FilePages.{FilePages}
-use Rattle.rs_journal.specs.Journal.{Journal, Ascends, MadePages, MakesPages, Recovers}
+use Rattle.rs_journal.specs.Journal.{Journal, Ascends, MadePages, MakesPages}
 use Rattle.rs_journal.proofs.Making.{makes_pages}
 use Rattle.rs_journal.specs.Stages.{GivesFrom, IsQuiet, StageImage, EveryImage, Meanwhile, EndsOrStops}
 use Rattle.rs_journal.specs.declared.stage.Stage.{Stage}

@@ -1,12 +1,10 @@
 //! The pages of a checkpoint as the journal asks for them: the committed pages where they are held as changes, and page 0.
 
 ghost use Rattle.std.specs.Prelude.{◌≡◌, ◌<◌, ◌^◌, length, slice_index};
-ghost use Rattle.std.specs.Option.{option_map};
-ghost use Rattle.rs_page_cache.specs.Changes.{held_at};
 ghost use Rattle.rs_page_copies.specs.Listed.{copy_in};
 
 use rs_journal::Copies;
-use rs_page::Page;
+use rs_page::{Page, PageNumber};
 use rs_page_cache::Changes;
 use std::marker::Model;
 
@@ -62,19 +60,10 @@ impl<'a> Copies for Copied<'a> {
     }
 
     fn page(&self, place: u32) -> &Page {
-        match committed_in(self.changes, self.numbers[place as usize]) {
+        let number = PageNumber::new(self.numbers[place as usize]);
+        match self.changes.committed(number) {
             Some(page) => page,
             None => self.first_page,
         }
-    }
-}
-
-/// The committed page with this number, where it is held as a change.
-fn committed_in(changes: &Changes, number: u32) -> Option<&Page>
-    ensures { option_map (λ page. page.now.bytes) result ≡ (held_at changes.now number).committed }
-{
-    match changes.slots().get(&number) {
-        Some(slot) => slot.committed(),
-        None => None,
     }
 }

@@ -80,9 +80,8 @@ impl UnderWay {
         ensures stage { self.new.stage ≡ self.old.stage }
         ensures refusal { IsOkUnless result Refusal.OutOfMemory }
     {
-        self.numbers.clear();
         *self.first_page = *first_page;
-        match list_committed(&mut self.numbers, changes.slots(), is_header_changed) {
+        match list_committed(&mut self.numbers, changes, is_header_changed) {
             Ok(()) => Ok(()),
             Err(_) => {
                 self.numbers.clear();

@@ -53,9 +53,7 @@ impl<D: Disk> Pager<D> {
         ensures yes { result ≡ true → (self.now.under_way.stage ≡ Fresh) × (self.now.changes ≡ []) × (self.now.is_header_changed ≡ false) }
         ensures no { self.now.under_way.stage ≡ Fresh → self.now.changes ≡ [] → self.now.is_header_changed ≡ false → result ≡ true }
     {
-        self.under_way.stage() == Stage::Fresh
-            && !self.is_header_changed
-            && self.changes.slots().is_empty()
+        self.under_way.stage() == Stage::Fresh && !self.is_header_changed && self.changes.is_empty()
     }
 
     /// Drops the clean pages, and lists the pages that a checkpoint copies, where none is under way. It is refused with 90 alone. The disk

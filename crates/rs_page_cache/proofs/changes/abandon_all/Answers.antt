@@ -5,9 +5,8 @@ use Rattle.rs_page_cache.proofs.changes.abandon_all.Goals as goal
 
 pub loop-number-preserved : goal.loop-number-preserved
 loop-number-preserved c = record {
-  all = abandon-all _ _ _ _ c.abandon_one.ensures.there c.abandon_one.ensures.others c.loop-number.invariant.all;
-  done = below_more _ _ (λ k h. abandon-none c.loop-number.slots.entries c.loop-number.slots.entries _ _ c.abandon_one.ensures.there c.abandon_one.ensures.others _ (c.loop-number.invariant.done k h))
-      (abandon-here c.loop-number.slots.entries _ _ _ c.abandon_one.ensures.there c.abandon_one.ensures.others);
-  others = λ n none. abandon-none c.loop-number.slots.entries _ _ _ c.abandon_one.ensures.there c.abandon_one.ensures.others n (c.loop-number.invariant.others n none);
-  some = λ was. c.abandon_one.ensures.some (c.loop-number.invariant.some was);
+  all = abandon-all _ _ _ _ c.abandon.ensures.there c.abandon.ensures.others c.loop-number.invariant.all;
+  done = below_more _ _ (λ k h. abandon-none c.loop-number.slots c.loop-number.slots _ _ c.abandon.ensures.there c.abandon.ensures.others _ (c.loop-number.invariant.done k h))
+      (abandon-here c.loop-number.slots _ _ _ c.abandon.ensures.there c.abandon.ensures.others);
+  others = λ n none. abandon-none c.loop-number.slots _ _ _ c.abandon.ensures.there c.abandon.ensures.others n (c.loop-number.invariant.others n none);
 }
