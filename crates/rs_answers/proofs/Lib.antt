@@ -10,5 +10,7 @@ mod ShownLines
 pub mod Starts
 mod PresentLines
 mod QueryAnswers
+mod VisitedRoutes
+mod TotalsVisited
 mod TotalRows
 mod Leavings

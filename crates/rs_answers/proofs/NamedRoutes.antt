@@ -32,9 +32,12 @@ each-there kept [] k other h all = absurd (omega arith)
 each-there kept (one ∷ routes) zero other h all = all.0
 each-there kept (one ∷ routes) (suc k) other h all = each-there kept routes k other (omega arith) all.1
 
+-- one of them
+pub one-there : (kept : Names RouteItem) (routes : List NamedRoute) (k : ℕ) (one : NamedRoute) → k < length routes → one ≡ get_or routes k one → AllByRecursion (IsEntryOf kept) (map entry_of routes)
+    → names.get kept one.name.bytes ≡ Some one.route
+one-there kept routes k one h is all = subst (λ (named : NamedRoute). IsEntryOf kept (entry_of named)) (sym is) (each-there kept routes k one h all)
+
 -- what is listed under a name is kept under it
 pub route-there : (kept : Names RouteItem) (routes : List NamedRoute) (k : ℕ) (one : NamedRoute) → k < length routes → one ≡ get_or routes k one → map entry_of routes ≡ names.entries kept
     → names.get kept one.name.bytes ≡ Some one.route
-route-there kept routes k one h is all =
-    subst (λ (named : NamedRoute). IsEntryOf kept (entry_of named)) (sym is)
-    (each-there kept routes k one h (subst (AllByRecursion (IsEntryOf kept)) (sym all) (each_entry kept)))
+route-there kept routes k one h is all = one-there kept routes k one h is (subst (AllByRecursion (IsEntryOf kept)) (sym all) (each_entry kept))

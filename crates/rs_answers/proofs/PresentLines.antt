@@ -27,9 +27,9 @@ use Rattle.rs_answers.proofs.States.{referents-at, route-at, routes-are}
 
 -- ---- the lines of all routes
 
-pub flat_map-map : {X Y : Type 0} (change : X → Y) (each : Y → List RowText) (xs : List X) → flat_map each (map change xs) ≡ flat_map (λ x. each (change x)) xs
+pub flat_map-map : {X Y Z : Type 0} (change : X → Y) (each : Y → List Z) (xs : List X) → flat_map each (map change xs) ≡ flat_map (λ x. each (change x)) xs
 flat_map-map change each [] = refl
-flat_map-map change each (x ∷ xs) = ap (λ rows. each (change x) ++ rows) (flat_map-map change each xs)
+flat_map-map change each (x ∷ xs) = ap (λ rest. each (change x) ++ rest) (flat_map-map change each xs)
 
 flat_map-same : {X : Type 0} (P : X → Type 0) (one other : X → List RowText) → ((x : X) → P x → one x ≡ other x) → (xs : List X) → AllByRecursion P xs → flat_map one xs ≡ flat_map other xs
 flat_map-same P one other same [] all = refl

@@ -1,5 +1,5 @@
 -- Runs on one route are printed whole, and their positions lie on the route.
-use Rattle.std.proofs.Common.{◌≡◌, ℕ, ◌+◌, ◌-◌, ◌<◌, ◌≤◌, true, List, [], Some, sym, subst, ◌∙◌, arith}
+use Rattle.std.proofs.Common.{◌≡◌, ℕ, ◌+◌, ◌-◌, ◌<◌, ◌≤◌, true, false, List, [], Some, sym, ap, subst, ◌∙◌, arith}
 use Rattle.std.specs.List.{AllByRecursion}
 use Rattle.std.specs.FinMap as names
 use Rattle.rs_value.specs.declared.column.Kind.{Kind}
@@ -14,6 +14,7 @@ use Rattle.rs_facts.proofs.KeptLaws.{every-weaker}
 use Rattle.rs_facts.proofs.Apart.{kept-apart}
 use Rattle.rs_facts.proofs.RunLaws.{runs-from_apart}
 use Rattle.rs_facts.proofs.RunsOf.{runs_of-unique}
+use Rattle.rs_facts.proofs.Sets.{contains-none}
 use Rattle.rs_machine.specs.Lawful.{MayHoldAt, IsLawful, OnRoute}
 use Rattle.rs_machine.specs.State.{State, world_of}
 use Rattle.rs_catalog.proofs.MapLaws.{some_same}
@@ -73,6 +74,13 @@ module _ (kind : Kind) (ends : RouteEnds) (places : Places) (on : HoldOn kind en
 -- where nothing holds, there are no runs
 pub no-runs : (kind : Kind) (places : Places) → places ≡ places_of [] → AreRunsOf kind places []
 no-runs kind places nothing = subst (λ (p : Places). AreRunsOf kind p []) (sym nothing) (runs-from_apart kind [] tt (kept-apart kind [] tt) tt)
+
+-- nor any from a route's start to its end
+pub none-printed : (kind : Kind) (ends : RouteEnds) (places : Places) → places ≡ places_of [] → runs_of kind places ends.start (ends.finish + 1) ≡ []
+none-printed kind ends places nothing = sym (runs-whole kind ends places holds-nothing [] (no-runs kind places nothing))
+  where
+    holds-nothing : HoldOn kind ends places
+    holds-nothing k row holding = absurd (let wrong : false ≡ true = sym (contains-none row) ∙ ap (λ (p : Places). contains (p k) row) (sym nothing) ∙ holding in cc)
 
 module _ (rows-lie : RowsLieOnRoutes) (state : State) (lawful : IsLawful state) (query : Query) (formed : IsWellFormed (world_of state) query) (route : Name) (ends : RouteEnds) (there : names.get state.routes route ≡ Some ends) where
   abbrev kind : Kind

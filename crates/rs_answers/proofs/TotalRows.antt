@@ -24,18 +24,23 @@ use Rattle.rs_exec.specs.Meaning.{rows_in, kind_in}
 use Rattle.rs_total.specs.Totalling.{AreRunsAlong, AreTotalsOf}
 use Rattle.rs_total.specs.Tally.{Tally}
 use Rattle.rs_answers.specs.declared.routes.NamedRoute.{NamedRoute}
-use Rattle.rs_answers.specs.Routes.{entry_of}
+use Rattle.rs_answers.specs.Routes.{entry_of, AreVisited}
 use Rattle.rs_answers.specs.Plans.{IsPlanFor}
 use Rattle.rs_answers.specs.Present.{IsPresent}
-use Rattle.rs_answers.specs.Totalled.{along_route, totals_of_query}
+use Rattle.rs_answers.specs.Totalled.{along_route, totals_of_query, HasTotalsOf}
 use Rattle.rs_answers.proofs.PlannedRows.{runs-planned}
 use Rattle.rs_answers.proofs.QueryRuns.{RowsLieOnRoutes, query-within}
 use Rattle.rs_answers.proofs.States.{route-at, routes-are}
+use Rattle.rs_answers.proofs.TotalsVisited.{totalled-visited}
+use Rattle.rs_answers.proofs.VisitedRoutes.{query-nothing, visited-few}
 
 -- ---- the rows along the routes
 
 abbrev pub along_named : State → Query → NamedRoute → Along
 along_named state query named = along_route state query named.name.bytes named.route.ends
+
+abbrev along_entry : State → Query → Name × RouteItem → Along
+along_entry state query entry = along_route state query entry.0 entry.1.ends
 
 abbrev pub along_so_far : State → Query → List NamedRoute → List Along
 along_so_far state query routes = map (along_named state query) routes
@@ -45,28 +50,35 @@ map-map f g [] = refl
 map-map f g (x ∷ xs) = ap (λ ys. g (f x) ∷ ys) (map-map f g xs)
 
 module _ (definitions : Definitions) (referents : Numbered HeldReferents) (state : State) (snapshot : Snapshot) (present : IsPresent definitions referents state snapshot) where
-  module _ (routes : List NamedRoute) (all : map entry_of routes ≡ names.entries definitions.routes) where
-    entries-all : map (λ (named : NamedRoute). (named.name.bytes, named.route.ends)) routes ≡ names.entries state.routes
-    entries-all =
-        let ends : Name × RouteItem → Name × RouteEnds = λ e. (e.0, e.1.ends) in
-        sym (map-map entry_of ends routes) ∙ ap (map ends) all ∙ sym (entries-map_values (λ (item : RouteItem). item.ends) definitions.routes)
-        ∙ ap names.entries (sym (routes-are definitions (referents_on referents) state present.defined))
+  -- along the routes of the definitions, which are those of the state
+  along-entries : (query : Query) → map (along_entry state query) (names.entries definitions.routes) ≡ rows_along state query
+  along-entries query =
+      let ends : Name × RouteItem → Name × RouteEnds = λ e. (e.0, e.1.ends) in
+      let each : Name × RouteEnds → Along = λ e. along_route state query e.0 e.1 in
+      sym (map-map ends each (names.entries definitions.routes))
+      ∙ ap (map each) (sym (entries-map_values (λ (item : RouteItem). item.ends) definitions.routes) ∙ ap names.entries (sym (routes-are definitions (referents_on referents) state present.defined)))
 
-    -- all routes are those of the state
-    pub along-all : (query : Query) → along_so_far state query routes ≡ rows_along state query
-    along-all query =
-        let each : Name × RouteEnds → Along = λ e. along_route state query e.0 e.1 in
-        sym (map-map (λ (named : NamedRoute). (named.name.bytes, named.route.ends)) each routes) ∙ ap (map each) entries-all
+  module _ (plan : Plan) (routes : List NamedRoute) (visited : AreVisited definitions plan (map entry_of routes)) (query : Query) where
+    -- the totals along the routes that are looked at are those along all
+    pub totals-all : IsPlanFor definitions query plan → (group : List ℕ) (column : Option ℕ) → totalled group column (along_so_far state query routes) ≡ totalled group column (rows_along state query)
+    totals-all for group column =
+        ap (totalled group column) (sym (map-map entry_of (along_entry state query) routes))
+        ∙ totalled-visited definitions plan (map entry_of routes) visited (along_entry state query) (λ e there nothing. query-nothing definitions referents state snapshot present query plan for e.0 e.1 there nothing) group column
+        ∙ ap (totalled group column) (along-entries query)
 
-    pub few-so-far : (query : Query) (k : ℕ) → length (along_so_far state query (take k routes)) < 2 ^ 31
-    few-so-far query k =
+    pub few-so-far : (k : ℕ) → length (along_so_far state query (take k routes)) < 2 ^ 31
+    few-so-far k =
         let each = length-map (take k routes) (along_named state query) in
         let some = length-take k routes in
-        let named = sym (length-map routes (λ (named : NamedRoute). (named.name.bytes, named.route.ends))) ∙ ap length entries-all ∙ sym (names.len-entries state.routes) in
+        let entries = length-map routes entry_of in
+        let kept = visited-few definitions plan (map entry_of routes) visited in
+        let named =
+        sym (length-map (names.entries definitions.routes) (along_entry state query)) ∙ ap length (along-entries query)
+        ∙ length-map (names.entries state.routes) (λ (e : Name × RouteEnds). along_route state query e.0 e.1) ∙ sym (names.len-entries state.routes) in
         let few = present.lawful.limits.routes in
         let limit : ROUTES ≡ 4096 = refl in
         let power : 2 ^ 31 ≡ 2147483648 = refl in
-        omega (arith, each, some, named, few, limit, power)
+        omega (arith, each, some, entries, kept, named, few, limit, power)
 
   -- the runs on one route are those along it
   module _ (rows-lie : RowsLieOnRoutes) (query : Query) (plan : Plan) (for : IsPlanFor definitions query plan) (route : Name) (on : RouteItem) (there : names.get definitions.routes route ≡ Some on) where
@@ -95,10 +107,14 @@ totals-more state query group column routes k one tally h is are =
     ∙ ap (along_so_far state query) (sym (take_more routes k one h))
     ) are
 
-pub totals-end : (state : State) (query : Query) (group : List ℕ) (column : Option ℕ) (routes : List NamedRoute) (k : ℕ) (tally : Tally) → k ≡ length routes → along_so_far state query routes ≡ rows_along state query
-    → AreTotalsOf group column (along_so_far state query (take k routes)) tally → AreTotalsOf group column (rows_along state query) tally
-totals-end state query group column routes k tally e all are =
-    subst (λ (done : List Along). AreTotalsOf group column done tally) (ap (λ (n : ℕ). along_so_far state query (take n routes)) e ∙ ap (along_so_far state query) (take-length routes) ∙ all) are
+pub totals-end : (state : State) (query : Query) (group : List ℕ) (column : Option ℕ) (routes : List NamedRoute) (k : ℕ) (tally : Tally) → k ≡ length routes
+    → totalled group column (along_so_far state query routes) ≡ totalled group column (rows_along state query)
+    → AreTotalsOf group column (along_so_far state query (take k routes)) tally → HasTotalsOf state query group column tally
+totals-end state query group column routes k tally e same are = record {
+  routes = along_so_far state query routes;
+  tallied = subst (λ (done : List Along). AreTotalsOf group column done tally) (ap (λ (n : ℕ). along_so_far state query (take n routes)) e ∙ ap (along_so_far state query) (take-length routes)) are;
+  same = same;
+}
 
 -- ---- what is answered
 

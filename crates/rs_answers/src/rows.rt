@@ -15,7 +15,7 @@ ghost use Rattle.rs_answers.specs.Standing.{StandsAt};
 
 use crate::memory::{InMemory, PlannedQuery};
 use crate::printer::PositionPrinter;
-use crate::routes::{NamedRoute, named_routes};
+use crate::routes::{NamedRoute, visited_routes};
 use crate::row_text::push_lines;
 use crate::runs::runs_on;
 use rs_machine_laws::printed::rows_lie_on_routes;
@@ -24,7 +24,7 @@ use rs_refusal::Refusal;
 use std::alloc::Global;
 
 /// The lines of a planned query on all routes, by route name, then by place, then by row, their positions printed by the
-/// method. The source tells why they are refused.
+/// method. Where windows leave one route alone, no other is looked at. The source tells why the lines are refused.
 pub fn lines<E: InMemory>(
     alloc: Global,
     e: &mut E,
@@ -37,7 +37,7 @@ pub fn lines<E: InMemory>(
         → (state : State) → StandsAt E.is E.definitions E.held_referents asked.now.version e.old state → rows_of rows.items ≡ lines_of state query method) }
     ensures ends { EndsWith E.Source e.old e.new result }
 {
-    let routes = named_routes(alloc, e.catalog())?;
+    let routes = visited_routes(alloc, e.catalog(), asked.plan)?;
     let mut rows = Vec::new(alloc);
     for named in &routes {
         push_rows(alloc, e, asked, method, named, &mut rows)?;

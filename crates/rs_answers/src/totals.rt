@@ -12,7 +12,7 @@ ghost use Rattle.rs_facts.specs.TotalText.{total_text};
 ghost use Rattle.rs_syntax.specs.View.{column_tree, summed_tree};
 ghost use Rattle.rs_machine.specs.Checking.{columns_in};
 ghost use Rattle.rs_machine.specs.State.{State};
-ghost use Rattle.rs_machine.specs.Step.{effect, rows_along};
+ghost use Rattle.rs_machine.specs.Step.{effect};
 ghost use Rattle.rs_serve.specs.ReplyView.{rows_of};
 ghost use Rattle.rs_total.specs.Totalling.{AreTotalsOf};
 ghost use Rattle.rs_total.specs.Answer.{answered};
@@ -21,10 +21,10 @@ ghost use Rattle.rs_exec.specs.Meaning.{kind_in, is_well_formed};
 ghost use Rattle.rs_answers.specs.Plans.{IsPlanFor};
 ghost use Rattle.rs_answers.specs.Standing.{StandsAt};
 ghost use Rattle.rs_answers.specs.TotalColumns.{AreTotalColumns};
-ghost use Rattle.rs_answers.specs.Totalled.{along_route, totals_of_query};
+ghost use Rattle.rs_answers.specs.Totalled.{along_route, totals_of_query, HasTotalsOf};
 
 use crate::memory::{InMemory, PlannedQuery};
-use crate::routes::{NamedRoute, named_routes};
+use crate::routes::{NamedRoute, visited_routes};
 use crate::runs::runs_on;
 use rs_checker::{Columns, check_group, check_summed};
 use rs_coalesce::lent;
@@ -88,7 +88,8 @@ pub fn total_of<E: InMemory>(
     Ok(total_lines(alloc, asked.kind, totals.as_slice())?)
 }
 
-/// The totals of a planned query over all routes, by the columns at these places.
+/// The totals of a planned query over all routes, by the columns at these places. Where windows leave one route alone, no
+/// other is looked at.
 fn totals_of_routes<E: InMemory>(
     alloc: Global,
     e: &mut E,
@@ -98,10 +99,10 @@ fn totals_of_routes<E: InMemory>(
 ) -> Result<Totals, Refusal>
     requires formed { is_well_formed asked.now.plan.now ≡ true }
     ensures totals { IfOk result (λ totals. (query : Query) → IsPlanFor (E.definitions e.old) query asked.now.plan.now
-        → (state : State) → StandsAt E.is E.definitions E.held_referents asked.now.version e.old state → AreTotalsOf group.items column (rows_along state query) totals) }
+        → (state : State) → StandsAt E.is E.definitions E.held_referents asked.now.version e.old state → HasTotalsOf state query group.items column totals) }
     ensures ends { EndsWith E.Source e.old e.new result }
 {
-    let routes = named_routes(alloc, e.catalog())?;
+    let routes = visited_routes(alloc, e.catalog(), asked.plan)?;
     let mut totals = Totals::new(alloc, group, column);
     for named in &routes {
         add_rows(alloc, e, asked, named, &mut totals)?;

@@ -59,6 +59,12 @@ where-nothing conditions plan route off = λ snapshot k.
     ∙ ap (met_by_each (conditions_of conditions)) (off snapshot k)
     ∙ met-nothing (conditions_of conditions)
 
+pub window-nothing : (windows : Vec PlannedWindow Global) (plan : Box Plan Global) (route : ℕ) → AreOff windows.items route → HasNothingOn route (variants.Window windows plan)
+window-nothing windows plan route off = λ snapshot k.
+    ap (λ (p : Plan). (meaning_of p).rows snapshot route k) (sym (variants.rolls-Window windows plan))
+    ∙ ap (λ (meaning : PlanMeaning). meaning.rows snapshot route k) (fold-roll-Plan PlanMeaning meaning_step (Plan-F.Window windows plan))
+    ∙ off.nothing k ((meaning_of plan.value).rows snapshot route k)
+
 pub dissolve-nothing : (columns : Vec ℕ Global) (plan : Box Plan Global) (route : ℕ) → HasNothingOn route plan.value → HasNothingOn route (variants.Dissolve columns plan)
 unfolding dissolved
 dissolve-nothing columns plan route off = λ snapshot k.
@@ -117,9 +123,12 @@ pub something-left : (part : Option Part) (is_none : Bool) (windows : List Plann
 something-left None is_none windows route is so on = absurd (let wrong : false ≡ true = is ∙ ap not so in cc)
 something-left (Some part) is_none windows route is so on = on
 
-pub operand-something : (plan : Plan) (operand : Box Plan Global) (route : ℕ)
+pub over-window : (windows : Vec PlannedWindow Global) (plan : Box Plan Global) → windows_over (variants.Window windows plan) ≡ windows.items
+over-window windows plan = ap windows_over (sym (variants.rolls-Window windows plan)) ∙ fold-roll-Plan (List PlannedWindow) windows_step (Plan-F.Window windows plan)
+
+pub operand-over : (plan : Plan) (operand : Box Plan Global)
     → ((x : Vec Condition Global) × plan ≡ variants.Where x operand) ⊎ (((x : Vec ℕ Global) × plan ≡ variants.Dissolve x operand) ⊎ ((x : Box Plan Global) × plan ≡ variants.Minus operand x))
-    → AreOn (windows_over operand.value) route → AreOn (windows_over plan) route
-operand-something plan operand route (inl one) on = subst (λ windows. AreOn windows route) (sym (ap windows_over one.1 ∙ over-where one.0 operand)) on
-operand-something plan operand route (inr (inl one)) on = subst (λ windows. AreOn windows route) (sym (ap windows_over one.1 ∙ over-dissolve one.0 operand)) on
-operand-something plan operand route (inr (inr one)) on = subst (λ windows. AreOn windows route) (sym (ap windows_over one.1 ∙ over-minus operand one.0)) on
+    → windows_over operand.value ≡ windows_over plan
+operand-over plan operand (inl one) = sym (ap windows_over one.1 ∙ over-where one.0 operand)
+operand-over plan operand (inr (inl one)) = sym (ap windows_over one.1 ∙ over-dissolve one.0 operand)
+operand-over plan operand (inr (inr one)) = sym (ap windows_over one.1 ∙ over-minus operand one.0)

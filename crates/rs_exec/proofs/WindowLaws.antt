@@ -1,12 +1,14 @@
 -- What windows, one after another, leave of a route.
-use Rattle.std.proofs.Common.{◌≡◌, ◌≢◌, ℕ, true, false, List, [], ◌∷◌, refl, sym, ap, ◌∙◌, subst}
+use Rattle.std.proofs.Common.{◌≡◌, ◌≢◌, ℕ, true, false, List, [], ◌∷◌, Some, refl, sym, ap, ◌∙◌, subst}
 use Rattle.std.specs.Prelude.{◌==◌, if◌then◌else◌}
 use Rattle.std.specs.List.{AllByRecursion, list_any}
 use Rattle.rs_facts.specs.Fact.{RowSet, none}
+use Rattle.rs_plan.specs.declared.plan.PlannedRoute.{PlannedRoute}
 use Rattle.rs_plan.specs.declared.plan.PlannedWindow.{PlannedWindow}
+use Rattle.rs_plan.specs.declared.plan.PlannedWindow.TheVariants as variants
 use Rattle.rs_exec.specs.Given.{inside}
 use Rattle.rs_exec.specs.Meaning.{route_number, seen_on_its_route, seen_through, seen_through_each}
-use Rattle.rs_exec.specs.Windows.{IsInsideEach, AreOff, AreOn, HasRoom}
+use Rattle.rs_exec.specs.Windows.{IsInsideEach, AreOff, AreOn, HasRoom, route_in, first_route}
 use Rattle.rs_exec.specs.declared.source.Part.{Part}
 use Rattle.rs_exec.specs.declared.source.Part.TheVariants as parts
 use Rattle.rs_exec.proofs.Lists.{none_first, none_second}
@@ -74,6 +76,17 @@ off-elsewhere windows later window number first other = record {
       ap (λ each. seen_through_each each number k rows) first
       ∙ through_other window number k (seen_through_each later number k rows) (λ e. other (sym e));
 }
+
+number-in : (window : PlannedWindow) → route_number window ≡ (route_in window).number
+number-in (variants.Whole route) = refl
+number-in (variants.Part route from to) = refl
+
+pub first-is : (windows later : List PlannedWindow) (window : PlannedWindow) (route : PlannedRoute) → windows ≡ window ∷ later → route ≡ route_in window → Some route ≡ first_route windows
+first-is windows later window route first is = ap Some is ∙ ap first_route (sym first)
+
+pub first-off : (windows later : List PlannedWindow) (window : PlannedWindow) (route : PlannedRoute) (number : ℕ) → windows ≡ window ∷ later → route ≡ route_in window → number ≢ route.number → AreOff windows number
+first-off windows later window route number first is other =
+    off-elsewhere windows later window number first (λ e. other (e ∙ number-in window ∙ ap (λ (r : PlannedRoute). r.number) (sym is)))
 
 -- none of the numbers is that of the route
 pub off-each : (windows later : List PlannedWindow) (window : PlannedWindow) (numbers : List ℕ) → windows ≡ window ∷ later → list_any (λ other. route_number window == other) numbers ≡ false → AllByRecursion (AreOff windows) numbers

@@ -1,14 +1,26 @@
 -- What windows leave of a route, and spans put on their route.
-use Rattle.std.specs.Prelude.{◌≡◌, ◌≢◌, ℕ, List, [], map, Vec}
+use Rattle.std.specs.Prelude.{◌≡◌, ◌≢◌, ℕ, List, [], ◌∷◌, map, Option, Some, None, Vec}
 use Rattle.std.specs.declared.alloc.Global.{Global}
 use Rattle.rs_facts.specs.declared.fact.Span.{Span}
 use Rattle.rs_facts.specs.Fact.{RowSet, none}
 use Rattle.rs_facts.specs.Runs.{Stretch}
 use Rattle.rs_facts.specs.Spans.{seen}
+use Rattle.rs_plan.specs.declared.plan.PlannedRoute.{PlannedRoute}
 use Rattle.rs_plan.specs.declared.plan.PlannedWindow.{PlannedWindow}
+use Rattle.rs_plan.specs.declared.plan.PlannedWindow.TheVariants as windows
 use Rattle.rs_exec.specs.Given.{inside}
 use Rattle.rs_exec.specs.Meaning.{seen_through_each}
 use Rattle.rs_exec.specs.declared.source.Part.{Part}
+
+-- a window's route
+abbrev pub route_in : PlannedWindow → PlannedRoute
+route_in (windows.Whole route) = route
+route_in (windows.Part route from to) = route
+
+-- that of the first of several windows
+abbrev pub first_route : List PlannedWindow → Option PlannedRoute
+first_route [] = None
+first_route (window ∷ others) = Some (route_in window)
 
 -- what is seen through all windows on the route is what is inside the part
 pub record IsInsideEach (windows : List PlannedWindow) (route : ℕ) (part : Part) : Type 0 where

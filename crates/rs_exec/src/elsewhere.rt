@@ -1,38 +1,59 @@
-//! Plans whose windows leave nothing of a route.
+//! Plans whose windows leave nothing of a route, and the one route that windows leave something of.
 
-ghost use Rattle.std.specs.Prelude.{◌≡◌, true, false, map};
-ghost use Rattle.rs_exec.specs.Windows.{AreOn};
+ghost use Rattle.std.specs.Prelude.{◌≡◌, ◌≢◌, ℕ, true, false, map, IfSome};
+ghost use Rattle.rs_exec.specs.Windows.{AreOff, AreOn, first_route};
 ghost use Rattle.rs_exec.specs.Elsewhere.{HasNothingOn, BeginsWithNothingOn, windows_over, windows_of_first};
 
-use crate::windows::part_inside;
-use rs_plan::Plan;
+use crate::windows::{part_inside, planned_route_of};
+use rs_plan::{Plan, PlannedRoute, PlannedWindow};
 
 /// Whether a plan's windows leave nothing of the route of this number. No row is looked at.
-#[cycle(elsewhere)]
 pub fn is_elsewhere(plan: &Plan, route: u32) -> bool
     ensures nothing { result ≡ true → HasNothingOn route plan.now }
     ensures something { result ≡ false → AreOn (windows_over plan.now) route }
 {
-    match plan {
-        Plan::Leaf(leaf) => part_inside(leaf.windows.as_slice(), route).is_none(),
-        Plan::Window(windows, _) => part_inside(windows.as_slice(), route).is_none(),
-        Plan::Where(_, operand) | Plan::Dissolve(_, operand) | Plan::Minus(operand, _) => {
-            is_elsewhere(operand, route)
-        }
-        Plan::Overlay(_, operands) => begins_elsewhere(operands.as_slice(), route),
-        Plan::Cover(_, _, _, _) | Plan::Merge(_, _) | Plan::Transform(_, _, _) | Plan::Gaps(_) =>
-            false,
+    part_inside(windows_over(plan), route).is_none()
+}
+
+/// The route of the first of the windows over a plan, which has no row on any other route; none where there are no windows
+/// over it. No row is looked at.
+pub fn route_over(plan: &Plan) -> Option<PlannedRoute>
+    ensures first { result ≡ first_route (windows_over plan.now) }
+    ensures nothing { IfSome result (λ route. (number : ℕ) → number ≢ route.number → HasNothingOn number plan.now) }
+{
+    match windows_over(plan).split_first() {
+        Some((window, _)) => Some(planned_route_of(*window)),
+        None => None,
     }
 }
 
-/// Whether the windows of the first of an OVERLAY's operands leave nothing of the route.
-#[cycle(elsewhere)]
-fn begins_elsewhere(operands: &[Plan], route: u32) -> bool
-    ensures nothing { result ≡ true → BeginsWithNothingOn route operands.now }
-    ensures something { result ≡ false → AreOn (windows_of_first (map windows_over operands.now)) route }
+/// The windows that all rows of a plan are inside of.
+#[cycle(over)]
+fn windows_over(plan: &Plan) -> &[PlannedWindow]
+    ensures over { result.now ≡ windows_over plan.now }
+    ensures nothing { (route : ℕ) → AreOff result.now route → HasNothingOn route plan.now }
+{
+    match plan {
+        Plan::Leaf(leaf) => leaf.windows.as_slice(),
+        Plan::Window(windows, _) => windows.as_slice(),
+        Plan::Where(_, operand) | Plan::Dissolve(_, operand) | Plan::Minus(operand, _) => {
+            windows_over(operand)
+        }
+        Plan::Overlay(_, operands) => windows_over_first(operands.as_slice()),
+        Plan::Cover(_, _, _, _) | Plan::Merge(_, _) | Plan::Transform(_, _, _) | Plan::Gaps(_) => {
+            &[]
+        }
+    }
+}
+
+/// The windows that all rows of the first of an OVERLAY's operands are inside of.
+#[cycle(over)]
+fn windows_over_first(operands: &[Plan]) -> &[PlannedWindow]
+    ensures over { result.now ≡ windows_of_first (map windows_over operands.now) }
+    ensures nothing { (route : ℕ) → AreOff result.now route → BeginsWithNothingOn route operands.now }
 {
     match operands.split_first() {
-        Some((first, _)) => is_elsewhere(first, route),
-        None => false,
+        Some((first, _)) => windows_over(first),
+        None => &[],
     }
 }

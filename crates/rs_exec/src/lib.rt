@@ -19,7 +19,7 @@ mod routes;
 pub mod source;
 mod windows;
 
-pub use elsewhere::is_elsewhere;
+pub use elsewhere::{is_elsewhere, route_over};
 pub use evaluation::eval;
 pub use kinds::kind_of;
 pub use source::{Asked, Part, SoughtValue, Source};

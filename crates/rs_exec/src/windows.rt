@@ -9,12 +9,12 @@ ghost use Rattle.rs_sweep.specs.Lists.{AreSorted, AreWide};
 ghost use Rattle.rs_exec.specs.Given.{inside};
 ghost use Rattle.rs_exec.specs.Meaning.{route_number, seen_on_its_route};
 ghost use Rattle.rs_exec.specs.Routes.{numbers_of, list_of};
-ghost use Rattle.rs_exec.specs.Windows.{AreOff, AreOn, HasRoom, IsInsideEach, IsSeenOn, IsSpread};
+ghost use Rattle.rs_exec.specs.Windows.{AreOff, AreOn, HasRoom, IsInsideEach, IsSeenOn, IsSpread, route_in};
 
 use crate::routes::{Routes, RowsOn, is_among};
 use crate::source::Part;
 use rs_facts::Span;
-use rs_plan::PlannedWindow;
+use rs_plan::{PlannedRoute, PlannedWindow};
 use rs_spans::copy_spans;
 use rs_sweep::window;
 use std::alloc::{AllocError, Global};
@@ -26,6 +26,16 @@ pub(crate) fn route_of(window: PlannedWindow) -> u32
     match window {
         PlannedWindow::Whole { route } => route.number,
         PlannedWindow::Part { route, .. } => route.number,
+    }
+}
+
+/// A window's route.
+pub(crate) fn planned_route_of(window: PlannedWindow) -> PlannedRoute
+    ensures { result ≡ route_in window }
+{
+    match window {
+        PlannedWindow::Whole { route } => route,
+        PlannedWindow::Part { route, .. } => route,
     }
 }
 

@@ -1,10 +1,7 @@
-use Rattle.std.proofs.Common.{map, ap, ◌∙◌, arith}
-use Rattle.std.specs.FinMap as names
+use Rattle.std.proofs.Common.{◌∙◌, arith}
 use Rattle.rs_serve.specs.ReplyView.{rows_of}
-use Rattle.rs_catalog.specs.Definitions.{Definitions}
-use Rattle.rs_answers.specs.Routes.{entry_of}
 use Rattle.rs_answers.proofs.Leavings.{leaves-then, stands-later, plan-later}
-use Rattle.rs_answers.proofs.QueryAnswers.{lines-more, lines-end, lines-all, named-there}
+use Rattle.rs_answers.proofs.QueryAnswers.{lines-more, lines-end, lines-all, named-there, visited-in}
 use Rattle.rs_answers.proofs.rows.lines.Goals as goal
 
 pub loop-named-preserved : goal.loop-named-preserved
@@ -12,16 +9,17 @@ loop-named-preserved g c =
     let laws = g.met.E.InMemory in
     let before = c.loop-named.invariant in
     let routes = c.deref-named-items.result.now in
-    let all = ap (map entry_of) c.deref-named-items.ensures.value ∙ c.in_ok-routes.ensures ∙ ap (λ (d : Definitions). names.entries d.routes) c.catalog.ensures in
+    let plan = c.args.asked.now.plan.now in
+    let visited = visited-in (g.E.InMemory.definitions c.args.e.now) c.catalog.result.now c.catalog.ensures plan c.in_ok-routes.routes.items routes c.deref-named-items.ensures.value c.in_ok-routes.ensures.visited in
     let same = laws.definitions_stay c.args.e.now c.loop-named.e before.leaves.passes in
-    let there = named-there (g.E.InMemory.definitions c.args.e.now) (g.E.InMemory.definitions c.loop-named.e) same routes c.loop-named.named-index c.named-item.result (omega arith) c.named-item.is all in
+    let there = named-there (g.E.InMemory.definitions c.args.e.now) (g.E.InMemory.definitions c.loop-named.e) same plan routes c.loop-named.named-index c.named-item.result (omega arith) c.named-item.is visited in
     record {
       leaves = leaves-then g.E.Source g.met.E.Source.passes_trans c.args.e.now c.loop-named.e c.push_rows.new.e before.leaves c.in_ok-push_rows.ensures.ends.leaves;
       printed = λ query for state stands.
           lines-more state query c.args.method routes c.loop-named.named-index c.named-item.result (rows_of c.loop-named.rows.items) (rows_of c.push_rows.new.rows.items) (omega arith) c.named-item.is
           (before.printed query for state stands)
           (c.in_ok-push_rows.ensures.lines query
-          (plan-later g.E.Source g.E.InMemory.definitions g.E.InMemory.held_referents laws.definitions_stay laws.referents_stay c.args.e.now c.loop-named.e before.leaves query c.args.asked.now.plan.now for) there state
+          (plan-later g.E.Source g.E.InMemory.definitions g.E.InMemory.held_referents laws.definitions_stay laws.referents_stay c.args.e.now c.loop-named.e before.leaves query plan for) there state
           (stands-later g.E.Source g.E.InMemory.definitions g.E.InMemory.held_referents laws.definitions_stay laws.referents_stay c.args.e.now c.loop-named.e before.leaves c.args.asked.now.version state stands));
     }
 
@@ -29,7 +27,8 @@ pub returns-clause-lines : goal.returns-clause-lines
 returns-clause-lines g c = λ query for state stands.
     let e = c.args.e.now in
     let routes = c.deref-named-items.result.now in
-    let all = ap (map entry_of) c.deref-named-items.ensures.value ∙ c.in_ok-routes.ensures ∙ ap (λ (d : Definitions). names.entries d.routes) c.catalog.ensures in
+    let plan = c.args.asked.now.plan.now in
+    let visited = visited-in (g.E.InMemory.definitions e) c.catalog.result.now c.catalog.ensures plan c.in_ok-routes.routes.items routes c.deref-named-items.ensures.value c.in_ok-routes.ensures.visited in
     c.loop-named.invariant.printed query for state stands
     ∙ lines-end state query c.args.method routes c.loop-named.named-index (omega arith)
-    ∙ lines-all (g.E.InMemory.definitions e) (g.E.InMemory.held_referents e) state (stands.snapshots c.args.asked.now.version) stands.present query c.args.method routes all
+    ∙ lines-all (g.E.InMemory.definitions e) (g.E.InMemory.held_referents e) state (stands.snapshots c.args.asked.now.version) stands.present query plan for c.args.method routes visited

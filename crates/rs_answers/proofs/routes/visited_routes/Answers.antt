@@ -1,0 +1,7 @@
+use Rattle.std.proofs.Common.{map, sym, ap, ◌∙◌}
+use Rattle.std.proofs.lemmas.Result.{IfOk-weaker}
+use Rattle.rs_answers.proofs.VisitedRoutes.{visited-all, visited-one}
+use Rattle.rs_answers.proofs.routes.visited_routes.Goals as goal
+
+pub returns-in-None-clause-visited : goal.returns-in-None-clause-visited
+returns-in-None-clause-visited c = IfOk-weaker c.named_routes.result _ _ (λ routes all. visited-all c.args.catalog.now c.args.plan.now _ all) c.named_routes.ensures
