@@ -110,17 +110,22 @@ module _ (slots : Changes) (places : List ℕ) (placed : ArePlaced (keys_of slot
 
 -- ---- after a slot was written
 
+-- the number of the slot at a place, and that it is written with it
+number_at : (slots : Changes) (k n : ℕ) (was : HeldPage) → slice_get slots k ≡ Some (n, was) → slice_index (keys_of slots) k ≡ n
+number_at slots k n was is =
+    sym (number_of slots k (n, was) (slice_get_within slots k (n, was) is)) ∙ ap (λ (e : HeldSlot). e.0) (get_or_from_slice_get slots k (n, was) (n, was) is)
+
+written_there : (slots : Changes) (places : List ℕ) → ArePlaced (keys_of slots) places → (k n : ℕ) (was : HeldPage) → slice_get slots k ≡ Some (n, was) → slice_index places n ≡ suc k
+written_there slots places placed k n was is =
+    let inside = slice_get_within slots k (n, was) is in
+    subst (λ i. slice_index places i ≡ suc k) (number_at slots k n was is) (placed.listed k (subst (λ m. k < m) (sym (same_length slots)) inside))
+
 -- the numbers stay where the slot at a place keeps its number
 same_numbers : (slots : Changes) (k n : ℕ) (was held : HeldPage) → slice_get slots k ≡ Some (n, was) → keys_of (set slots k (n, held)) ≡ keys_of slots
 same_numbers slots k n was held is =
     map-set (λ (e : HeldSlot). e.0) slots k (n, held)
     ∙ ap (set (keys_of slots) k) (sym (number_at slots k n was is))
     ∙ set-get_or (keys_of slots) k 0
-  where
-    number_at : (slots : Changes) (k n : ℕ) (was : HeldPage) → slice_get slots k ≡ Some (n, was) → slice_index (keys_of slots) k ≡ n
-    number_at slots k n was is =
-        let inside = slice_get_within slots k (n, was) is in
-        sym (number_of slots k (n, was) inside) ∙ ap (λ (e : HeldSlot). e.0) (get_or_from_slice_get slots k (n, was) (n, was) is)
 
 module _ (slots : Changes) (places : List ℕ) (placed : ArePlaced (keys_of slots) places)
     (k n : ℕ) (was held : HeldPage) (is : slice_get slots k ≡ Some (n, was)) where
@@ -131,9 +136,7 @@ module _ (slots : Changes) (places : List ℕ) (placed : ArePlaced (keys_of slot
   placed_written = subst (λ (numbers : List ℕ). ArePlaced numbers places) (sym (same_numbers slots k n was held is)) placed
 
   at_n : slice_index places n ≡ suc k
-  at_n =
-      let number : slice_index (keys_of slots) k ≡ n = sym (number_of slots k (n, was) inside) ∙ ap (λ (e : HeldSlot). e.0) (get_or_from_slice_get slots k (n, was) (n, was) is) in
-      subst (λ i. slice_index places i ≡ suc k) number (placed.listed k (subst (λ m. k < m) (sym (same_length slots)) inside))
+  at_n = written_there slots places placed k n was is
 
   held_written : held_at (set slots k (n, held)) n ≡ held
   held_written = finds_held (set slots k (n, held)) places placed_written n (suc k) at_n
@@ -475,13 +478,6 @@ module _ (slots rest : Changes) (places : List ℕ) (placed : ArePlaced (keys_of
         ∙ ap (λ (found : Option HeldPage). unwrap_or found nothing_held) (by_other_removed m (slice_index places m) ne ne_last refl)
         ∙ sym (finds_held slots places placed m (slice_index places m) refl)
   ]
-
--- the number of a slot is written with its place
-written_there : (slots : Changes) (places : List ℕ) → ArePlaced (keys_of slots) places → (k n : ℕ) (held : HeldPage) → slice_get slots k ≡ Some (n, held) → slice_index places n ≡ suc k
-written_there slots places placed k n held is =
-    let inside = slice_get_within slots k (n, held) is in
-    let number : slice_index (keys_of slots) k ≡ n = sym (number_of slots k (n, held) inside) ∙ ap (λ (e : HeldSlot). e.0) (get_or_from_slice_get slots k (n, held) (n, held) is) in
-    subst (λ i. slice_index places i ≡ suc k) number (placed.listed k (subst (λ m. k < m) (sym (same_length slots)) inside))
 
 module _ (slots : Changes) (places : List ℕ) (was : HasPlaces slots places) (value : Changes) (view_is : slots ≡ value)
     (k n : ℕ) (is : slice_get value k ≡ Some (n, held_at value n))

@@ -52,7 +52,7 @@ pub record ArePlaced (numbers places : List ℕ) : Type 0 where
   pub listed : (k : ℕ) → k < length numbers → slice_index places (slice_index numbers k) ≡ suc k
   pub only : (number k : ℕ) → slice_index places number ≡ suc k → (k < length numbers) × (slice_index numbers k ≡ number)
 
--- each slot has its place in a list whose length is a number, and holds something
+-- each slot holds something and has its place in the list, which is shorter than 2 ^ 32
 pub record HasPlaces (slots : Changes) (places : List ℕ) : Type 0 where
   pub placed : ArePlaced (keys_of slots) places
   pub few : length places < 2 ^ 32

@@ -124,6 +124,7 @@ impl Changes {
         ensures held { IfSome result (λ page. IsUsedCopy page.now.bytes (held_at self.old number)) }
         ensures none { IfNone result ((page : List ℕ) → (held_at self.old number).copy ≡ Some page → is_free page ≡ true) }
     {
+        // For the proof: that a number with a copy keeps one.
         match self.slots.used_copy_mut(number.number()) {
             Some(page) => Some(page),
             None => None,

@@ -1,7 +1,7 @@
-//! The slots of the changed pages, found by number: those that are held side by side, and a list of their places.
+//! The slots of the changed pages, found by number.
 //!
-//! A slot is found by one look into that list. It has four bytes for each page of the file up to the greatest whose number
-//! was changed, and its room is made before a slot is added.
+//! They are side by side in any order, and a list by page number has the place of each, so a slot is found by one look into that
+//! list. It has four bytes for each page up to the greatest that was changed, and its room is made before a slot is added.
 
 ghost use Rattle.std.specs.Prelude.{◌≡◌, ◌≢◌, ◌++◌, ◌∷◌, ◌<◌, ◌^◌, ℕ, List, Some, None, true, [], length, suc, IsSome, IfSome, IfNone, MatchOption, OnOk, OnErr, slice_get, slice_index};
 ghost use Rattle.std.specs.BTreeMap.{is_at};
@@ -155,7 +155,7 @@ impl Slots {
         }
     }
 
-    /// Takes the slot of the page with this number out. The last one takes its place.
+    /// Removes the slot of the page with this number, which is at this place. The last one takes its place.
     fn remove(&mut self, number: u32, place: usize)
         requires { slice_get self.old place ≡ Some (number, held_at self.old number) }
         ensures there { held_at self.new number ≡ nothing_held }
@@ -167,7 +167,7 @@ impl Slots {
         let _ = self.held.swap_remove(place);
     }
 
-    /// None is held any more.
+    /// None is held any more. Of the places only those of the slots are visited.
     pub(crate) fn clear(&mut self)
         ensures { self.new ≡ [] }
     {
