@@ -70,7 +70,7 @@ visited-one definitions are plan named there nothing routes one = record {
 
 module _ (definitions : Definitions) (plan : Plan) (named : NamedRoute) (under : IsUnderWindows definitions plan named) where
   pub no-window : None ≡ first_route (windows_over plan) → ⊥
-  no-window is = let wrong : None ≡ Some (record { name = named.name; number = named.route.number }) = is ∙ under.windowed in cc
+  no-window is = let over : PlannedRoute = record { name = named.name; number = named.route.number } in let wrong : None ≡ Some over = is ∙ under.windowed in cc
 
   module _ (over : PlannedRoute) (is : Some over ≡ first_route (windows_over plan)) where
     window-is : over ≡ record { name = named.name; number = named.route.number }
