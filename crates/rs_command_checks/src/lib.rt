@@ -19,5 +19,5 @@ mod referents;
 mod views;
 
 pub use checks::Checks;
-pub use events::{Insertion, Removal};
+pub use events::Removal;
 pub use indexes::TableColumn;

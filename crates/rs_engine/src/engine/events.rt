@@ -12,6 +12,7 @@ ghost use Rattle.rs_value.specs.View.{literal_row};
 
 use crate::engine::Engine;
 use crate::engine::laws::stores_have_their_laws;
+use rs_command_checks::Removal;
 use rs_disk::Disk;
 use rs_machine_laws::lawful::accepted_step_leaves_the_state_lawful;
 use rs_methods::Name;
@@ -35,18 +36,14 @@ impl<D: Disk> Engine<D> {
     {
         stores_have_their_laws::<D>();
         accepted_step_leaves_the_state_lawful();
-        let insertion = self
+        let span = self
             .checks()
             .checked_insertion(table, route, place, values)?;
         let oldest = self.oldest();
-        let new_facts = self.live.store.insert(
-            self.alloc,
-            oldest,
-            insertion.table,
-            insertion.kind,
-            insertion.route,
-            insertion.span,
-        )?;
+        let new_facts = self
+            .live
+            .store
+            .insert(self.alloc, oldest, table, route, span)?;
         self.live.oldest = oldest;
         Ok(u128::from(new_facts))
     }
@@ -66,18 +63,20 @@ impl<D: Disk> Engine<D> {
         stores_have_their_laws::<D>();
         accepted_step_leaves_the_state_lawful();
         let removal = self.checks().checked_removal(table, window, condition)?;
-        let section = Section {
-            lo: removal.lo,
-            hi: removal.hi,
-        };
+        let Removal {
+            route,
+            lo,
+            hi,
+            goes,
+        } = removal;
         let oldest = self.oldest();
         let gone = self.live.store.remove(
             self.alloc,
             oldest,
-            removal.table,
-            removal.route,
-            section,
-            removal.goes,
+            table,
+            &route,
+            Section { lo, hi },
+            goes,
         )?;
         self.live.oldest = oldest;
         Ok(gone)
