@@ -113,12 +113,13 @@ def torn(file, one, by):
 
 FILLED, ZEROS, ONES = filled_with(FILLING), filled_with(0), filled_with(1)
 ALIKE = (kept, lost, FILLED, ZEROS, ONES, torn, torn)
-EACH = (kept, lost, FILLED)
+EACH = (kept, lost, FILLED, torn)
 ANY = (kept, kept, kept, lost, lost, lost, FILLED, ONES, half, last_half, torn, torn)
 
 
 class Amount(NamedTuple):
-    """How many calls are few, so that each way of each is taken; and half of how many pseudo-random images there are of a moment."""
+    """How many calls are few, so that each way of each is taken; and half of how many pseudo-random images there are of a moment with
+    more. Of one with few there are a third as many."""
 
     few: int
     chosen: int
@@ -136,11 +137,12 @@ def image(moment, ways, by):
 
 def ways_at(moment, by, amount):
     """In which ways the calls since the last sync are kept."""
-    count = moment.count
+    count, chosen = moment.count, amount.chosen
     yield from ((way,) * count for way in ALIKE)
     if count <= amount.few:
         yield from product(EACH, repeat=count)
-    for _ in range(amount.chosen):
+        chosen = -(-chosen // 3)
+    for _ in range(chosen):
         yield tuple(by.choices(ANY, k=count))
         yield (*by.choices((kept, lost), k=count - 1), by.choice(ANY))
 

@@ -4,15 +4,17 @@ each moment has to stand for a state between what was kept last and what was acc
 Some of the images are opened by the program too (crash_programs.py). The calls are also looked at for their order.
 """
 
+import os
 import random
 import re
 import sys
+from copy import deepcopy
 from typing import NamedTuple
 
 from crash_images import Amount, images, moments
 from crash_judge import Bounds, Judge
 from crash_order import Order, expect_folder_synced, expect_read_alone
-from device_log import NOTHING, WELL
+from device_log import FOLDER, NOTHING, SYNCING, WELL, Asked
 from harness import Wrong, expect
 from programs import Ended
 from slow_journal import VERSION
@@ -73,7 +75,7 @@ def machine_after(lines):
 
 class Telling:
     """A conversation with the program, in which calls of the file may fail: each reply is the slow machine's, or 91 of a line that
-    may need the disk. After so many of these there is room again, and SAVE is accepted."""
+    may need the disk, which no line does that is refused by a check. After so many of these there is room again, and SAVE is accepted."""
 
     def __init__(self, run, before, patience):
         self.run, self.machine, self.patience = run, machine_after(before), patience
@@ -83,7 +85,7 @@ class Telling:
 
     def tell(self, line):
         reply = self.run.ask(line + b"\n")
-        if self.patience and reply == line.split(b" ")[0] + NO_DISK and word_of(line) not in ASKS:
+        if self.patience and reply == line.split(b" ")[0] + NO_DISK and self.may_need_the_disk(line):
             self.refused += 1
             self.mark()
             if self.refused == self.patience:
@@ -96,6 +98,10 @@ class Telling:
         if is_kept_by(line, reply):
             self.kept = self.machine.changes
         self.mark()
+
+    def may_need_the_disk(self, line):
+        """Whether a line changes something, or keeps it; one that a check refuses doesn't."""
+        return word_of(line) not in ASKS and b" OK " in deepcopy(self.machine).answer(line)
 
     def mark(self):
         self.marks.append(Mark(self.run.calls(), self.machine.changes, self.kept))
@@ -211,6 +217,19 @@ def expect_dumped(program, data):
         expect("the end of dump", (ended.status, ended.errors), (0, b""))
         expect_read_alone(run.entries())
     expect("the bytes of a file that was dumped", program.bytes_left() == data, True)
+
+
+def expect_folder_needed(program):
+    """Where the folder can't be synced a file is not made: it stays, empty, and no call changes it."""
+    if os.path.exists(program.file()):
+        os.remove(program.file())
+    with program.run(Asked(fail_at=1), "create") as run:
+        expect("a creation in a folder that can't be synced", run.end(), UNSAVED)
+        entries = run.entries()
+    failed = [(entry.kind, entry.what) for entry in entries if entry.has_failed()]
+    expect("what failed", failed, [(SYNCING, FOLDER)])
+    expect("changes of the file", [entry for entry in entries if entry.is_change()], [])
+    expect("the file after that", program.bytes_left(), b"")
 
 
 def expect_created(program, by):

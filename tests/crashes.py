@@ -6,7 +6,8 @@
 The PARTS, each of which is judged by the slow reader of files, by the order of calls, and by the program itself:
 
 - `planted`: the slow checkpoint is judged, and faults that are planted in it are found; no program is run.
-- `created`: a new file is of version 2, and is synced as well as its folder; `dump` opens a file for reading and writes nothing.
+- `created`: a new file is of version 2, and is synced as well as its folder; where the folder can't be it stays empty. `dump` opens a
+  file for reading and writes nothing.
 - `migrations`: a closed file of version 1 gets version 2 by a checkpoint of page 0, whose log is replayed, and which is stopped and
   fails at each of its changes.
 - `journals`: files whose journals are written by hand (written_journals.py) are opened or refused by `run` and `dump`.
@@ -40,7 +41,7 @@ from crash_lines import long_talk, short_talks, whole_talks
 from crash_openings import interrupt_opening, replay_opening
 from crash_plants import PLANTS, expect_found, expect_sound
 from crash_programs import Opening, openers_of
-from crash_replay import GATE, LONG, expect_created, expect_dumped, follow_order, replay, told_of
+from crash_replay import GATE, LONG, expect_created, expect_dumped, expect_folder_needed, follow_order, replay, told_of
 from crash_rows import select_after_crashes
 from crash_stops import stop_everywhere
 from crash_syncs import expect_syncs_needed
@@ -112,6 +113,7 @@ def planted(_built, what, words):
 
 def created(built, _what, words):
     program = built.program
+    expect_folder_needed(program)
     expect_created(program, random.Random("created %d" % words.seed))
     pair = pair_of(small)
     for data in (pair.closed, pair.opened, in_first_version(pair.closed)):

@@ -405,6 +405,21 @@ def check_separators():
         expect("separator %r" % text, run("csv", NOTES, "--separator", text, data=data), (2, b"", told))
 
 
+def check_widest():
+    """Sixteen columns with texts of 120 bytes, whose rows take 960 bytes. A table of 961 is refused by `run`, and each of its rows then."""
+    head = ",".join(["route", "from", "to", *("c%d" % number for number in range(16))])
+    texts = ["é" * 60, "'" * 120, '"' * 120, "€" * 40, "𝄞" * 30, "", " " * 120]
+    values = ["'%s'" % text.replace("'", "''") if text else "NULL" for text in texts] + ["%d" % (number - 4) for number in range(8)]
+    for bytes_left, replies in ((40, b"0 OK 0\n0 OK 0\n0 OK 1000\n"), (41, b"0 OK 0\n0 ERR 27 limit\n0 ERR 21 no such name\n")):
+        types = ["TEXT(120)"] * 7 + ["INT"] * 8 + ["TEXT(%d)" % bytes_left]
+        define = "DEFINE LINE TABLE wide (%s)" % ", ".join("c%d %s" % one for one in enumerate(types))
+        records = [["A", "0", "1", *texts, *values[7:], "z" * bytes_left]]
+        lines = ("0 %s\n0 INSERT INTO wide ON A FROM 0 TO 1 VALUES (%s, '%s')\n" % (define, ", ".join(values), "z" * bytes_left)).encode()
+        expect("the widest record", run("csv", define, data=csv_of(records, "\n", head.split(","))), (0, lines, b""))
+        expect("its replies", run("run", data=b"0 DEFINE ROUTE A FROM 0 TO 10\n" + lines), (0, replies, b""))
+    expect("a text of 121 bytes", run("csv", "DEFINE LINE TABLE wide (c0 TEXT(121))", data=b"")[:2], (2, b""))
+
+
 def check_loading():
     """The lines are accepted by `run`."""
     chance = random.Random(4)
@@ -591,6 +606,7 @@ def main():
         check_names()
         check_scales()
         check_separators()
+        check_widest()
         check_loading()
         refusals = check_explained()
         check_watched()

@@ -48,6 +48,8 @@ PROGRAM = os.path.join(ROOT, "crates", "roadseg", "out", "roadseg")
 NETWORK = os.path.join(ROOT, "examples", "network.txt")
 SHARED_MEMORY = "/dev/shm"
 LONGEST = 120  # seconds that a run may take
+LONGEST_NAME = 32  # bytes
+LONGEST_ROW, LONGEST_TABLE = 2_056, 734  # bytes of the lines of a row and of a table
 MOST_PRINTED = 20  # faults
 MOST_TABLES = 3  # of a file that are dumped one by one
 PIPE = 65_536  # bytes that a pipe takes which nobody reads
@@ -306,6 +308,27 @@ def a_view_that_does_not_pass_now_is_left_out(program):
     expect("the dump once it passes again", program.dump(file), whole)
 
 
+def the_longest_lines_of_rows_and_tables_are_dumped(program):
+    """Sixteen texts that are all quotes and take the 960 bytes of a row, under the longest names."""
+    route, lines, points = (letter * LONGEST_NAME for letter in (b"R", b"L", b"P"))
+    names = [b"c%0*d" % (LONGEST_NAME - 1, number) for number in range(16)]
+    widths = [59] * 16, [100] * 8 + [10] * 7 + [74]
+    types = [b", ".join(b"%s TEXT(%d)" % one for one in zip(names, some)) for some in widths]
+    values = [b", ".join([b"'%s'" % (b"''" * width) for width in some]) for some in widths]
+    file, replies = program.created("longest", (
+        b"0 DEFINE ROUTE %s FROM 0 TO 999999.999\n" % route
+        + b"0 DEFINE LINE TABLE %s (%s)\n0 DEFINE POINT TABLE %s (%s)\n" % (lines, types[0], points, types[1])
+        + b"0 INSERT INTO %s ON %s FROM 999999.998 TO 999999.999 VALUES (%s)\n" % (lines, route, values[0])
+        + b"0 INSERT INTO %s ON %s AT 999999.999 VALUES (%s)\n" % (points, route, values[1])
+    ))  # fmt: skip
+    expect("the replies", replies, b"0 OK 0\n" * 3 + b"0 OK 1\n" * 2)
+    dumped_lines = program.dump(file).out.splitlines()
+    for begins, longest in ((b"0 INSERT ", LONGEST_ROW), (b"0 DEFINE ", LONGEST_TABLE)):
+        found = max(len(line) for line in dumped_lines if line.startswith(begins))
+        expect("the bytes of the longest line that begins with %s" % begins.decode(), found, longest)
+    judge_file(program, file)
+
+
 def an_empty_file_has_an_empty_dump(program):
     file, _ = program.created("empty")
     expect("the dump", program.dump(file), Ended(0, b"", b""))
@@ -495,6 +518,7 @@ def many_rows_are_dumped(program):
 TESTS = [
     the_example_network_is_dumped,
     a_view_that_does_not_pass_now_is_left_out,
+    the_longest_lines_of_rows_and_tables_are_dumped,
     an_empty_file_has_an_empty_dump,
     what_is_no_table_is_refused,
     files_that_are_no_inventory_are_told,

@@ -82,6 +82,7 @@ EXISTS = b"roadseg: file exists\n"
 NOT_ACCEPTED = b"roadseg: cannot accept\n"
 READ_FAULT = b"roadseg: read fault\n"
 WRITE_FAULT = b"roadseg: write fault\n"
+NO_DISK = b"roadseg: ERR 91 disk\n"
 DAMAGED = b"roadseg: ERR 94 damaged file\n"
 NOT_CLOSED = b"roadseg: ERR 95 file not closed\n"
 NO_FILE, NO_FOLDER, NO_ADDRESS = "no such file", "no such folder", "no address of this machine"
@@ -150,6 +151,15 @@ def a_file_is_created_once(program):
     path = program.file("none/file")
     program.expect(["create", "--file", path], b"", b"", not_opened(path, NO_FOLDER))
     program.expect(["create", "--file", file + "/file"], b"", b"", not_opened(file + "/file", NO_FOLDER))
+
+
+def no_file_is_made_where_its_folder_is_not_synced(program):
+    """Who may add to a folder and not read it can't sync it. The file stays then, empty."""
+    os.chmod(program.folder, 0o333)
+    ended = ended_as_nobody(program.path, ["create", "--file", program.file()], LONGEST)
+    os.chmod(program.folder, 0o755)
+    expect("create in a folder that is not read", ended, Ended(1, b"", NO_DISK))
+    expect("the file after that", bytes_at(program.file()), b"")
 
 
 def a_file_keeps_what_it_was_told(program):
@@ -991,6 +1001,7 @@ def a_killed_server_leaves_what_was_saved(program):
 
 TESTS = [
     a_file_is_created_once,
+    no_file_is_made_where_its_folder_is_not_synced,
     a_file_keeps_what_it_was_told,
     a_closed_file_is_as_the_format_says,
     what_is_saved_stands_in_the_file,
