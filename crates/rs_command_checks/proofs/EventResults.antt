@@ -12,19 +12,20 @@ use Rattle.rs_facts.specs.Insert.{new_facts}
 use Rattle.rs_facts.specs.Remove.{removed_facts}
 use Rattle.rs_facts.specs.Query.{RouteEnds, Table}
 use Rattle.rs_facts.specs.Runs.{Stretch}
-use Rattle.rs_facts.specs.Spans.{IsPlaced}
+use Rattle.rs_facts.specs.Spans.{IsPlaced, seen}
 use Rattle.rs_syntax.specs.Tree.{EventLocationTree, along, at_point, WindowTree, ConditionTree}
-use Rattle.rs_machine.specs.Checks.{◌>>=◌, same_kind, location_kind, column_types}
+use Rattle.rs_machine.specs.Checks.{◌>>=◌, same_kind, location_kind, column_types, window_route}
 use Rattle.rs_machine.specs.Step.{Effect, counted, may_change, row_inserted, rows_removed, with_table, with_facts_along, without_facts}
 use Rattle.rs_catalog.specs.Events.{behind}
 use Rattle.rs_catalog.specs.Referents.{referents_on}
 use Rattle.rs_spans.specs.Removal.{goes_by}
 use Rattle.rs_command_checks.specs.declared.checks.Checks.{Checks}
+use Rattle.rs_command_checks.specs.declared.events.Insertion.{Insertion}
 use Rattle.rs_command_checks.specs.declared.events.Removal.{Removal}
 use Rattle.rs_command_checks.specs.States.{Unseen, state_by}
 use Rattle.rs_command_checks.specs.Located.{position_by, span_by, event_span_by}
 use Rattle.rs_command_checks.specs.Insertion.{IsEventOn, MayBePut}
-use Rattle.rs_command_checks.specs.Removal.{AreThere, MayBeTaken}
+use Rattle.rs_command_checks.specs.Removal.{MayBeTaken}
 use Rattle.rs_command_checks.proofs.Positions.{located-between, then_ok, in_order, less_than}
 use Rattle.rs_command_checks.proofs.Outcomes.{table_at}
 use Rattle.rs_command_checks.proofs.EventChecks.{table_of, row_passed, removal_passed}
@@ -76,27 +77,35 @@ lies_on kind ends referents (at_point position) span same located =
 some_same : {X : Type 0} (o : Option X) (x y : X) → o ≡ Some x → o ≡ Some y → x ≡ y
 some_same o x y e f = cc
 
-module _ (checks : Checks) (name route : Name) (place : EventLocationTree) (row : Row) (span : Stretch) (may : MayBePut checks name route place row span) where
-  pub event_on : AreValues row → IsEventOn checks.catalog.now name route span
-  event_on values =
-      let lies = lies_on may.table.kind may.on.ends (referents_on checks.referents.now may.on.number) place span may.of_kind may.located in
-      record {
-        table = may.table;
-        table_there = may.table_there;
-        on = may.on;
-        route_there = may.route_there;
-        row = subst (IsRowOf (column_types may.table.columns)) (sym may.row_is) (row_fits-row may.table.columns row tt values may.fits);
-        placed = lies.placed;
-        from = lies.from;
-        upto = lies.upto;
-      }
+module _ (checks : Checks) (name route : Name) (place : EventLocationTree) (row : Row) (insertion : Insertion) (may : MayBePut checks name route place row insertion) where
+  abbrev span : Stretch
+  span = seen insertion.span
+
+  lies : LiesOnRoute insertion.kind may.on.ends span
+  lies = subst (λ kind. LiesOnRoute kind may.on.ends span) may.of_kind
+      (lies_on may.table.kind may.on.ends (referents_on checks.referents.now may.on.number) place span may.of_place may.located)
+
+  pub event_on : AreValues row → IsEventOn checks.catalog.now name route insertion
+  event_on values = record {
+    table = may.table;
+    table_there = may.table_there;
+    table_numbered = may.table_numbered;
+    of_kind = may.of_kind;
+    on = may.on;
+    route_there = may.route_there;
+    route_numbered = may.route_numbered;
+    row = subst (IsRowOf (column_types may.table.columns)) (sym may.row_is) (row_fits-row may.table.columns row tt values may.fits);
+    placed = lies.placed;
+    from = lies.from;
+    upto = lies.upto;
+  }
 
   module _ (unseen : Unseen) where
     abbrev put_in : Table → Result Effect Refusal
     put_in there = may_change (state_by checks unseen) >>= λ _. Ok (counted (new_facts there.facts route span.lo span.hi span.row) (with_table (state_by checks unseen) name (with_facts_along there route span.lo span.hi span.row)))
 
     put_passed : row_inserted (state_by checks unseen) name route place row ≡ put_in (table_of checks unseen may.table)
-    put_passed = row_passed checks unseen name route place row may.on may.route_there may.table may.table_there (span.lo, span.hi) may.located may.of_kind may.fits
+    put_passed = row_passed checks unseen name route place row may.on may.route_there may.table may.table_there (span.lo, span.hi) may.located may.of_place may.fits
         ∙ ap (λ (r : Row). may_change (state_by checks unseen) >>= λ _. Ok (counted (new_facts (table_of checks unseen may.table).facts route span.lo span.hi r) (with_table (state_by checks unseen) name (with_facts_along (table_of checks unseen may.table) route span.lo span.hi r)))) (sym may.row_is)
 
     pub row_put : (there : Table) → names.get (state_by checks unseen).tables name ≡ Some there → row_inserted (state_by checks unseen) name route place row ≡ put_in there
@@ -108,20 +117,19 @@ module _ (checks : Checks) (name route : Name) (place : EventLocationTree) (row 
 
 -- ---- rows are taken away
 
-module _ (checks : Checks) (name : Name) (window : WindowTree) (condition : Option ConditionTree) (removal : Removal) (may : MayBeTaken checks name window condition removal) where
-  pub are_there : AreThere checks.catalog.now name removal.route.bytes
-  are_there = subst (AreThere checks.catalog.now name) (sym may.route_is) (record { table = may.table; table_there = may.table_there; on = may.on; route_there = may.route_there })
+module _ (checks : Checks) (name : Name) (window : WindowTree) (condition : Option ConditionTree) (removal : Removal) (may : MayBeTaken checks name window condition removal)
+    (unseen : Unseen) where
+  abbrev route : Name
+  route = window_route window
 
-  module _ (unseen : Unseen) where
-    abbrev taken_from : Table → Name → Result Effect Refusal
-    taken_from there route = may_change (state_by checks unseen) >>= λ _. Ok (counted (removed_facts there.facts route removal.lo removal.hi (goes_by removal.goes)) (with_table (state_by checks unseen) name (without_facts there route removal.lo removal.hi (goes_by removal.goes))))
+  abbrev taken_from : Table → Result Effect Refusal
+  taken_from there = may_change (state_by checks unseen) >>= λ _. Ok (counted (removed_facts there.facts route removal.lo removal.hi (goes_by removal.goes)) (with_table (state_by checks unseen) name (without_facts there route removal.lo removal.hi (goes_by removal.goes))))
 
-    taking_passed : rows_removed (state_by checks unseen) name window condition ≡ taken_from (table_of checks unseen may.table) removal.route.bytes
-    taking_passed = removal_passed checks unseen name window condition may.on may.route_there may.table may.table_there (removal.lo, removal.hi) may.located (goes_by removal.goes) may.goes
-        ∙ ap (taken_from (table_of checks unseen may.table)) (sym may.route_is)
+  taking_passed : rows_removed (state_by checks unseen) name window condition ≡ taken_from (table_of checks unseen may.there.table)
+  taking_passed = removal_passed checks unseen name window condition may.there.on may.there.route_there may.there.table may.there.table_there (removal.lo, removal.hi) may.located (goes_by removal.goes) may.goes
 
-    pub rows_taken : (there : Table) → names.get (state_by checks unseen).tables name ≡ Some there → rows_removed (state_by checks unseen) name window condition ≡ taken_from there removal.route.bytes
-    rows_taken there is = taking_passed ∙ ap (λ (table : Table). taken_from table removal.route.bytes) (some_same _ _ _ (table_at checks unseen name may.table may.table_there) is)
+  pub rows_taken : (there : Table) → names.get (state_by checks unseen).tables name ≡ Some there → rows_removed (state_by checks unseen) name window condition ≡ taken_from there
+  rows_taken there is = taking_passed ∙ ap taken_from (some_same _ _ _ (table_at checks unseen name may.there.table may.there.table_there) is)
 
-    pub removal_no_change : (refusal : Refusal) → Err refusal ≡ may_change (state_by checks unseen) → rows_removed (state_by checks unseen) name window condition ≡ Err refusal
-    removal_no_change refusal e = taking_passed ∙ ap (λ (r : Result (Unit {0}) Refusal). r >>= λ _. Ok (counted (removed_facts (table_of checks unseen may.table).facts removal.route.bytes removal.lo removal.hi (goes_by removal.goes)) (with_table (state_by checks unseen) name (without_facts (table_of checks unseen may.table) removal.route.bytes removal.lo removal.hi (goes_by removal.goes))))) (sym e)
+  pub removal_no_change : (refusal : Refusal) → Err refusal ≡ may_change (state_by checks unseen) → rows_removed (state_by checks unseen) name window condition ≡ Err refusal
+  removal_no_change refusal e = taking_passed ∙ ap (λ (r : Result (Unit {0}) Refusal). r >>= λ _. Ok (counted (removed_facts (table_of checks unseen may.there.table).facts route removal.lo removal.hi (goes_by removal.goes)) (with_table (state_by checks unseen) name (without_facts (table_of checks unseen may.there.table) route removal.lo removal.hi (goes_by removal.goes))))) (sym e)

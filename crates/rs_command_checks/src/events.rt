@@ -33,11 +33,26 @@ use rs_syntax::{Atom, ColumnDefinition, EventLocation, Window};
 use rs_value::{COLUMNS, KeptRow, Kind, Literal, check_fit};
 use std::alloc::Global;
 
-/// Rows that a removal takes away of its table.
+/// A row that an insertion puts into a table.
+#[derive(Drop)]
+pub struct Insertion {
+    /// The table's number.
+    pub table: u32,
+    /// Whether the table holds points or lines.
+    pub kind: Kind,
+    /// The route's number.
+    pub route: u32,
+    /// The row along its span.
+    pub span: Span,
+}
+
+/// Rows that a removal takes away of a table.
 #[derive(Drop)]
 pub struct Removal {
-    /// The route's name.
-    pub route: Name,
+    /// The table's number.
+    pub table: u32,
+    /// The route's number.
+    pub route: u32,
     /// The first thousandth of the window.
     pub lo: u32,
     /// The first thousandth after it.
@@ -47,49 +62,55 @@ pub struct Removal {
 }
 
 impl Checks<'_> {
-    /// The row along its span that may be put into a table. Checks, in order: 20; 21; 25, 30; 31; 32; 33; 34; 27.
+    /// What an insertion may put into a table. Checks, in order: 20; 21; 25, 30; 31; 32; 33; 34; 27.
     pub fn checked_insertion(
         &self,
         name: &Name,
         route: &Name,
         place: &EventLocation,
         values: &[Literal],
-    ) -> Result<Span, Refusal>
+    ) -> Result<Insertion, Refusal>
         requires values { AreValues (literal_row values.now) }
         ensures accepted { (unseen : Unseen) (there : Table) → names.get (state_by self.now unseen).tables name.now.bytes ≡ Some there
-            → IfOk result (λ span. row_inserted (state_by self.now unseen) name.now.bytes route.now.bytes (location_tree place.now) (literal_row values.now)
-            ≡ Ok (counted (new_facts there.facts route.now.bytes span.lo span.hi (seen span).row) (with_table (state_by self.now unseen) name.now.bytes (with_facts_along there route.now.bytes span.lo span.hi (seen span).row)))) }
+            → IfOk result (λ insertion. row_inserted (state_by self.now unseen) name.now.bytes route.now.bytes (location_tree place.now) (literal_row values.now)
+            ≡ Ok (counted (new_facts there.facts route.now.bytes insertion.span.lo insertion.span.hi (seen insertion.span).row) (with_table (state_by self.now unseen) name.now.bytes (with_facts_along there route.now.bytes insertion.span.lo insertion.span.hi (seen insertion.span).row)))) }
         ensures refused { (unseen : Unseen) → IfErr result (λ refusal. (refusal ≡ Refusal.OutOfMemory) ⊎ (row_inserted (state_by self.now unseen) name.now.bytes route.now.bytes (location_tree place.now) (literal_row values.now) ≡ Err refusal)) }
-        ensures event { IfOk result (λ span. IsEventOn self.now.catalog.now name.now.bytes route.now.bytes (seen span)) }
+        ensures event { IfOk result (λ insertion. IsEventOn self.now.catalog.now name.now.bytes route.now.bytes insertion) }
         ensures may_change { OnOk result (self.now.changes < CHANGES) }
     {
-        let span = self.fitted_span(name, route, place, values)?;
+        let insertion = self.fitted_insertion(name, route, place, values)?;
         self.may_change()?;
-        Ok(span)
+        Ok(insertion)
     }
 
-    /// The row along its span, where all fit each other and there is memory for the row.
-    fn fitted_span(
+    /// What an insertion puts into a table, where all fit each other and there is memory for the row.
+    fn fitted_insertion(
         &self,
         name: &Name,
         route: &Name,
         place: &EventLocation,
         values: &[Literal],
-    ) -> Result<Span, Refusal>
+    ) -> Result<Insertion, Refusal>
         requires values { AreValues (literal_row values.now) }
-        ensures done { IfOk result (λ span. MayBePut self.now name.now.bytes route.now.bytes (location_tree place.now) (literal_row values.now) (seen span)) }
+        ensures done { IfOk result (λ insertion. MayBePut self.now name.now.bytes route.now.bytes (location_tree place.now) (literal_row values.now) insertion) }
         ensures refused { (unseen : Unseen) → IfErr result (λ refusal. (refusal ≡ Refusal.OutOfMemory) ⊎ (row_inserted (state_by self.now unseen) name.now.bytes route.now.bytes (location_tree place.now) (literal_row values.now) ≡ Err refusal)) }
     {
         let on = self.catalog.named_route(route)?;
         let table = self.catalog.named_table(name)?;
         let (lo, hi) = self.located_event(on, place)?;
-        if !is_of_kind(place, table.kind()) {
+        let kind = table.kind();
+        if !is_of_kind(place, kind) {
             return Err(Refusal::PointOrLineWanted);
         }
         self.catalog.stand();
         fitted(table.columns(), values)?;
         let tuple = KeptRow::of_literals(self.alloc, values)?;
-        Ok(Span { lo, hi, tuple })
+        Ok(Insertion {
+            table: table.number(),
+            kind,
+            route: on.number(),
+            span: Span { lo, hi, tuple },
+        })
     }
 
     /// What a removal may take away of a table. Checks, in order: 20; 21; 25, 30; 31; the condition (22, 33); 27.
@@ -101,9 +122,9 @@ impl Checks<'_> {
     ) -> Result<Removal, Refusal>
         ensures accepted { (unseen : Unseen) (there : Table) → names.get (state_by self.now unseen).tables name.now.bytes ≡ Some there
             → IfOk result (λ removal. rows_removed (state_by self.now unseen) name.now.bytes (window_tree window.now) (removal_tree condition.now)
-            ≡ Ok (counted (removed_facts there.facts removal.route.bytes removal.lo removal.hi (goes_by removal.goes)) (with_table (state_by self.now unseen) name.now.bytes (without_facts there removal.route.bytes removal.lo removal.hi (goes_by removal.goes))))) }
+            ≡ Ok (counted (removed_facts there.facts (window_route (window_tree window.now)) removal.lo removal.hi (goes_by removal.goes)) (with_table (state_by self.now unseen) name.now.bytes (without_facts there (window_route (window_tree window.now)) removal.lo removal.hi (goes_by removal.goes))))) }
         ensures refused { (unseen : Unseen) → IfErr result (λ refusal. (refusal ≡ Refusal.OutOfMemory) ⊎ (rows_removed (state_by self.now unseen) name.now.bytes (window_tree window.now) (removal_tree condition.now) ≡ Err refusal)) }
-        ensures there { IfOk result (λ removal. AreThere self.now.catalog.now name.now.bytes removal.route.bytes) }
+        ensures there { IfOk result (λ removal. AreThere self.now.catalog.now name.now.bytes (window_route (window_tree window.now)) removal) }
         ensures may_change { OnOk result (self.now.changes < CHANGES) }
     {
         let removal = self.fitted_removal(name, window, condition)?;
@@ -128,7 +149,8 @@ impl Checks<'_> {
         self.catalog.stand();
         let goes = checked_rows(self.alloc, table.columns(), condition)?;
         Ok(Removal {
-            route: *route,
+            table: table.number(),
+            route: on.number(),
             lo,
             hi,
             goes,

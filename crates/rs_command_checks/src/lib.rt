@@ -19,5 +19,5 @@ mod referents;
 mod views;
 
 pub use checks::Checks;
-pub use events::Removal;
+pub use events::{Insertion, Removal};
 pub use indexes::TableColumn;

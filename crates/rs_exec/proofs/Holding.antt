@@ -29,12 +29,14 @@ use Rattle.rs_exec.specs.declared.source.Part.{Part}
 use Rattle.rs_exec.specs.Given.{inside}
 use Rattle.rs_exec.specs.Changes.{IsChanged, AreFrom}
 use Rattle.rs_exec.specs.Gaps.{HasShape, HaveShapes, HaveGaps}
+use Rattle.rs_exec.specs.Joined.{HasRuns, IsOfKind}
 use Rattle.rs_exec.specs.Pairs.{FitTogether, CanPair, IsPaired, ArePaired}
 use Rattle.rs_exec.specs.Routes.{IsInOrder, HasNone, AreNone, AllAreNone, IsShaped}
 use Rattle.rs_exec.specs.Windows.{AreOff, IsSeenOn, IsSpread}
 use Rattle.rs_exec.specs.Held.{HoldsRows, AreRowsOf, AreHeld, CanOverlay, IsLaidOver, AreLaidOver, IsBeside, AreBeside}
 use Rattle.rs_exec.proofs.InPlace.{rows-stay}
 use Rattle.rs_exec.proofs.Lists.{zip-weaker, zip-where, zip-length}
+use Rattle.rs_exec.proofs.Pairing.{runs-shaped}
 use Rattle.rs_exec.proofs.RowLaws.{overlaid-nothing}
 use Rattle.rs_exec.proofs.Steps.{at-most, earlier-one, changed-step, paired-step, none-shaped, none-means}
 use Rattle.rs_exec.proofs.Tests.{is-number, no-number}
@@ -42,6 +44,11 @@ use Rattle.rs_exec.proofs.Tests.{is-number, no-number}
 put_back : (columns : List ℕ) (rows : RowSet) → dissolved columns rows ≡ mapped (chosen columns) rows
 unfolding dissolved
 put_back columns rows = refl
+
+-- a change leaves rows of the kind that they are of
+pub changed_kind : (change : Change) (plan : PlanMeaning) → (changed_meaning change plan).kind ≡ plan.kind
+changed_kind (changes.Where conditions) plan = refl
+changed_kind (changes.Dissolve columns) plan = refl
 
 abbrev EachIsShaped : Kind → ℕ → List ℕ → List (Vec Span Global) → Type 0
 EachIsShaped kind width numbers rows = AllZip (λ (number : ℕ) each. IsShaped kind width each) numbers rows
@@ -94,6 +101,28 @@ module _ (stands : Snapshots → Type 0) (version : ℕ) where
   changed-held change plan (number ∷ numbers) [] new all held = absurd held
   changed-held change plan (number ∷ numbers) (o ∷ old) [] all held = absurd all
   changed-held change plan (number ∷ numbers) (o ∷ old) (n ∷ new) all held = (changed-step stands version number change plan o n held.0 all.0, changed-held change plan numbers old new all.1 held.1)
+
+  pub of-kind : (change : Change) (plan : PlanMeaning) (kind : Kind) (numbers : List ℕ) (rows : List (Vec Span Global)) → kind ≡ plan.kind → AreHeld stands version (changed_meaning change plan) numbers rows → AllByRecursion (IsOfKind kind) rows
+  of-kind change plan kind [] [] same held = tt
+  of-kind change plan kind [] (each ∷ rows) same held = absurd held
+  of-kind change plan kind (number ∷ numbers) [] same held = tt
+  of-kind change plan kind (number ∷ numbers) (each ∷ rows) same held =
+      (subst (λ p. IsOfKind p each) (sym (same ∙ sym (changed_kind change plan))) held.0.shaped.placed, of-kind change plan kind numbers rows same held.1)
+
+  runs-one : (plan : PlanMeaning) (number : ℕ) (old new : Vec Span Global) → HasRuns plan.kind old new → HoldsRows stands version plan number old → HoldsRows stands version plan number new
+  runs-one plan number old new are holds = record {
+    means = λ snapshots there k. ap (λ places. places k) are.same ∙ holds.means snapshots there k;
+    shaped = runs-shaped plan.kind plan.width (map seen old.items) (map seen new.items) are holds.shaped;
+  }
+
+  -- the maximal runs of a plan's rows are the plan's rows
+  pub runs-held : (plan : PlanMeaning) (numbers : List ℕ) (old new : List (Vec Span Global)) → AllZip (HasRuns plan.kind) old new → AreHeld stands version plan numbers old → AreHeld stands version plan numbers new
+  runs-held plan [] [] [] all held = tt
+  runs-held plan [] [] (n ∷ new) all held = absurd all
+  runs-held plan [] (o ∷ old) new all held = absurd held
+  runs-held plan (number ∷ numbers) [] new all held = absurd held
+  runs-held plan (number ∷ numbers) (o ∷ old) [] all held = absurd all
+  runs-held plan (number ∷ numbers) (o ∷ old) (n ∷ new) all held = (runs-one plan number o n all.0 held.0, runs-held plan numbers old new all.1 held.1)
 
   pub have-shapes : (plan : PlanMeaning) (numbers : List ℕ) (rows : List (Vec Span Global)) → AreHeld stands version plan numbers rows → HaveShapes numbers rows
   have-shapes plan numbers rows held =

@@ -3,7 +3,7 @@ use Rattle.std.proofs.Common.{◌≡◌, ℕ, ◌+◌, ◌≤◌, inl, inr, List
 use Rattle.rs_value.specs.declared.column.Kind.{Kind}
 use Rattle.rs_facts.specs.Operators.{overlaid, covered, merged, without}
 use Rattle.rs_facts.specs.Query.{overlaid_kind}
-use Rattle.rs_facts.specs.Runs.{Stretch, stretch_cmp, AreOrdered, AreRunsOf}
+use Rattle.rs_facts.specs.Runs.{Stretch, stretch_cmp, AreOrdered}
 use Rattle.rs_facts.specs.Spans.{places_of, ArePlaced}
 use Rattle.rs_facts.proofs.KeptLaws.{every-weaker}
 use Rattle.rs_facts.proofs.StretchOrder.{stretch_cmp-less}
@@ -11,6 +11,7 @@ use Rattle.rs_sweep.specs.Lists.{AreSorted, AreWide}
 use Rattle.rs_exec.specs.declared.pairs.Kinds.{Kinds}
 use Rattle.rs_exec.specs.declared.pairs.Pairing.{Pairing}
 use Rattle.rs_exec.specs.declared.pairs.Pairing.TheVariants as pairings
+use Rattle.rs_exec.specs.Joined.{AreTheRuns}
 use Rattle.rs_exec.specs.Routes.{AreShaped}
 use Rattle.rs_exec.proofs.CarriedSpans.{runs-wide}
 use Rattle.rs_exec.specs.Pairs.{ArePaired, CanPairSpans, paired_rows}
@@ -70,13 +71,7 @@ ordered-sorted (span ∷ spans) h = (every-weaker (λ later. stretch_cmp span la
     begins-before : (a b : Stretch) → stretch_cmp a b ≡ Less → a.lo ≤ b.lo
     begins-before a b less = elim (stretch_cmp-less a b less) [ inl h ↦ omega (arith, h) | inr h ↦ let e = h.0 in omega (arith, e) ]
 
--- the runs of some spans, which mean what these mean
-pub record AreTheRuns (kind : Kind) (spans made : List Stretch) : Type 0 where
-  pub runs : AreRunsOf kind (places_of spans) made
-  pub placed : ArePlaced kind made
-  pub same : places_of made ≡ places_of spans
-
-runs-shaped : (kind : Kind) (width : ℕ) (spans runs : List Stretch) → AreTheRuns kind spans runs → AreShaped kind width spans → AreShaped kind width runs
+pub runs-shaped : (kind : Kind) (width : ℕ) (spans runs : List Stretch) → AreTheRuns kind spans runs → AreShaped kind width spans → AreShaped kind width runs
 runs-shaped kind width spans runs are shaped = record {
   sorted = ordered-sorted runs are.runs.ordered;
   placed = are.placed;

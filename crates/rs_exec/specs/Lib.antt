@@ -13,3 +13,4 @@ pub mod Gaps
 pub mod Operand
 pub mod Agreement
 pub mod Elsewhere
+pub mod Joined

@@ -19,6 +19,7 @@ ghost use Rattle.rs_exec.specs.Routes.{numbers_of, list_of};
 use crate::carrying::{Sources, carried_on, sources_of};
 use crate::changes::{Change, are_in_order, changed_on};
 use crate::complements::gaps_on;
+use crate::joined::runs_on;
 use crate::kinds::{kind_of, overlaid_kind};
 use crate::leaves::leaf_on;
 use crate::operand::{Node, Operand, Operands};
@@ -86,7 +87,7 @@ fn rows_on<S: Source>(
     }
 }
 
-/// The rows of an operand, changed or left out, on each of the routes.
+/// The rows of an operand, changed or left out, on each of the routes. Rows that a DISSOLVE makes the same are one run.
 #[cycle(rows)]
 fn changed_rows<S: Source>(
     alloc: Global,
@@ -100,9 +101,16 @@ fn changed_rows<S: Source>(
         (changed_meaning change.entry (operand_meaning operand.entry))) }
     ensures ends { EndsWith S.Source source.old source.new result }
 {
+    let kind = operand.kind();
     let rows = rows_on(alloc, source, routes, operand)?;
     let changed = changed_on(alloc, change, rows)?;
-    Ok(changed)
+    match change {
+        Change::Where(_) => Ok(changed),
+        Change::Dissolve(_) => {
+            let joined = runs_on(alloc, kind, changed)?;
+            Ok(joined)
+        }
+    }
 }
 
 /// What the rows of two operands make on each of the routes.

@@ -10,6 +10,7 @@ mod complements;
 mod copies;
 pub mod elsewhere;
 pub mod evaluation;
+mod joined;
 pub mod kinds;
 pub mod laws;
 mod leaves;

@@ -4,7 +4,6 @@ ghost use Rattle.std.specs.Prelude.{IfOk, map};
 ghost use Rattle.std.specs.List.{AllZip, zip};
 ghost use Rattle.rs_coalesce.specs.Lent.{seen_lent};
 ghost use Rattle.rs_facts.specs.Spans.{seen};
-ghost use Rattle.rs_exec.specs.declared.pairs.Kinds.{Kinds as two_kinds};
 ghost use Rattle.rs_exec.specs.Routes.{list_of};
 ghost use Rattle.rs_exec.specs.Pairs.{CanPair, CanPairSpans, IsPaired, ArePaired, AreMaximal};
 
@@ -73,8 +72,8 @@ fn paired_each(
     Ok(made)
 }
 
-/// What the operator makes of the operands' rows on one route. Each row of one operand meets each of the other in an OVERLAY
-/// and a COVER, so these are given maximal runs, in which no row is twice at a place.
+/// What the operator makes of the operands' rows on one route. It is given their maximal runs, in which no row is twice at a
+/// place: each row of one operand meets each of the other in an OVERLAY and a COVER, and a MERGE has the rows of both.
 fn paired(
     alloc: Global,
     pairing: Pairing,
@@ -85,25 +84,23 @@ fn paired(
     requires { CanPair pairing kinds left right }
     ensures { IfOk result (IsPaired pairing kinds (left, right)) }
 {
+    let left_runs = runs(kinds.left, left);
+    let right_runs = runs(kinds.right, right);
     match pairing {
         Pairing::Overlay => {
-            let left_runs = runs(kinds.left, left);
-            let right_runs = runs(kinds.right, right);
             let lower = lent(alloc, &left_runs)?;
             let upper = lent(alloc, &right_runs)?;
             overlaid(alloc, kinds, &lower, &upper)
         }
         Pairing::Cover(left_width, right_width) => {
-            let left_runs = runs(kinds.left, left);
-            let right_runs = runs(kinds.right, right);
             let lower = lent(alloc, &left_runs)?;
             let upper = lent(alloc, &right_runs)?;
             covered(alloc, kinds, (left_width, right_width), &lower, &upper)
         }
-        Pairing::Merge => merged(left, right),
+        Pairing::Merge => merged(kinds, left_runs, right_runs),
         Pairing::Minus => {
-            let upper = lent(alloc, &right)?;
-            without(alloc, left, &upper)
+            let upper = lent(alloc, &right_runs)?;
+            without(alloc, kinds, left_runs, &upper)
         }
     }
 }
@@ -143,19 +140,26 @@ fn covered(
 }
 
 /// The rows of either.
-fn merged(left: Vec<Span>, right: Vec<Span>) -> Result<Vec<Span>, AllocError>
-    requires { (kinds : two_kinds) × CanPair Pairing.Merge kinds left right }
-    ensures { IfOk result (λ made. (kinds : two_kinds) → IsPaired Pairing.Merge kinds (left, right) made) }
+fn merged(kinds: Kinds, left: Vec<Span>, right: Vec<Span>) -> Result<Vec<Span>, AllocError>
+    requires can { CanPair Pairing.Merge kinds left right }
+    requires runs { AreMaximal kinds (map seen left.items) (map seen right.items) }
+    ensures { IfOk result (IsPaired Pairing.Merge kinds (left, right)) }
 {
     let spans = merge(left, right)?;
     Ok(spans)
 }
 
 /// The rows of the left that the right does not have.
-fn without(alloc: Global, left: Vec<Span>, upper: &[&Span]) -> Result<Vec<Span>, AllocError>
-    requires { (kinds : two_kinds) × CanPairSpans Pairing.Minus kinds (map seen left.items) (map seen_lent upper.now) }
-    ensures { IfOk result (λ made. (kinds : two_kinds) → ArePaired Pairing.Minus kinds
-        (map seen left.items, map seen_lent upper.now) (map seen made.items)) }
+fn without(
+    alloc: Global,
+    kinds: Kinds,
+    left: Vec<Span>,
+    upper: &[&Span],
+) -> Result<Vec<Span>, AllocError>
+    requires can { CanPairSpans Pairing.Minus kinds (map seen left.items) (map seen_lent upper.now) }
+    requires runs { AreMaximal kinds (map seen left.items) (map seen_lent upper.now) }
+    ensures { IfOk result (λ made. ArePaired Pairing.Minus kinds (map seen left.items, map seen_lent upper.now)
+        (map seen made.items)) }
 {
     let spans = minus(alloc, left, upper)?;
     Ok(spans)

@@ -9,8 +9,9 @@ pub mod limits;
 mod lines;
 pub mod put;
 mod replies;
-mod requests;
+pub mod requests;
 pub mod stream;
 
 pub use put::put_parts;
+pub use requests::{Requested, command_in};
 pub use stream::{End, Fault, answer, run};

@@ -10,12 +10,11 @@ ghost use Rattle.rs_protocol.specs.Inner.{PutsAnswer, IsServed, GoesOn};
 
 use crate::put::{Pending, put_pending};
 use crate::replies::{put_refusal, put_reply};
-use crate::requests::request_of;
+use crate::requests::command_in;
 use crate::stream::Fault;
 use arrayvec::ArrayVec;
 use memchr::memchr;
 use rs_machine::limits::LINE_BYTES;
-use rs_parser::command_of;
 use rs_serve::Serve;
 use std::alloc::Global;
 use std::io::Write;
@@ -41,17 +40,13 @@ pub(crate) fn answer_line<E: Serve, W: Write>(
         × PutsAnswer result line.now old new pending.old.items pending.new.items (W.contents writer.old) (W.contents writer.new) }
     ensures becomes { E.becomes engine.old engine.new }
 {
-    let request = match request_of(line) {
-        Ok(request) => request,
-        Err(refusal) => return put_refusal(writer, pending, 0, &refusal),
-    };
-    let session = request.session.number();
-    match command_of(alloc, request.text, request.digits) {
-        Ok(command) => {
-            let reply = engine.step(request.session, command);
+    match command_in(alloc, line) {
+        Ok(requested) => {
+            let session = requested.session.number();
+            let reply = engine.step(requested.session, requested.command);
             put_reply(writer, pending, session, &reply)
         }
-        Err(refusal) => put_refusal(writer, pending, session, &refusal),
+        Err((session, refusal)) => put_refusal(writer, pending, session, &refusal),
     }
 }
 

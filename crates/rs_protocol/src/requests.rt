@@ -2,15 +2,21 @@
 //!
 //! A line too long is refused first, then one that is not text, then one without a session.
 
-ghost use Rattle.std.specs.Prelude.{◌≡◌, ◌-◌, Some, None, if◌then◌else◌, MatchOption, MatchResult};
+ghost use Rattle.std.specs.Prelude.{◌≡◌, ◌-◌, Some, None, if◌then◌else◌, IfErr, IfOk, MatchOption, MatchResult};
 ghost use Rattle.std.specs.Char.{is_ascii_digit};
-ghost use Rattle.rs_machine.specs.Request.{without_return as line_text, ends_number as may_end, session_digits, line_refusal};
+ghost use Rattle.rs_machine.specs.Answered.{AnswersLine, answer};
+ghost use Rattle.rs_machine.specs.Request.{Asks, command, without_return as line_text, ends_number as may_end, session_digits, line_refusal};
+ghost use Rattle.rs_machine.specs.Served.{Machine, refused};
+ghost use Rattle.rs_syntax.specs.View.{tree_of};
 ghost use Rattle.rs_protocol.specs.Inner.{HasSession, IsRequest};
 
 use rs_machine::limits::{LINE_BYTES, SESSIONS};
+use rs_parser::command_of;
 use rs_refusal::Refusal;
 use rs_serve::Session;
+use rs_syntax::Command;
 use rs_value::as_text;
+use std::alloc::Global;
 
 /// A carriage return, which may come once before the LF.
 const CARRIAGE_RETURN: u8 = b'\r';
@@ -24,6 +30,15 @@ pub(crate) struct Request<'a> {
     pub(crate) session: Session,
     /// How many digits the session has; the command's text begins after them.
     pub(crate) digits: usize,
+}
+
+/// A command, and the session that asks it.
+#[derive(Drop)]
+pub struct Requested {
+    /// The session.
+    pub session: Session,
+    /// The command.
+    pub command: Command,
 }
 
 /// The line without the one CR that may be at its end.
@@ -98,4 +113,22 @@ pub(crate) fn request_of(line: &[u8]) -> Result<Request<'_>, Refusal>
         session: Session::from_number(number),
         digits,
     })
+}
+
+/// What a line, given without its LF, asks: its session and its command; or its refusal, and the session that this is answered under.
+pub fn command_in(alloc: Global, line: &[u8]) -> Result<Requested, (u8, Refusal)>
+    ensures asks { IfOk result (λ requested. Asks line.now (command requested.session (tree_of requested.command))) }
+    ensures refused { (machine : Machine) → IfErr result (λ why. AnswersLine machine line.now (answer why.0 (refused why.1)) machine) }
+{
+    let request = match request_of(line) {
+        Ok(request) => request,
+        Err(refusal) => return Err((0, refusal)),
+    };
+    match command_of(alloc, request.text, request.digits) {
+        Ok(command) => Ok(Requested {
+            session: request.session,
+            command,
+        }),
+        Err(refusal) => Err((request.session.number(), refusal)),
+    }
 }

@@ -7,3 +7,4 @@ mod Dumps
 mod Unopened
 mod Surviving
 mod Openings
+mod Peers

@@ -1,5 +1,5 @@
 -- Connections that one machine serves, one after another.
-use Rattle.std.specs.Prelude.{◌≡◌, ◌⊎◌, ◌<◌, ℕ, ℤ, pos, zero, suc, List, [], ◌∷◌, Option, Some, None, Result, Ok, Err, Contains}
+use Rattle.std.specs.Prelude.{◌≡◌, ◌<◌, ℕ, ℤ, pos, zero, suc, List, [], ◌∷◌, Option, Some, None, Result, Ok, Err, Contains}
 use Rattle.std.specs.Borrow.{Bor}
 use Rattle.std.specs.Io.KnownBytes.{Appends, Keeps}
 use Rattle.rs_machine.specs.Served.{Machine}
@@ -20,14 +20,14 @@ pub record ServesPeer (old new : Machine) : Type 0 where
   pub after : Option (List ℕ)
   pub ended : Ends outcome told unread old new before after
 
--- so many connections were served in turn; one that failed before it began changed nothing
+-- So many connections were served in turn. One that failed before it began is a peer that told nothing.
 abbrev pub ServesInTurn : ℕ → Machine → Machine → Type 0
 ServesInTurn zero old new = new ≡ old
-ServesInTurn (suc count) old new = (between : Machine) × ServesInTurn count old between × ((new ≡ between) ⊎ ServesPeer between new)
+ServesInTurn (suc count) old new = (between : Machine) × ServesInTurn count old between × ServesPeer between new
 
--- the next one was served, or failed before it began; or none was accepted, which changed nothing
+-- the next one was served; or none was accepted, which changed nothing
 abbrev pub ServesNext : {T F : Type 0} → Result T F → Machine → Machine → Type 0
-ServesNext (Ok done) old new = (new ≡ old) ⊎ ServesPeer old new
+ServesNext (Ok done) old new = ServesPeer old new
 ServesNext (Err fault) old new = new ≡ old
 
 -- all of them were served in turn, or fewer where none was accepted any more

@@ -50,11 +50,13 @@ pub record EndsWith (failure : Option Failure) (status : ℕ) (errors errors_now
 
 -- ---- what the words ask
 
--- what the input told was served by a new machine, on the output
+-- What the input told was served by a new machine, which had counted no failure of a call, on the output. Nothing that outlives the run tells
+-- of the memory in which its file was, so what is counted at the end is tied to nothing.
 pub record ServesLines (failure : Option Failure) (unread unread_now before after : Option (List ℕ)) : Type 0 where
   pub outcome : Result End Fault
   pub first : Machine
   pub new : first.state ≡ fresh
+  pub failures : first.failures ≡ 0
   pub last : Machine
   pub served : ServesInput outcome first last unread unread_now before after
   pub told : failure ≡ failure_of outcome

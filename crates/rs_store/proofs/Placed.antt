@@ -1,5 +1,5 @@
 -- The place of a table of the catalogue among those of the file.
-use Rattle.std.proofs.Common.{◌≡◌, ◌≤◌, ◌∙◌, ℕ, zero, suc, Bool, true, false, cond, List, [], ◌∷◌, Some, None, ap, map, refl, slice_get, subst, sym, arith}
+use Rattle.std.proofs.Common.{◌≡◌, ◌≤◌, ◌<◌, ◌∙◌, ℕ, zero, suc, Bool, true, false, cond, List, [], ◌∷◌, Some, None, ap, length, map, refl, slice_get, subst, sym, arith}
 use Rattle.std.specs.FinMap as names
 use Rattle.std.specs.FinMap.{find, get-entries}
 use Rattle.std.specs.List.{AllByRecursion, AllZip}
@@ -10,12 +10,13 @@ use Rattle.std.proofs.lemmas.Bool.{false≢true, ne_eqb}
 use Rattle.std.proofs.lemmas.Option.{none-some, same_Some, slice_get-map, slice_get_within}
 use Rattle.rs_catalog.specs.Definitions.{AreDefinitions, Definitions, TableItem}
 use Rattle.rs_catalog.proofs.Names.{each_entry}
+use Rattle.rs_catalog_laws.proofs.Numbers.{only_of_number}
 use Rattle.rs_catalog_pages.specs.Items as items
 use Rattle.rs_catalog_pages.specs.Items.{CatalogueItems}
 use Rattle.rs_catalog_pages.specs.Said.{said_catalogue, said_table}
 use Rattle.rs_facts.specs.Fact.{Name, Names, name_cmp}
 use Rattle.rs_facts.specs.Query.{Column}
-use Rattle.rs_file.specs.Contents.{type_of}
+use Rattle.rs_file.specs.Contents.{table_numbers, type_of}
 use Rattle.rs_file.specs.Slots.{IsOfItem}
 use Rattle.rs_file.specs.declared.opened.OpenedFile.{OpenedFile}
 use Rattle.rs_file.specs.declared.opened.OpenedTable.{OpenedTable}
@@ -97,45 +98,64 @@ columns_listed ((name, Text most) ∷ columns) are =
 
 -- ---- tables
 
+-- a number that is not nowhere is found
+pub is_found : {P : Type 0} (found : Option ℕ) → IfNone found P → (P → ⊥) → IsSome found
+is_found None none some = absurd (some none)
+is_found (Some place) none some = refl
+
+-- what is said of the table at the place of a number
+said_at : (file : OpenedFile) (number place : ℕ) (at : IsNumberedAt file.definitions.tables.items number place)
+    → slice_get (said_catalogue file.definitions).tables place ≡ Some (said_table at.table)
+said_at file number place at = slice_get-map said_table file.definitions.tables.items place ∙ ap (option_map said_table) at.there
+
+-- its number is the number at the place
+pub numbers_at : (file : OpenedFile) (number place : ℕ) → IsNumberedAt file.definitions.tables.items number place
+    → slice_get (table_numbers (said_catalogue file.definitions)) place ≡ Some number
+numbers_at file number place at =
+    slice_get-map (λ (table : items.TableItem). table.number) (said_catalogue file.definitions).tables place
+    ∙ ap (option_map (λ (table : items.TableItem). table.number)) (said_at file number place at) ∙ ap Some at.numbered
+
 module _ (file : OpenedFile) (catalog : Definitions) (rests : IsAtRest file catalog) where
   tables_listed : map listed_table (names.entries catalog.tables) ≡ map said_table file.definitions.tables.items
   tables_listed = ap (λ (said : CatalogueItems). said.tables) rests.listing
 
   -- a table of the catalogue has its number in the file
-  pub number_there : (name : Name) (item : TableItem) → names.get catalog.tables name ≡ Some item → HasNoNumber file.definitions.tables.items item.number → ⊥
-  number_there name item there none =
+  pub number_there : (name : Name) (item : TableItem) (number : ℕ) → names.get catalog.tables name ≡ Some item → item.number ≡ number → HasNoNumber file.definitions.tables.items number → ⊥
+  number_there name item number there numbered none =
       let at = at_place (names.entries catalog.tables) (name, item) (entry_there catalog.tables name item there) in
       let said : slice_get (map said_table file.definitions.tables.items) at.0 ≡ Some (listed_table (name, item)) =
       ap (λ (tables : List items.TableItem). slice_get tables at.0) (sym tables_listed) ∙ slice_get-map listed_table (names.entries catalog.tables) at.0
       ∙ ap (option_map listed_table) at.1 in
       let from = comes_from said_table file.definitions.tables.items at.0 (listed_table (name, item)) said in
-      none.none at.0 from.one from.there (ap (λ (table : items.TableItem). table.number) from.is)
+      none.none at.0 from.one from.there (ap (λ (table : items.TableItem). table.number) from.is ∙ numbered)
 
-  -- so it is found there
-  pub number_found : (name : Name) (item : TableItem) → names.get catalog.tables name ≡ Some item → (found : Option ℕ) → IfNone found (HasNoNumber file.definitions.tables.items item.number)
-      → IsSome found
-  number_found name item there None none = absurd (number_there name item there none)
-  number_found name item there (Some place) none = refl
+  -- a table is open at the place of a number
+  opened_at : (number place : ℕ) (at : IsNumberedAt file.definitions.tables.items number place)
+      → GoesWith (IsOfItem (said_catalogue file.definitions)) (said_table at.table) file.tables.items place
+  opened_at number place at =
+      goes_with (IsOfItem (said_catalogue file.definitions)) (said_catalogue file.definitions).tables file.tables.items place (said_table at.table) rests.may.ready.tables
+      (said_at file number place at)
+
+  pub place_below : (number place : ℕ) → IsNumberedAt file.definitions.tables.items number place → place < length file.tables.items
+  place_below number place at = let goes = opened_at number place at in slice_get_within file.tables.items place goes.one goes.there
 
   -- the place of its number is its place
   pub place_of_number : AreDefinitions catalog → (name : Name) (item : TableItem) (place : ℕ) → names.get catalog.tables name ≡ Some item
       → IsNumberedAt file.definitions.tables.items item.number place → IsPlaceOf file item place
   place_of_number are name item place there at =
-      let said = said_catalogue file.definitions in
-      let one : slice_get said.tables place ≡ Some (said_table at.table) = slice_get-map said_table file.definitions.tables.items place ∙ ap (option_map said_table) at.there in
       let from = comes_from listed_table (names.entries catalog.tables) place (said_table at.table)
-      (ap (λ (tables : List items.TableItem). slice_get tables place) tables_listed ∙ one) in
+      (ap (λ (tables : List items.TableItem). slice_get tables place) tables_listed ∙ said_at file item.number place at) in
       let entry = from.one in
       let under : names.get catalog.tables entry.0 ≡ Some entry.1 =
       each_at (λ (e : Name × TableItem). names.get catalog.tables e.0 ≡ Some e.1) (names.entries catalog.tables) place entry (each_entry catalog.tables) from.there in
-      let named : entry.0 ≡ name = are.table_numbers entry.0 name entry.1 item under there (ap (λ (table : items.TableItem). table.number) from.is ∙ at.numbered) in
-      let same : entry.1 ≡ item = same_Some entry.1 item (sym under ∙ ap (names.get catalog.tables) named ∙ there) in
-      let goes = goes_with (IsOfItem said) said.tables file.tables.items place (said_table at.table) rests.may.ready.tables one in
+      let same : entry.1 ≡ item =
+      only_of_number (λ (i : TableItem). i.number) catalog.tables are.table_numbers entry.0 name entry.1 item under there (ap (λ (table : items.TableItem). table.number) from.is ∙ at.numbered) in
+      let goes = opened_at item.number place at in
       let typed : map type_of (said_table at.table).columns ≡ column_types item.columns =
       ap (λ (table : items.TableItem). map type_of table.columns) (sym from.is) ∙ ap (λ (i : TableItem). map type_of (map listed_column i.columns)) same
       ∙ columns_listed item.columns (rests.columns name item there).sound in
       record {
-        numbered = slice_get-map (λ (table : items.TableItem). table.number) said.tables place ∙ ap (option_map (λ (table : items.TableItem). table.number)) one ∙ ap Some at.numbered;
-        below = slice_get_within file.tables.items place goes.one goes.there;
+        numbered = numbers_at file item.number place at;
+        below = place_below item.number place at;
         types = λ opened is. ap (λ (o : OpenedTable). o.records.types) (sym (same_Some goes.one opened (sym goes.there ∙ is))) ∙ goes.goes.types ∙ typed;
       }

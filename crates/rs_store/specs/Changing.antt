@@ -23,22 +23,35 @@ use Rattle.rs_file_meaning.specs.Live.{KeepsLive}
 use Rattle.rs_refusal.specs.declared.refusal.Refusal.TheVariants as refusal
 use Rattle.rs_store.specs.Kept.{Keeps, StandsIn, StoreState}
 use Rattle.rs_value.specs.Values.{IsRowOf}
+use Rattle.rs_value.specs.declared.column.Kind.{Kind}
 
--- the table is there, and the row is one of its columns, along a span of its kind
-pub record IsRowFor (definitions : Definitions) (name : Name) (span : Stretch) : Type 0 where
+-- the table and the route of these names have these numbers
+pub record HaveNumbers (definitions : Definitions) (name on : Name) (table route : ℕ) : Type 0 where
+  pub table_item : TableItem
+  pub table_there : names.get definitions.tables name ≡ Some table_item
+  pub table_numbered : table_item.number ≡ table
+  pub route_item : RouteItem
+  pub route_there : names.get definitions.routes on ≡ Some route_item
+  pub route_numbered : route_item.number ≡ route
+
+-- a table of this number and kind is there, and the row is one of its columns, along a span of its kind
+pub record IsRowFor (definitions : Definitions) (number : ℕ) (kind : Kind) (span : Stretch) : Type 0 where
+  pub name : Name
   pub table : TableItem
   pub there : names.get definitions.tables name ≡ Some table
+  pub numbered : table.number ≡ number
+  pub of_kind : table.kind ≡ kind
   pub row : IsRowOf (column_types table.columns) span.row
-  pub placed : IsPlaced table.kind span
+  pub placed : IsPlaced kind span
 
--- the table and the route are there, and the span lies on the route
-pub record LiesOn (definitions : Definitions) (name route : Name) (span : Stretch) : Type 0 where
-  pub table : TableItem
-  pub table_there : names.get definitions.tables name ≡ Some table
+-- a route of this number is there, and the span, of this kind, lies on it
+pub record LiesOn (definitions : Definitions) (kind : Kind) (number : ℕ) (span : Stretch) : Type 0 where
+  pub name : Name
   pub on : RouteItem
-  pub route_there : names.get definitions.routes route ≡ Some on
+  pub there : names.get definitions.routes name ≡ Some on
+  pub numbered : on.number ≡ number
   pub from : on.ends.start ≤ span.lo
-  pub upto : span.hi ≤ behind table.kind on.ends
+  pub upto : span.hi ≤ behind kind on.ends
 
 -- a change that any state allows
 abbrev pub Always : State → Type 0

@@ -1,4 +1,4 @@
-//! This module finds the place of a table among those of a file.
+//! This module finds the place of a table among those of a file, by its name and by its number.
 
 ghost use Rattle.std.specs.Prelude.{◌≡◌, true, IfNone, IfSome, Some};
 ghost use Rattle.std.specs.FinMap as names;
@@ -20,6 +20,14 @@ pub(crate) fn table_place(file: &OpenedFile, catalog: &Catalog, table: &Name) ->
 {
     catalog.stand();
     let number = catalog.table(table).unwrap().number();
+    numbered_place(file, number)
+}
+
+/// The place of the table of this number among the file's, of which one has it.
+pub(crate) fn numbered_place(file: &OpenedFile, number: u32) -> usize
+    requires { HasNoNumber file.now.definitions.tables.items number → ⊥ }
+    ensures { IsNumberedAt file.now.definitions.tables.items number result }
+{
     numbered_at(file.definitions.tables.as_slice(), number).unwrap()
 }
 

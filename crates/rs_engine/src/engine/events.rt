@@ -12,7 +12,6 @@ ghost use Rattle.rs_value.specs.View.{literal_row};
 
 use crate::engine::Engine;
 use crate::engine::laws::stores_have_their_laws;
-use rs_command_checks::Removal;
 use rs_disk::Disk;
 use rs_machine_laws::lawful::accepted_step_leaves_the_state_lawful;
 use rs_methods::Name;
@@ -36,14 +35,18 @@ impl<D: Disk> Engine<D> {
     {
         stores_have_their_laws::<D>();
         accepted_step_leaves_the_state_lawful();
-        let span = self
+        let insertion = self
             .checks()
             .checked_insertion(table, route, place, values)?;
         let oldest = self.oldest();
-        let new_facts = self
-            .live
-            .store
-            .insert(self.alloc, oldest, table, route, span)?;
+        let new_facts = self.live.store.insert(
+            self.alloc,
+            oldest,
+            insertion.table,
+            insertion.kind,
+            insertion.route,
+            insertion.span,
+        )?;
         self.live.oldest = oldest;
         Ok(u128::from(new_facts))
     }
@@ -63,20 +66,18 @@ impl<D: Disk> Engine<D> {
         stores_have_their_laws::<D>();
         accepted_step_leaves_the_state_lawful();
         let removal = self.checks().checked_removal(table, window, condition)?;
-        let Removal {
-            route,
-            lo,
-            hi,
-            goes,
-        } = removal;
+        let section = Section {
+            lo: removal.lo,
+            hi: removal.hi,
+        };
         let oldest = self.oldest();
         let gone = self.live.store.remove(
             self.alloc,
             oldest,
-            table,
-            &route,
-            Section { lo, hi },
-            goes,
+            removal.table,
+            removal.route,
+            section,
+            removal.goes,
         )?;
         self.live.oldest = oldest;
         Ok(gone)

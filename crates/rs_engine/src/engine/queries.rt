@@ -121,7 +121,7 @@ impl<D: Disk> Engine<D> {
     }
 
     /// The checked query, which can be planned; or the refusal of the first check that fails.
-    fn checked(&self, query: &Query) -> Result<Checked, Refusal>
+    pub fn checked(&self, query: &Query) -> Result<Checked, Refusal>
         ensures is { (machine : Machine) → IsMachine D.Disk self.now machine → IfOk result (IsChecked machine.state (query_tree query.now)) }
         ensures can { IfOk result (CanBePlanned self.now.store.catalog) }
         ensures refused { (machine : Machine) → IsMachine D.Disk self.now machine

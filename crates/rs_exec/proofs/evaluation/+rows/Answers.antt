@@ -7,8 +7,9 @@ use Rattle.rs_facts.specs.Query.{overlaid_kind}
 use Rattle.rs_facts.specs.Spans.{seen}
 use Rattle.rs_exec.specs.Carried.{AreSourcesOf}
 use Rattle.rs_exec.specs.Held.{AreHeld, CanOverlay, AreLaidOver}
+use Rattle.rs_exec.specs.Joined.{HasRuns}
 use Rattle.rs_exec.specs.Meaning.{PlanMeaning, meaning_of}
-use Rattle.rs_exec.specs.Operand.{operand_meaning, operands_meaning, node_meaning, together_meaning}
+use Rattle.rs_exec.specs.Operand.{changed_meaning, operand_meaning, operands_meaning, node_meaning, together_meaning}
 use Rattle.rs_exec.specs.Pairs.{CanPair, IsPaired}
 use Rattle.rs_exec.specs.Routes.{numbers_of, list_of}
 use Rattle.rs_exec.specs.declared.pairs.Pairing.TheVariants as pairings
@@ -16,7 +17,7 @@ use Rattle.rs_exec.proofs.Leading.{pieces-forwards, transform-none, can-carry, c
 use Rattle.rs_exec.proofs.Leavings.{leaves-then}
 use Rattle.rs_exec.proofs.Lists.{empty}
 use Rattle.rs_exec.proofs.Steps.{formed-pair}
-use Rattle.rs_exec.proofs.Holding.{earlier, laid-earlier, can-pair, shaped-of, shaped-length, in-order, changed-held, have-shapes, gaps-held, as-kinds, paired-held, laid-none, laid-bare, laid-next, beside-held, together-laid, overlay-held, overlay-stays, formed-overlay, seen-held, window-none, formed-together, together, can-begin, can-lay-next, can-pair-next, can-go-on}
+use Rattle.rs_exec.proofs.Holding.{earlier, laid-earlier, changed_kind, of-kind, runs-held, can-pair, shaped-of, shaped-length, in-order, changed-held, have-shapes, gaps-held, as-kinds, paired-held, laid-none, laid-bare, laid-next, beside-held, together-laid, overlay-held, overlay-stays, formed-overlay, seen-held, window-none, formed-together, together, can-begin, can-lay-next, can-pair-next, can-go-on}
 use Rattle.rs_exec.proofs.evaluation.+rows.Goals as goal
 
 -- ---- operators of one operand
@@ -25,8 +26,21 @@ pub changed_rows-changed_on-requires-clause-ordered : goal.changed_rows-changed_
 changed_rows-changed_on-requires-clause-ordered g t c =
     in-order (g.S.Source.is c.args.source.now) c.args.routes.version (operand_meaning c.args.operand) (numbers_of c.args.routes) (list_of c.in_ok-rows.rows) c.in_ok-rows.ensures.held
 
-pub changed_rows-returns-clause-held : goal.changed_rows-returns-clause-held
-changed_rows-returns-clause-held g t c =
+pub changed_rows-runs_on-requires : goal.changed_rows-runs_on-requires
+changed_rows-runs_on-requires g t c = record {
+  placed = of-kind (g.S.Source.is c.args.source.now) c.args.routes.version c.args.change (operand_meaning c.args.operand) c.kind-kind.result (numbers_of c.args.routes) (list_of c.in_ok-changed.changed) c.kind-kind.ensures
+      (changed-held (g.S.Source.is c.args.source.now) c.args.routes.version c.args.change (operand_meaning c.args.operand) (numbers_of c.args.routes) (list_of c.in_ok-rows.rows) (list_of c.in_ok-changed.changed) c.in_ok-changed.ensures c.in_ok-rows.ensures.held);
+}
+
+pub changed_rows-returns-in_ok-joined-in-Dissolve-clause-held : goal.changed_rows-returns-in_ok-joined-in-Dissolve-clause-held
+changed_rows-returns-in_ok-joined-in-Dissolve-clause-held g t c =
+    let meaning = changed_meaning c.args.change (operand_meaning c.args.operand) in
+    runs-held (g.S.Source.is c.args.source.now) c.args.routes.version meaning (numbers_of c.args.routes) (list_of c.in_ok-changed.changed) (list_of c.in_ok-joined-in-Dissolve.joined)
+    (subst (λ kind. AllZip (HasRuns kind) (list_of c.in_ok-changed.changed) (list_of c.in_ok-joined-in-Dissolve.joined)) (c.kind-kind.ensures ∙ sym (changed_kind c.args.change (operand_meaning c.args.operand))) c.in_ok-joined-in-Dissolve.ensures)
+    (changed-held (g.S.Source.is c.args.source.now) c.args.routes.version c.args.change (operand_meaning c.args.operand) (numbers_of c.args.routes) (list_of c.in_ok-rows.rows) (list_of c.in_ok-changed.changed) c.in_ok-changed.ensures c.in_ok-rows.ensures.held)
+
+pub changed_rows-returns-in-Where-clause-held : goal.changed_rows-returns-in-Where-clause-held
+changed_rows-returns-in-Where-clause-held g t c =
     changed-held (g.S.Source.is c.args.source.now) c.args.routes.version c.args.change (operand_meaning c.args.operand) (numbers_of c.args.routes) (list_of c.in_ok-rows.rows) (list_of c.in_ok-changed.changed) c.in_ok-changed.ensures c.in_ok-rows.ensures.held
 
 pub gaps_rows-gaps_on-requires : goal.gaps_rows-gaps_on-requires

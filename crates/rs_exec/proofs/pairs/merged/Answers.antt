@@ -4,6 +4,6 @@ use Rattle.rs_exec.proofs.Pairing.{merge-paired}
 use Rattle.rs_exec.proofs.pairs.merged.Goals as goal
 
 pub returns : goal.returns
-returns c = λ kinds.
+returns c =
     let made = c.in_ok-spans.ensures in
-    merge-paired kinds (map seen c.args.left.items) (map seen c.args.right.items) (map seen c.in_ok-spans.spans.items) made.sorted made.means made.placed made.width
+    merge-paired c.args.kinds (map seen c.args.left.items) (map seen c.args.right.items) (map seen c.in_ok-spans.spans.items) made.sorted made.means made.placed made.width

@@ -3,7 +3,7 @@ use Rattle.std.proofs.lemmas.Result.{err_from_is_err_and}
 use Rattle.rs_syntax.specs.View.{removal_tree}
 use Rattle.rs_syntax.specs.QueryView.{window_tree}
 use Rattle.rs_command_checks.proofs.Outcomes.{may_ok}
-use Rattle.rs_command_checks.proofs.EventResults.{are_there, rows_taken, removal_no_change}
+use Rattle.rs_command_checks.proofs.EventResults.{rows_taken, removal_no_change}
 use Rattle.rs_command_checks.proofs.checks.Checks.checked_removal.Goals as goal
 
 pub returns-in_err-removal-clause-refused : goal.returns-in_err-removal-clause-refused
@@ -22,4 +22,4 @@ returns-clause-accepted c = λ unseen there is.
     ∙ may_ok c.args.self.now unseen _ (c.in_ok-may_change.ensures.answer unseen)
 
 pub returns-clause-there : goal.returns-clause-there
-returns-clause-there c = are_there c.args.self.now c.args.name.now.bytes (window_tree c.args.window.now) (removal_tree c.args.condition.now) c.in_ok-removal.removal c.in_ok-removal.ensures.done
+returns-clause-there c = c.in_ok-removal.ensures.done.there

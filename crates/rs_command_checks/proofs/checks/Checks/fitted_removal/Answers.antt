@@ -51,3 +51,19 @@ returns-in_err-goes-clause-refused c = λ unseen.
     (λ off. inr (removal_no_test c.args.self.now unseen c.args.name.now.bytes (window_tree c.args.window.now) (removal_tree c.args.condition.now) c.in_ok-on.on route_there c.in_ok-table.table.now table_there (c.in_ok-lo.lo, c.in_ok-lo.hi) (sym c.in_ok-lo.ensures) _
     (ap (λ columns. removal_checked columns (removal_tree c.args.condition.now)) (sym c.columns.ensures) ∙ off)))
     c.in_err-goes.ensures.refused)
+
+pub returns-clause-done : goal.returns-clause-done
+returns-clause-done c =
+    let named = ap (names.get c.args.self.now.catalog.now.routes) (sym c.route_of-route.ensures) in
+    record {
+      there = record {
+        table = c.in_ok-table.table.now;
+        table_there = found_some (names.get c.args.self.now.catalog.now.tables c.args.name.now.bytes) NoSuchName c.in_ok-table.table.now c.in_ok-table.ensures;
+        table_numbered = sym c.number.ensures;
+        on = c.in_ok-on.on;
+        route_there = named ∙ found_some (names.get c.args.self.now.catalog.now.routes c.route_of-route.result.now.bytes) NoSuchRoute c.in_ok-on.on c.in_ok-on.ensures;
+        route_numbered = sym c.number-2.ensures;
+      };
+      located = sym c.in_ok-lo.ensures;
+      goes = ap (λ columns. removal_checked columns (removal_tree c.args.condition.now)) (sym c.columns.ensures) ∙ c.in_ok-goes.ensures.done;
+    }

@@ -3,10 +3,10 @@ use Rattle.std.proofs.Common.{◌≡◌, ◌≤◌, ◌<◌, ◌+◌, ◌∙◌,
 use Rattle.rs_catalog.specs.Referents.{referents_on}
 use Rattle.rs_changes.specs.Changing.{ChangesFile}
 use Rattle.rs_changes.specs.Parts.{InsertsRow}
+use Rattle.rs_facts.specs.Fact.{Name}
 use Rattle.rs_facts.specs.Insert.{new_facts}
 use Rattle.rs_facts.specs.Query.{Table}
 use Rattle.rs_facts.specs.Spans.{seen}
-use Rattle.rs_facts.specs.declared.fact.Span.{Span}
 use Rattle.rs_machine.specs.Lawful.{IsLawful}
 use Rattle.rs_machine.specs.State.{State}
 use Rattle.rs_machine.specs.Step.{with_facts_along, with_table}
@@ -14,14 +14,14 @@ use Rattle.rs_machine.specs.declared.limits.TheConstants.{CHANGES}
 use Rattle.rs_pager.specs.Maps.{working}
 use Rattle.rs_store.proofs.Changed.{given_so}
 use Rattle.rs_store.proofs.Keeping.{store_over}
+use Rattle.rs_store.proofs.Placed.{number_there}
 use Rattle.rs_store.proofs.Results.{err_always}
-use Rattle.rs_store.proofs.Rows.{made_and_kept, row_put}
+use Rattle.rs_store.proofs.Rows.{made_and_kept, row_at, row_put}
 use Rattle.rs_store.proofs.Settled.{has_begun, left_settled, left_unbegun, rests_settled}
-use Rattle.rs_store.specs.Changing.{Always, HasBecome, LeavesStore, LiesOn}
+use Rattle.rs_store.specs.Changing.{Always, HasBecome, HaveNumbers, IsRowFor, LeavesStore, LiesOn}
 use Rattle.rs_store.specs.Kept.{StandsIn}
 use Rattle.rs_store.specs.Kept.{StoreState}
 use Rattle.rs_store.specs.Settling.{HasBegun}
-use Rattle.rs_value.specs.declared.column.Kind.{Kind}
 use Rattle.std.proofs.lemmas.Result.{err_from_is_err_and}
 use Rattle.std.specs.FinMap as names
 use Rattle.rs_store.proofs.store.Store.insert.Given.{Over}
@@ -40,8 +40,16 @@ module _ (g : Over) (c : goal.After-drop-insertion-2 g) where
   abbrev now : StoreState g.row.D.Denot
   now = store_over g.D.Disk c.settle.new.pager c.settle.new.file was.catalog was.referents
 
-  lies : LiesOn was.catalog c.args.table.now.bytes c.args.route.now.bytes (seen c.args.span)
-  lies = subst (λ (s : StoreState g.row.D.Denot). LiesOn s.catalog c.args.table.now.bytes c.args.route.now.bytes (seen c.args.span)) (sym c.self.view_is) c.requires.lies
+  row : IsRowFor was.catalog c.args.table c.args.kind (seen c.args.span)
+  row = subst (λ (s : StoreState g.row.D.Denot). IsRowFor s.catalog c.args.table c.args.kind (seen c.args.span)) (sym c.self.view_is) c.requires.row
+
+  lies : LiesOn was.catalog c.args.kind c.args.route (seen c.args.span)
+  lies = subst (λ (s : StoreState g.row.D.Denot). LiesOn s.catalog c.args.kind c.args.route (seen c.args.span)) (sym c.self.view_is) c.requires.lies
+
+pub numbered_place-requires : goal.numbered_place-requires
+numbered_place-requires g c =
+    let row = subst (λ (s : StoreState g.row.D.Denot). IsRowFor s.catalog c.args.table c.args.kind (seen c.args.span)) (sym c.self.view_is) c.requires.row in
+    number_there c.self.inside.file c.self.inside.catalog c.self.invariant.rests row.name row.table c.args.table row.there row.numbered
 
 pub insert-made-requires-clause-may : goal.insert-made-requires-clause-may
 insert-made-requires-clause-may g c = record {
@@ -49,6 +57,11 @@ insert-made-requires-clause-may g c = record {
   opened = c.self.invariant.rests.may;
   room = subst (λ (s : StoreState g.row.D.Denot). s.file.accepted < CHANGES) (sym c.self.view_is) c.requires.room;
 }
+
+pub insert-made-requires-clause-row : goal.insert-made-requires-clause-row
+insert-made-requires-clause-row g c =
+    let row = subst (λ (s : StoreState g.row.D.Denot). IsRowFor s.catalog c.args.table c.args.kind (seen c.args.span)) (sym c.self.view_is) c.requires.row in
+    row_at c.self.inside.file c.self.inside.catalog c.self.invariant.rests c.stand.ensures c.args.table c.args.kind c.args.span row c.numbered_place.result c.numbered_place.ensures
 
 pub invariant_of-self-2 : goal.invariant_of-self-2
 invariant_of-self-2 g c =
@@ -73,32 +86,23 @@ returns-clause-inserts g c =
     let d = g.D.Disk in
     let made = c.insert-made in
     let first = c.begin_change.new.pager in
-    let name = c.args.table.now.bytes in
-    let route = c.args.route.now.bytes in
     let lo = c.args.span.lo in
     let hi = c.args.span.hi in
-    let row = (seen c.args.span).row in
-    let one = c.insertion_of-insertion.result in
-    let on = lies g c in
-    given_so (λ r s. (from : ℕ) (state : State) (stands : StandsIn d from s state) → from ≤ c.args.oldest → c.args.oldest ≤ s.file.accepted + 1
-    → (there : Table) → names.get state.tables name ≡ Some there → IsLawful (with_table state name (with_facts_along there route lo hi row))
-    → IfOk r (λ count. HasBecome d c.args.oldest stands.contents (now g c) (with_table state name (with_facts_along there route lo hi row)) × (count ≡ new_facts there.facts route lo hi row)))
+    let facts = (seen c.args.span).row in
+    let place = c.numbered_place.result in
+    given_so (λ r s. (name on : Name) → HaveNumbers s.catalog name on c.args.table c.args.route → (from : ℕ) (state : State) (stands : StandsIn d from s state)
+    → from ≤ c.args.oldest → c.args.oldest ≤ s.file.accepted + 1 → (there : Table) → names.get state.tables name ≡ Some there
+    → IsLawful (with_table state name (with_facts_along there on lo hi facts))
+    → IfOk r (λ count. HasBecome d c.args.oldest stands.contents (now g c) (with_table state name (with_facts_along there on lo hi facts)) × (count ≡ new_facts there.facts on lo hi facts)))
     made.result c.settle.result (was g c) c.args.self.now c.settle.ensures.same c.self.view_is
-    (λ from state stands low high there is lawful.
+    (λ name on have from state stands low high there is lawful.
     made_and_kept d
-    (λ count. ChangesFile c.args.oldest (working d first) (working d made.new.pages) (was g c).file made.new.file (InsertsRow one.table one.kind one.route (seen one.span) count))
-    (λ count. HasBecome d c.args.oldest stands.contents (now g c) (with_table state name (with_facts_along there route lo hi row)) × (count ≡ new_facts there.facts route lo hi row))
+    (λ count. ChangesFile c.args.oldest (working d first) (working d made.new.pages) (was g c).file made.new.file (InsertsRow place c.args.kind c.args.route (seen c.args.span) count))
+    (λ count. HasBecome d c.args.oldest stands.contents (now g c) (with_table state name (with_facts_along there on lo hi facts)) × (count ≡ new_facts there.facts on lo hi facts))
     made.result made.new.pages c.settle.new.pager made.new.file c.settle.new.file (made.ensures.inserts ((begun g c).keeps.contents stands.contents stands.keeps).tied) c.settle.ensures.settles
     (λ count changes keeps. row_put g.D.Disk (was g c) c.begin_change.new.pager made.new.pages c.settle.new.pager (was g c).file made.new.file c.settle.new.file (was g c).catalog (was g c).referents (begun g c) made.ensures.leaves.keeps
-    c.kept_change_gives_its_state.ensures from c.args.oldest state stands low high (room g c) c.row_put_gives_its_state.ensures name route on.table on.on one.table (seen c.args.span)
-    on.table_there on.route_there (c.insertion_of-insertion.ensures.place on.table on.table_there).numbered on.from on.upto there is lawful count
-    (subst (λ (s : Span). ChangesFile c.args.oldest (working d first) (working d made.new.pages) (was g c).file made.new.file (InsertsRow one.table on.table.kind on.on.number (seen s) count))
-    c.insertion_of-insertion.ensures.span
-    (subst (λ (n : ℕ). ChangesFile c.args.oldest (working d first) (working d made.new.pages) (was g c).file made.new.file (InsertsRow one.table on.table.kind n (seen one.span) count))
-    (c.insertion_of-insertion.ensures.route on.on on.route_there)
-    (subst (λ (k : Kind). ChangesFile c.args.oldest (working d first) (working d made.new.pages) (was g c).file made.new.file (InsertsRow one.table k one.route (seen one.span) count))
-    (c.insertion_of-insertion.ensures.kind on.table on.table_there) changes)))
-    keeps))
+    c.kept_change_gives_its_state.ensures from c.args.oldest state stands low high (room g c) c.row_put_gives_its_state.ensures c.stand.ensures name on c.args.table c.args.route have
+    c.args.kind place (seen c.args.span) (row g c) (lies g c) c.numbered_place.ensures there is lawful count changes keeps))
 
 pub returns-in_err-begin_change-clause-leaves : goal.returns-in_err-begin_change-clause-leaves
 returns-in_err-begin_change-clause-leaves g c =

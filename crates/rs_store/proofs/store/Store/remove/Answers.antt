@@ -1,24 +1,25 @@
 -- The rows are taken away by a change of the file, which is kept or taken back.
-use Rattle.std.proofs.Common.{◌≡◌, ◌≤◌, ◌<◌, ◌+◌, ◌∙◌, ℕ, Err, IfOk, Some, ap, refl, subst, sym}
-use Rattle.rs_catalog.specs.Definitions.{TableItem}
+use Rattle.std.proofs.Common.{◌≡◌, ◌≤◌, ◌<◌, ◌+◌, ◌∙◌, ℕ, Err, IfOk, Some, refl, subst, sym}
+use Rattle.rs_catalog.specs.Definitions.{IsFree, TableItem}
 use Rattle.rs_catalog.specs.Referents.{referents_on}
 use Rattle.rs_changes.specs.Changing.{ChangesFile}
 use Rattle.rs_changes.specs.Parts.{RemovesRows}
+use Rattle.rs_facts.specs.Fact.{Name}
 use Rattle.rs_facts.specs.Query.{Table}
 use Rattle.rs_facts.specs.Remove.{removed_facts}
 use Rattle.rs_machine.specs.Lawful.{IsLawful}
-use Rattle.rs_machine.specs.State.{State, has}
+use Rattle.rs_machine.specs.State.{State}
 use Rattle.rs_machine.specs.Step.{with_table, without_facts}
 use Rattle.rs_machine.specs.declared.limits.TheConstants.{CHANGES}
 use Rattle.rs_pager.specs.Maps.{working}
 use Rattle.rs_spans.specs.Removal.{goes_by}
 use Rattle.rs_store.proofs.Changed.{given_so}
 use Rattle.rs_store.proofs.Keeping.{store_over}
-use Rattle.rs_store.proofs.Placed.{has_one}
+use Rattle.rs_store.proofs.Placed.{number_there, place_below}
 use Rattle.rs_store.proofs.Results.{err_always}
 use Rattle.rs_store.proofs.Rows.{made_and_kept, rows_taken}
 use Rattle.rs_store.proofs.Settled.{has_begun, left_settled, left_unbegun, rests_settled}
-use Rattle.rs_store.specs.Changing.{Always, HasBecome, LeavesStore}
+use Rattle.rs_store.specs.Changing.{Always, HasBecome, HaveNumbers, LeavesStore}
 use Rattle.rs_store.specs.Kept.{StandsIn}
 use Rattle.rs_store.specs.Kept.{StoreState}
 use Rattle.rs_store.specs.Settling.{HasBegun}
@@ -40,8 +41,14 @@ module _ (g : Over) (c : goal.Joined-removal-5 g) where
   abbrev now : StoreState g.row.D.Denot
   now = store_over g.D.Disk c.settle.new.pager c.settle.new.file was.catalog was.referents
 
-  table : (item : TableItem) × (names.get was.catalog.tables c.args.table.now.bytes ≡ Some item)
-  table = has_one was.catalog.tables c.args.table.now.bytes (ap (λ (s : StoreState g.row.D.Denot). has s.catalog.tables c.args.table.now.bytes) c.self.view_is ∙ c.requires.table)
+pub numbered_place-requires : goal.numbered_place-requires
+numbered_place-requires g c =
+    let some = subst (λ (s : StoreState g.row.D.Denot). IsFree (λ (item : TableItem). item.number) s.catalog.tables c.args.table → ⊥) (sym c.self.view_is) c.requires.table in
+    λ none. some (λ name item there numbered. number_there c.self.inside.file c.self.inside.catalog c.self.invariant.rests name item c.args.table there numbered none)
+
+pub remove-made-requires-clause-place : goal.remove-made-requires-clause-place
+remove-made-requires-clause-place g c =
+    place_below c.self.inside.file c.self.inside.catalog c.self.invariant.rests c.args.table c.numbered_place.result c.numbered_place.ensures
 
 pub remove-made-requires-clause-may : goal.remove-made-requires-clause-may
 remove-made-requires-clause-may g c = record {
@@ -73,29 +80,23 @@ returns-clause-removes g c =
     let d = g.D.Disk in
     let made = c.remove-made in
     let first = c.begin_change.new.pager in
-    let name = c.args.table.now.bytes in
-    let route = c.args.route.now.bytes in
     let lo = c.args.section.lo in
     let hi = c.args.section.hi in
-    let place = c.table_place.result in
-    let on = c.unwrap.result in
-    let item = table g c in
-    given_so (λ r s. (from : ℕ) (state : State) (stands : StandsIn d from s state) → from ≤ c.args.oldest → c.args.oldest ≤ s.file.accepted + 1
-    → (there : Table) → names.get state.tables name ≡ Some there → IsLawful (with_table state name (without_facts there route lo hi (goes_by c.args.goes)))
-    → IfOk r (λ count. HasBecome d c.args.oldest stands.contents (now g c) (with_table state name (without_facts there route lo hi (goes_by c.args.goes)))
-    × (count ≡ removed_facts there.facts route lo hi (goes_by c.args.goes))))
+    let goes = goes_by c.args.goes in
+    let place = c.numbered_place.result in
+    given_so (λ r s. (name on : Name) → HaveNumbers s.catalog name on c.args.table c.args.route → (from : ℕ) (state : State) (stands : StandsIn d from s state)
+    → from ≤ c.args.oldest → c.args.oldest ≤ s.file.accepted + 1 → (there : Table) → names.get state.tables name ≡ Some there
+    → IsLawful (with_table state name (without_facts there on lo hi goes))
+    → IfOk r (λ count. HasBecome d c.args.oldest stands.contents (now g c) (with_table state name (without_facts there on lo hi goes)) × (count ≡ removed_facts there.facts on lo hi goes)))
     made.result c.settle.result (was g c) c.args.self.now c.settle.ensures.same c.self.view_is
-    (λ from state stands low high there is lawful.
+    (λ name on have from state stands low high there is lawful.
     made_and_kept d
-    (λ count. ChangesFile c.args.oldest (working d first) (working d made.new.pages) (was g c).file made.new.file (RemovesRows place c.number.result lo hi c.args.goes count))
-    (λ count. HasBecome d c.args.oldest stands.contents (now g c) (with_table state name (without_facts there route lo hi (goes_by c.args.goes)))
-    × (count ≡ removed_facts there.facts route lo hi (goes_by c.args.goes)))
+    (λ count. ChangesFile c.args.oldest (working d first) (working d made.new.pages) (was g c).file made.new.file (RemovesRows place c.args.route lo hi c.args.goes count))
+    (λ count. HasBecome d c.args.oldest stands.contents (now g c) (with_table state name (without_facts there on lo hi goes)) × (count ≡ removed_facts there.facts on lo hi goes))
     made.result made.new.pages c.settle.new.pager made.new.file c.settle.new.file (made.ensures.removes ((begun g c).keeps.contents stands.contents stands.keeps).tied) c.settle.ensures.settles
     (λ count changes keeps. rows_taken g.D.Disk (was g c) c.begin_change.new.pager made.new.pages c.settle.new.pager (was g c).file made.new.file c.settle.new.file (was g c).catalog (was g c).referents (begun g c) made.ensures.leaves.keeps
-    c.kept_change_gives_its_state.ensures from c.args.oldest state stands low high (room g c) c.rows_taken_away_give_their_state.ensures name route item.0 on place lo hi c.args.goes
-    item.1 (sym c.route.ensures ∙ c.unwrap.ensures) (c.table_place.ensures item.0 item.1).numbered there is lawful count
-    (subst (λ (n : ℕ). ChangesFile c.args.oldest (working d first) (working d made.new.pages) (was g c).file made.new.file (RemovesRows place n lo hi c.args.goes count)) c.number.ensures changes)
-    keeps))
+    c.kept_change_gives_its_state.ensures from c.args.oldest state stands low high (room g c) c.rows_taken_away_give_their_state.ensures name on c.args.table c.args.route have
+    place lo hi c.args.goes c.numbered_place.ensures there is lawful count changes keeps))
 
 pub returns-in_err-begin_change-clause-leaves : goal.returns-in_err-begin_change-clause-leaves
 returns-in_err-begin_change-clause-leaves g c =

@@ -10,7 +10,7 @@ use Rattle.rs_machine.specs.Checks.{same_kind, location_kind, row_fits}
 use Rattle.rs_command_checks.proofs.Outcomes.{found_some, found_none}
 use Rattle.rs_command_checks.proofs.EventChecks.{row_no_route, row_no_table, row_off_route, row_other_kind, row_misfit}
 use Rattle.rs_command_checks.proofs.Rows.{row_fits-kept}
-use Rattle.rs_command_checks.proofs.checks.Checks.fitted_span.Goals as goal
+use Rattle.rs_command_checks.proofs.checks.Checks.fitted_insertion.Goals as goal
 
 pub returns-in_err-on-clause-refused : goal.returns-in_err-on-clause-refused
 returns-in_err-on-clause-refused c = λ unseen.
@@ -36,7 +36,7 @@ pub returns-then-not-is_of_kind-clause-refused : goal.returns-then-not-is_of_kin
 returns-then-not-is_of_kind-clause-refused c = λ unseen.
     let route_there = found_some (names.get c.args.self.now.catalog.now.routes c.args.route.now.bytes) NoSuchRoute c.in_ok-on.on c.in_ok-on.ensures in
     let table_there = found_some (names.get c.args.self.now.catalog.now.tables c.args.name.now.bytes) NoSuchName c.in_ok-table.table.now c.in_ok-table.ensures in
-    let other = ap (λ kind. same_kind kind (location_kind (location_tree c.args.place.now))) (sym c.kind.ensures) ∙ sym c.is_of_kind.ensures ∙ c.if-not-is_of_kind.true in
+    let other = ap (λ kind. same_kind kind (location_kind (location_tree c.args.place.now))) (sym c.kind-kind.ensures) ∙ sym c.is_of_kind.ensures ∙ c.if-not-is_of_kind.true in
     inr (row_other_kind c.args.self.now unseen c.args.name.now.bytes c.args.route.now.bytes (location_tree c.args.place.now) (literal_row c.args.values.now) c.in_ok-on.on route_there c.in_ok-table.table.now table_there (c.in_ok-lo.lo, c.in_ok-lo.hi) (sym c.in_ok-lo.ensures) other)
 
 pub fitted-requires : goal.fitted-requires
@@ -53,6 +53,6 @@ returns-in_err-fitted-clause-refused c = λ unseen.
     let p = err_from_is_err_and c.from_residual-in_err-fitted.result c.from_residual-in_err-fitted.ensures.1 in
     let route_there = found_some (names.get c.args.self.now.catalog.now.routes c.args.route.now.bytes) NoSuchRoute c.in_ok-on.on c.in_ok-on.ensures in
     let table_there = found_some (names.get c.args.self.now.catalog.now.tables c.args.name.now.bytes) NoSuchName c.in_ok-table.table.now c.in_ok-table.ensures in
-    let same = ap (λ kind. same_kind kind (location_kind (location_tree c.args.place.now))) (sym c.kind.ensures) ∙ sym c.is_of_kind.ensures ∙ c.if-not-is_of_kind.false in
+    let same = ap (λ kind. same_kind kind (location_kind (location_tree c.args.place.now))) (sym c.kind-kind.ensures) ∙ sym c.is_of_kind.ensures ∙ c.if-not-is_of_kind.false in
     rw (p.1, p.2) (inr (row_misfit c.args.self.now unseen c.args.name.now.bytes c.args.route.now.bytes (location_tree c.args.place.now) (literal_row c.args.values.now) c.in_ok-on.on route_there c.in_ok-table.table.now table_there (c.in_ok-lo.lo, c.in_ok-lo.hi) (sym c.in_ok-lo.ensures) same _
     (ap (λ columns. row_fits columns (literal_row c.args.values.now)) (sym c.columns.ensures) ∙ c.in_err-fitted.ensures.refused)))
