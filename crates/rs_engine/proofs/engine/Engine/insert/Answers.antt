@@ -15,7 +15,7 @@ use Rattle.rs_engine.proofs.Tables.{HasTableSo, in_store, table_so, table_step, 
 use Rattle.rs_machine.specs.Served.{done}
 use Rattle.rs_machine.specs.State.{State}
 use Rattle.rs_machine.specs.Step.{counted, outcome, with_facts_along}
-use Rattle.rs_store_source.specs.Changing.{Always, HaveNumbers}
+use Rattle.rs_store_source.specs.Changing.{Always, HaveNumbers, IsRowFor, LiesOn}
 use Rattle.rs_syntax.specs.Tree as tree
 use Rattle.rs_syntax.specs.View.{location_tree}
 use Rattle.rs_value.specs.View.{literal_row}
@@ -30,6 +30,39 @@ returns-in_err-insertion g c =
           c.from_residual.result count_reply_of c.in_err-insertion.field-0.0 c.args.self.now refl (p.1 ∙ ap Err p.2) refl c.in_err-insertion.ensures.refused;
       leaves = leaves_at_once g.D.Disk c.args.self.now c.from_residual.result;
     }
+
+pub insert-new_facts-requires-clause-row : goal.insert-new_facts-requires-clause-row
+insert-new_facts-requires-clause-row g c =
+    let old : EngineState g.row.D.Denot = record { store = c.self.inside.live.store; oldest = c.self.inside.live.oldest; cursors = c.self.inside.cursors } in
+    let insertion = c.in_ok-insertion.insertion in
+    let event = c.in_ok-insertion.ensures.event in
+    in_store old c.args.self.now c.self.view_is c.checks.result c.checks.ensures
+    (λ (definitions : Definitions). IsRowFor definitions insertion.table insertion.kind (seen insertion.span))
+    (record {
+      name = c.args.table.now.bytes;
+      table = event.table;
+      there = event.table_there;
+      numbered = event.table_numbered;
+      of_kind = event.of_kind;
+      row = event.row;
+      placed = event.placed;
+    })
+
+pub insert-new_facts-requires-clause-lies : goal.insert-new_facts-requires-clause-lies
+insert-new_facts-requires-clause-lies g c =
+    let old : EngineState g.row.D.Denot = record { store = c.self.inside.live.store; oldest = c.self.inside.live.oldest; cursors = c.self.inside.cursors } in
+    let insertion = c.in_ok-insertion.insertion in
+    let event = c.in_ok-insertion.ensures.event in
+    in_store old c.args.self.now c.self.view_is c.checks.result c.checks.ensures
+    (λ (definitions : Definitions). LiesOn definitions insertion.kind insertion.route (seen insertion.span))
+    (record {
+      name = c.args.route.now.bytes;
+      on = event.on;
+      there = event.route_there;
+      numbered = event.route_numbered;
+      from = event.from;
+      upto = event.upto;
+    })
 
 pub returns-in_err-new_facts : goal.returns-in_err-new_facts
 returns-in_err-new_facts g c =
