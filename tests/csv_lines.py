@@ -392,6 +392,57 @@ def check_scales():
         expect("--scale %s" % words, run("csv", DEFINE, "--scale", words, data=head), (2, b"", told))
 
 
+def made_name(text):
+    """The name that a text is made with `--names`, or None."""
+    name = "".join(byte if re.match("[A-Za-z0-9_]", byte) else "_" for byte in text.strip(" ").encode().decode("latin-1"))
+    if not name:
+        return None
+    name = (name if name[0].isalpha() else "R" + name)[:32]
+    return name + "_" if name in RESERVED else name
+
+
+RESERVED = set(
+    "ABSOLUTE ALIGNMENT AND AS AT BY CLOSE COVER DEFINE DISSOLVE DROP EXPLAIN FETCH FOR FROM GAPS INDEX INSERT INT INTERPOLATIVE INTO IS LINE MERGE MINUS MOVE NOT NULL ON OPEN "
+    "OR OVERLAY POINT REFERENT RELATIVE REMOVE RENAME REOPEN ROUTE SAVE SELECT SUM TABLE TEXT TO TOTAL TRANSFORM TRANSLATE VALUES VIEW WHERE WINDOW".split()
+)
+
+
+def check_made_names(count=20_000):
+    """Names made of routes and of columns of the header, and texts that would become one name."""
+    for text, name in (("I-95", "I_95"), ("US 40", "US_40"), ("101", "R101"), ("LINE", "LINE_"), (" SR1 ", "SR1"), ("_a", "R_a"), ("x" * 40, "x" * 32), ("\u00e9", "R__"), ("line", "line"), ("9" * 32, "R" + "9" * 31)):
+        expect("what Python makes of %s" % text, made_name(text), name)
+        line = "0 INSERT INTO crash ON %s AT 1 VALUES (NULL)\n" % name
+        expect("the name of %r" % text, run("csv", POINTS, "--no-define", "--names", data=("route,at,year\n%s,1,\n" % text).encode()), (0, line.encode(), b""))
+    for text in ("", " ", '""'):
+        shown_text = " is not a name" if text == " " else "an empty field is not a name"
+        told = "roadseg: record 1, route: %s\n" % (" " + shown_text if text == " " else shown_text)
+        expect("no name of %r" % text, run("csv", POINTS, "--no-define", "--names", data=("route,at,year\n%s,1,\n" % text).encode()), (1, b"", told.encode()))
+    chance = random.Random(12)
+    made, lines, told, records = {}, [], [], []
+    for number in range(1, count + 1):
+        route = "".join(chance.choice(["I", "US", "SR", "", "LINE", "\u00c9"]) + chance.choice(["-", " ", "_", ""]) + str(chance.randrange(1, 400)))
+        records.append([route, "1", ""])
+        name, text = made_name(route), route.strip(" ")
+        first = made.setdefault(name, text)
+        if first == text:
+            lines.append("0 INSERT INTO crash ON %s AT 1 VALUES (NULL)\n" % name)
+        else:
+            told.append("roadseg: record %d: %s would be %s, as %s is\n" % (number, text, name, first))
+    data = csv_of(records, "\n", ["route", "at", "year"])
+    expect("made names", run("csv", POINTS, "--no-define", "--names", data=data), (1, "".join(lines).encode(), "".join(told).encode()))
+    status, out, errors = run("csv", POINTS, "--no-define", "--names", "--routes", data=data)
+    expect("made names with --routes", (status, out[-len("".join(lines).encode()):], errors), (1, "".join(lines).encode(), "".join(told).encode()))
+    expect("the routes", sorted(re.findall(rb"DEFINE ROUTE ([^ ]*)", out)), sorted(name.encode() for name in made))
+    line = b"0 INSERT INTO crash ON SR1 AT 3.5 VALUES (1999)\n"
+    for header, words in (
+        (b"Route,MP (mi),Year", ["--at", "MP (mi)"]), (b"Route,MP (mi),Year", ["--at", "mp__mi_"]), (b"Road No.,at,101", ["--route", "Road_No_", "--column", "year=101"]), (b" route ,at,year", []),
+    ):
+        got = run("csv", POINTS, "--no-define", "--names", *words, data=header + b"\nSR1,3.5,1999\n")
+        expect(header.decode(), got, (0, line, b""))
+    told = b"roadseg: mp_1: column twice in the header once names are made: route, mp 1, mp-1, year\n"
+    expect("two columns", run("csv", POINTS, "--names", "--at", "mp_1", data=b"route,mp 1,mp-1,year\n"), (1, b"", told))
+
+
 def check_separators():
     """Other bytes between fields, the word for a tab, and the texts that say none."""
     data = b'route,at,note\nSR1,1,"a;b"\nSR1,2,d\n'
@@ -605,6 +656,7 @@ def main():
         check_words()
         check_names()
         check_scales()
+        check_made_names()
         check_separators()
         check_widest()
         check_loading()

@@ -23,7 +23,7 @@ LOOKED_AT = "How is a network looked at in a browser?"
 PAGED = "How does an office's CSV become a page to look at?"
 FROM_CSV = "How do two CSV files become a payment table and a diagram?"
 BY_SHELL = "How does a CSV become a table, and that a payment table, in the shell?"
-SCALED = "How are numbers with decimals kept?"
+BY_NAMES = "How do routes such as I-95, and numbers with decimals, go in?"
 AS_TEXT = "How is the inventory kept as plain text, and what changed between two days?"
 KEPT = "How does an office keep its inventory?"
 SENT_AGAIN = "Which lines of a load were refused, and how are they sent again?"
@@ -164,9 +164,9 @@ def csv_becomes_a_payment_table_in_the_shell(program):
     expect("scripts", run_section(program, COOKBOOK, BY_SHELL), 1)
 
 
-def numbers_with_decimals_are_kept_as_whole_ones(program):
+def names_are_made_and_numbers_scaled_in_the_shell(program):
     prepare(program)
-    expect("scripts", run_section(program, COOKBOOK, SCALED), 1)
+    expect("scripts", run_section(program, COOKBOOK, BY_NAMES), 1)
 
 
 def the_inventory_is_kept_as_plain_text(program):
@@ -217,7 +217,7 @@ def each_script_of_the_cookbook_is_run(_program):
     with open(COOKBOOK, encoding="utf-8") as file:
         headings = [line[3:].rstrip("\n") for line in file if line.startswith("## ")]
     with_scripts = [one for one in headings if any(block.language in ("python", "sh") for block in blocks_of(COOKBOOK, one))]
-    run = {ASKED, DRAWN, LOOKED_AT, PAGED, FROM_CSV, BY_SHELL, SCALED, AS_TEXT, KEPT, SENT_AGAIN, BACKED_UP, LONGER, REFUSED, NETWORKED}
+    run = {ASKED, DRAWN, LOOKED_AT, PAGED, FROM_CSV, BY_SHELL, BY_NAMES, AS_TEXT, KEPT, SENT_AGAIN, BACKED_UP, LONGER, REFUSED, NETWORKED}
     expect("sections with scripts", set(with_scripts), run)
 
 
@@ -232,6 +232,6 @@ DOCUMENT_TESTS = [
     csv_becomes_a_page_in_five_commands,
     two_csv_files_become_a_payment_table_and_a_diagram,
     csv_becomes_a_payment_table_in_the_shell,
-    numbers_with_decimals_are_kept_as_whole_ones,
+    names_are_made_and_numbers_scaled_in_the_shell,
     the_inventory_is_kept_as_plain_text,
 ]

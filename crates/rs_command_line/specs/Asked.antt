@@ -26,6 +26,7 @@ pub record CsvSaid : Type 0 where
   pub omits_definition : Bool
   pub defines_routes : Bool
   pub rounds : Bool
+  pub makes_names : Bool
 
 -- What is asked, with its texts and its number: a file is made, lines are answered over memory or over a file, CSV is made into
 -- lines, the lines that rebuild a file or a table of it are written, with its rows or without, a refusal is explained, or so many
@@ -86,6 +87,7 @@ asked_by_csv rows = Some (converts (record {
   omits_definition = flag_in (codes "no-define") rows;
   defines_routes = flag_in (codes "routes") rows;
   rounds = flag_in (codes "round") rows;
+  makes_names = flag_in (codes "names") rows;
 }))
 
 abbrev pub asked_by_dump : List Row → Option Said
@@ -129,6 +131,7 @@ csv_said words = record {
   omits_definition = words.omits_definition;
   defines_routes = words.defines_routes;
   rounds = words.rounds;
+  makes_names = words.makes_names;
 }
 
 -- what an answer says is asked

@@ -63,7 +63,7 @@ csv_command =
     let fields = with_rule (with_rule (with_rule (with_rule (with_rule (new_app (codes "csv")) define_argument) (text_option (codes "route"))) (text_option (codes "from")))
     (text_option (codes "to"))) (text_option (codes "at")) in
     let lines = with_rule (with_rule (with_rule (with_rule fields column_option) (text_option (codes "session"))) (flag (codes "no-define"))) (flag (codes "routes")) in
-    with_rule (with_rule (with_rule lines (flag (codes "round"))) (text_option (codes "separator"))) scale_option
+    with_rule (with_rule (with_rule (with_rule lines (flag (codes "round"))) (text_option (codes "separator"))) scale_option) (flag (codes "names"))
 
 abbrev pub dump_command : App
 dump_command = with_rule (with_rule (with_rule (new_app (codes "dump")) (file_option true)) (flag (codes "definitions"))) (text_option (codes "table"))

@@ -45,6 +45,8 @@ pub struct CsvWords<'a> {
     pub defines_routes: bool,
     /// Whether `--round` is given.
     pub rounds: bool,
+    /// Whether `--names` is given.
+    pub makes_names: bool,
 }
 
 /// What the words ask.
@@ -179,6 +181,7 @@ fn asked_of_csv<'a>(alloc: Global, given: &ArgMatches<'a>) -> Result<Asked<'a>, 
         omits_definition: has_flag(given, "no-define"),
         defines_routes: has_flag(given, "routes"),
         rounds: has_flag(given, "round"),
+        makes_names: has_flag(given, "names"),
     }))
 }
 
@@ -230,7 +233,7 @@ fn roadseg_command<'a>(alloc: Global) -> Result<Command<'a>, AllocError>
         .about(
             "Answers queries on routes and events by linear reference. A line is a session from 0 to 63 and a command, as: 0 DEFINE ROUTE SR12 FROM 0 TO 18.5, or: 0 SELECT WHERE(pavement, surface = 'gravel'). The page docs/LANGUAGE.md has them all",
         )
-        .version("0.4.0 (for rattle-kit-13f logic dac8208d650f15bf)")
+        .version("0.5.0 (for rattle-kit-13f logic dac8208d650f15bf)")
         .subcommand_required(true)
         .subcommand(create_command(alloc)?)?
         .subcommand(run_command(alloc)?)?
@@ -329,7 +332,12 @@ fn csv_command<'a>(alloc: Global) -> Result<Command<'a>, AllocError>
             "separator",
             "The byte between two fields, as ';', or the word tab [default: ,]",
         ))?
-        .arg(scale_option(alloc))
+        .arg(scale_option(alloc))?
+        .arg(flag(
+            alloc,
+            "names",
+            "Make names of routes, and of columns of the header, that are none: each byte that no name has becomes _, so that I-95 is I_95; R is put before what begins with no letter, and _ after a reserved word; past 32 bytes it is cut. Of two that would become one name the second is refused",
+        ))
 }
 
 fn dump_command<'a>(alloc: Global) -> Result<Command<'a>, AllocError>

@@ -1,5 +1,5 @@
 -- The fields of a header that have a name, and the columns of a plan.
-use Rattle.std.proofs.Common.{◌≡◌, ◌∙◌, ◌⊎◌, inl, inr, ℕ, zero, suc, ◌+◌, ◌<◌, ◌≤◌, List, [], ◌∷◌, ◌++◌, length, map, Option, Some, None, refl, sym, ap, subst, arith}
+use Rattle.std.proofs.Common.{◌≡◌, ◌∙◌, ◌⊎◌, inl, inr, ℕ, zero, suc, ◌+◌, ◌<◌, ◌≤◌, Bool, List, [], ◌∷◌, ◌++◌, length, map, Option, Some, None, refl, sym, ap, subst, arith}
 use Rattle.std.specs.Prelude.{is_some}
 use Rattle.std.proofs.lemmas.Bool.{false≢true}
 use Rattle.std.proofs.Common.{false, true, Bor, drop, get_or, take}
@@ -12,7 +12,6 @@ use Rattle.rs_syntax.specs.View.{column_tree}
 use Rattle.rs_csv_lines.specs.declared.plan.Column.{Column}
 use Rattle.rs_csv.specs.declared.filter.Wanted.{Wanted}
 use Rattle.rs_csv.specs.declared.names.Case.{Case}
-use Rattle.rs_csv.specs.declared.names.Case.TheVariants as cases
 use Rattle.rs_csv.specs.Header.{Has, HasNone, IsOnly, IsTwice, IsColumnOf, AreColumnsOf, IsTold, Renames, is_equals}
 
 -- what was found among the places before one
@@ -60,9 +59,8 @@ within (one ∷ fields) zero field is = omega arith
 within (one ∷ fields) (suc place) field is = let less : place < length fields = within fields place field is in omega arith
 
 -- a field that has a name is one of the header
-pub has_inside : (case : Case) (header : List (List ℕ)) (name : List ℕ) (end : ℕ) → length header ≤ end → (place : ℕ) → Has case header name place → place < end
-has_inside cases.Kept header name end all place has = let less : place < length header = within header place has.0 has.1 in omega arith
-has_inside cases.Ignored header name end all place has = let less : place < length header = within header place has.0 has.1 in omega arith
+pub has_inside : (makes_names : Bool) (case : Case) (header : List (List ℕ)) (name : List ℕ) (end : ℕ) → length header ≤ end → (place : ℕ) → Has makes_names case header name place → place < end
+has_inside makes_names case header name end all place has = let less : place < length header = within header place has.0 has.1 in omega arith
 
 -- ---- columns
 

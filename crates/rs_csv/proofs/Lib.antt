@@ -6,3 +6,4 @@ mod Batches
 mod Taking
 mod Steps
 mod OneCut
+mod KnownTexts

@@ -1,5 +1,5 @@
 -- What is made of records, by one more step.
-use Rattle.std.proofs.Common.{◌≡◌, ◌∙◌, ℕ, Bool, true, false, List, [], ◌∷◌, ◌++◌, Option, Some, None, refl, sym, ap, subst, inl, inr, append_assoc, append-nil}
+use Rattle.std.proofs.Common.{◌≡◌, ◌∙◌, ℕ, Bool, true, false, List, [], ◌∷◌, ◌++◌, Option, Some, None, refl, sym, ap, ap₂, subst, inl, inr, append_assoc, append-nil}
 use Rattle.std.specs.Prelude.{◌⊎◌, IfSome, OnOk, Result, Ok, Err}
 use Rattle.std.specs.Io.KnownBytes.{Keeps}
 use Rattle.std.proofs.KnownBytes.{Keeps-refl, Keeps-trans}
@@ -13,7 +13,8 @@ use Rattle.rs_csv.specs.declared.filter.Planned.{Planned}
 use Rattle.rs_csv.specs.declared.filter.Progress.{Progress}
 use Rattle.rs_csv.specs.declared.filter.Wanted.{Wanted}
 use Rattle.rs_csv.specs.declared.made.Made.{Made}
-use Rattle.rs_csv.specs.Output.{IsPlanOf, IsPlanned, AreLines, nothing, definition_line, route_line, insert_line, left_out, GoesOn, Makes, IsMade, IsMadeIn, IsOutput, IsQuiet}
+use Rattle.rs_csv.specs.Output.{IsPlanOf, IsPlanned, Known, known_of, AreLines, nothing, definition_line, route_line, insert_line, left_out, GoesOn, Makes, IsMade, IsMadeIn, IsOutput, IsQuiet}
+use Rattle.rs_csv.specs.Texts.{IsOneText, KeepsTexts, text_of_name}
 
 -- ---- the errors stream
 
@@ -49,86 +50,114 @@ now_told : (told now : Bool) → Stays told now → told ≡ true → now ≡ tr
 now_told told true stays is = refl
 now_told told false stays is = absurd (false≢true (sym (stays refl) ∙ is))
 
+-- ---- what is known
+
+-- what was known is known
+pub record Grows (known now : Known) : Type 0 where
+  pub told : Stays known.told now.told
+  pub texts : KeepsTexts known.texts now.texts
+
+pub grows_by : (old made : Made) → Stays old.has_told made.has_told → KeepsTexts (text_of_name old.texts) (text_of_name made.texts) → Grows (known_of old) (known_of made)
+grows_by old made told texts = record { told = told; texts = texts }
+
+-- as long as its texts stay
+pub grows_same : (old made : Made) → Stays old.has_told made.has_told → made.texts ≡ old.texts → Grows (known_of old) (known_of made)
+grows_same old made told same = record { told = told; texts = λ name text is. ap (λ texts. text_of_name texts name) same ∙ is }
+
+pub known_same : (old made : Made) → made.has_told ≡ old.has_told → made.texts ≡ old.texts → known_of made ≡ known_of old
+known_same old made told texts = ap₂ (λ t x. record { told = t; texts = text_of_name x }) told texts
+
+-- something was told
+abbrev pub known_told : Known → Known
+known_told known = record { told = true; texts = known.texts }
+
+grows_told : (known : Known) → Grows known (known_told known)
+grows_told known = record { told = stays_told known.told true refl; texts = λ name text is. is }
+
 -- ---- lines
 
 module _ (session : ℕ) (table : CommandTree) (plan : Plan) where
   joined : (before old line : List ℕ) → (before ++ old) ++ line ++ 10 ∷ [] ≡ before ++ (old ++ line ++ 10 ∷ [])
   joined before old line = ap (λ bs. bs ++ 10 ∷ []) (append_assoc before old line) ∙ append_assoc before (old ++ line) (10 ∷ [])
 
-  moved : (told : Bool) {records others : List (List (List ℕ))} {bytes more : List ℕ} → records ≡ others → bytes ≡ more → AreLines session table plan told records bytes → AreLines session table plan told others more
-  moved told {records} {others} {bytes} {more} same is lines = subst (λ rs. AreLines session table plan told rs more) same (subst (λ bs. AreLines session table plan told records bs) is lines)
+  moved : (known : Known) {records others : List (List (List ℕ))} {bytes more : List ℕ} → records ≡ others → bytes ≡ more → AreLines session table plan known records bytes → AreLines session table plan known others more
+  moved known {records} {others} {bytes} {more} same is lines = subst (λ rs. AreLines session table plan known rs more) same (subst (λ bs. AreLines session table plan known records bs) is lines)
 
-  pub lines_told : (told now : Bool) {records : List (List (List ℕ))} {bytes : List ℕ} → Stays told now → AreLines session table plan told records bytes → AreLines session table plan now records bytes
-  lines_told told now stays nothing = nothing
-  lines_told told now stays (definition_line line more asks) = definition_line line (lines_told told now stays more) asks
-  lines_told told now stays (route_line line name start finish more asks) = route_line line name start finish (lines_told told now stays more) asks
-  lines_told told now stays (insert_line fields line tree more inserts asks) = insert_line fields line tree (lines_told told now stays more) inserts asks
-  lines_told told now stays (left_out fields more is) = left_out fields (lines_told told now stays more) (now_told told now stays is)
+  one_text_still : (texts now : List ℕ → Option (List ℕ)) (fields : List (List ℕ)) (name : List ℕ) → KeepsTexts texts now → IsOneText plan texts fields name → IsOneText plan now fields name
+  one_text_still texts now fields name keeps one = λ makes. let is = one makes in (is.0, is.1, keeps name _ is.2)
+
+  pub lines_known : (known now : Known) {records : List (List (List ℕ))} {bytes : List ℕ} → Grows known now → AreLines session table plan known records bytes → AreLines session table plan now records bytes
+  lines_known known now grows nothing = nothing
+  lines_known known now grows (definition_line line more asks) = definition_line line (lines_known known now grows more) asks
+  lines_known known now grows (route_line line name start finish more asks) = route_line line name start finish (lines_known known now grows more) asks
+  lines_known known now grows (insert_line fields line tree more inserts one asks) =
+      insert_line fields line tree (lines_known known now grows more) inserts (one_text_still known.texts now.texts fields inserts.route grows.texts one) asks
+  lines_known known now grows (left_out fields more is) = left_out fields (lines_known known now grows more) (now_told known.told now.told grows.told is)
 
   -- lines, and more of them
-  pub lines_join : (told : Bool) (records : List (List (List ℕ))) (a : List ℕ) {others : List (List (List ℕ))} {b : List ℕ} → AreLines session table plan told records a → AreLines session table plan told others b
-      → AreLines session table plan told (records ++ others) (a ++ b)
-  lines_join told rows a first nothing = moved told (sym (append-nil rows)) (sym (append-nil a)) first
-  lines_join told rows a first (definition_line {records} {bytes} line more asks) = moved told refl (joined a bytes line) (definition_line line (lines_join told rows a first more) asks)
-  lines_join told rows a first (route_line {records} {bytes} line name start finish more asks) =
-      moved told refl (joined a bytes line) (route_line line name start finish (lines_join told rows a first more) asks)
-  lines_join told rows a first (insert_line {records} {bytes} fields line tree more inserts asks) =
-      moved told (append_assoc rows records (fields ∷ [])) (joined a bytes line) (insert_line fields line tree (lines_join told rows a first more) inserts asks)
-  lines_join told rows a first (left_out {records} {bytes} fields more is) = moved told (append_assoc rows records (fields ∷ [])) refl (left_out fields (lines_join told rows a first more) is)
+  pub lines_join : (known : Known) (records : List (List (List ℕ))) (a : List ℕ) {others : List (List (List ℕ))} {b : List ℕ} → AreLines session table plan known records a → AreLines session table plan known others b
+      → AreLines session table plan known (records ++ others) (a ++ b)
+  lines_join known rows a first nothing = moved known (sym (append-nil rows)) (sym (append-nil a)) first
+  lines_join known rows a first (definition_line {records} {bytes} line more asks) = moved known refl (joined a bytes line) (definition_line line (lines_join known rows a first more) asks)
+  lines_join known rows a first (route_line {records} {bytes} line name start finish more asks) =
+      moved known refl (joined a bytes line) (route_line line name start finish (lines_join known rows a first more) asks)
+  lines_join known rows a first (insert_line {records} {bytes} fields line tree more inserts one asks) =
+      moved known (append_assoc rows records (fields ∷ [])) (joined a bytes line) (insert_line fields line tree (lines_join known rows a first more) inserts one asks)
+  lines_join known rows a first (left_out {records} {bytes} fields more is) = moved known (append_assoc rows records (fields ∷ [])) refl (left_out fields (lines_join known rows a first more) is)
 
   -- ---- bytes that grow
 
-  pub same_goes : (told : Bool) (old new : List ℕ) → new ≡ old → GoesOn session table plan told [] old new
-  same_goes told old new is = record { bytes = []; grown = is ∙ sym (append-nil old); lines = nothing }
+  pub same_goes : (known : Known) (old new : List ℕ) → new ≡ old → GoesOn session table plan known [] old new
+  same_goes known old new is = record { bytes = []; grown = is ∙ sym (append-nil old); lines = nothing }
 
-  pub left_goes : (told : Bool) (old new : List ℕ) (fields : List (List ℕ)) → new ≡ old → told ≡ true → GoesOn session table plan told (fields ∷ []) old new
-  left_goes told old new fields is out = record { bytes = []; grown = is ∙ sym (append-nil old); lines = left_out fields nothing out }
+  pub left_goes : (known : Known) (old new : List ℕ) (fields : List (List ℕ)) → new ≡ old → known.told ≡ true → GoesOn session table plan known (fields ∷ []) old new
+  left_goes known old new fields is out = record { bytes = []; grown = is ∙ sym (append-nil old); lines = left_out fields nothing out }
 
-  pub insert_goes : (told : Bool) (old new line : List ℕ) (fields : List (List ℕ)) (tree : CommandTree) → new ≡ old ++ line ++ 10 ∷ [] → IsInsertOf plan fields tree → Asks line (command session tree)
-      → GoesOn session table plan told (fields ∷ []) old new
-  insert_goes told old new line fields tree is inserts asks = record { bytes = line ++ 10 ∷ []; grown = is ∙ append_assoc old line (10 ∷ []); lines = insert_line fields line tree nothing inserts asks }
+  pub insert_goes : (known : Known) (old new line : List ℕ) (fields : List (List ℕ)) (tree : CommandTree) → new ≡ old ++ line ++ 10 ∷ [] → (inserts : IsInsertOf plan fields tree) → IsOneText plan known.texts fields inserts.route
+      → Asks line (command session tree) → GoesOn session table plan known (fields ∷ []) old new
+  insert_goes known old new line fields tree is inserts one asks = record { bytes = line ++ 10 ∷ []; grown = is ∙ append_assoc old line (10 ∷ []); lines = insert_line fields line tree nothing inserts one asks }
 
-  pub definition_goes : (told : Bool) (old new line : List ℕ) → new ≡ old ++ line ++ 10 ∷ [] → Asks line (command session table) → GoesOn session table plan told [] old new
-  definition_goes told old new line is asks = record { bytes = line ++ 10 ∷ []; grown = is ∙ append_assoc old line (10 ∷ []); lines = definition_line line nothing asks }
+  pub definition_goes : (known : Known) (old new line : List ℕ) → new ≡ old ++ line ++ 10 ∷ [] → Asks line (command session table) → GoesOn session table plan known [] old new
+  definition_goes known old new line is asks = record { bytes = line ++ 10 ∷ []; grown = is ∙ append_assoc old line (10 ∷ []); lines = definition_line line nothing asks }
 
-  pub route_goes : (told : Bool) (old new : List ℕ)
-      → (new ≡ old) ⊎ ((line name : List ℕ) × (start finish : ℕ) × Asks line (command session (define_route name start finish)) × (new ≡ old ++ line ++ 10 ∷ [])) → GoesOn session table plan told [] old new
-  route_goes told old new (inl same) = same_goes told old new same
-  route_goes told old new (inr (line, name, start, finish, asks, is)) = record { bytes = line ++ 10 ∷ []; grown = is ∙ append_assoc old line (10 ∷ []); lines = route_line line name start finish nothing asks }
+  pub route_goes : (known : Known) (old new : List ℕ)
+      → (new ≡ old) ⊎ ((line name : List ℕ) × (start finish : ℕ) × Asks line (command session (define_route name start finish)) × (new ≡ old ++ line ++ 10 ∷ [])) → GoesOn session table plan known [] old new
+  route_goes known old new (inl same) = same_goes known old new same
+  route_goes known old new (inr (line, name, start, finish, asks, is)) = record { bytes = line ++ 10 ∷ []; grown = is ∙ append_assoc old line (10 ∷ []); lines = route_line line name start finish nothing asks }
 
-  pub lines_go : (told : Bool) (records more : List (List (List ℕ))) (old new : List ℕ) → GoesOn session table plan told more old new → AreLines session table plan told records old → AreLines session table plan told (records ++ more) new
-  lines_go told records more old new goes lines = moved told refl (sym goes.grown) (lines_join told records old lines goes.lines)
+  pub lines_go : (known : Known) (records more : List (List (List ℕ))) (old new : List ℕ) → GoesOn session table plan known more old new → AreLines session table plan known records old → AreLines session table plan known (records ++ more) new
+  lines_go known records more old new goes lines = moved known refl (sym goes.grown) (lines_join known records old lines goes.lines)
 
 -- ---- what was made
 
 module _ (wanted : Wanted) (table : CommandTree) where
-  pub made_told : (told now : Bool) (planned : Option Planned) (records : List (List (List ℕ))) (sent waiting : List ℕ) → Stays told now → IsMade wanted table told planned records sent waiting → IsMade wanted table now planned records sent waiting
-  made_told told now None records sent waiting stays made = made
-  made_told told now (Some planned) records sent waiting stays made = record {
+  pub made_known : (known now : Known) (planned : Option Planned) (records : List (List (List ℕ))) (sent waiting : List ℕ) → Grows known now → IsMade wanted table known planned records sent waiting → IsMade wanted table now planned records sent waiting
+  made_known known now None records sent waiting grows made = made
+  made_known known now (Some planned) records sent waiting grows made = record {
     plans = made.plans;
     first = made.first;
     second = made.second;
     whole = made.whole;
-    sent_lines = lines_told wanted.session table planned.plan told now stays made.sent_lines;
-    waiting_lines = lines_told wanted.session table planned.plan told now stays made.waiting_lines;
+    sent_lines = lines_known wanted.session table planned.plan known now grows made.sent_lines;
+    waiting_lines = lines_known wanted.session table planned.plan known now grows made.waiting_lines;
   }
 
   -- by a header, more is made of the records after it
-  pub made_more : (told now : Bool) (planned : Planned) (records more : List (List (List ℕ))) (sent old new : List ℕ) → Stays told now → GoesOn wanted.session table planned.plan now more old new
-      → IsMade wanted table told (Some planned) records sent old → IsMade wanted table now (Some planned) (records ++ more) sent new
-  made_more told now planned records more sent old new stays goes made = record {
+  pub made_more : (known now : Known) (planned : Planned) (records more : List (List (List ℕ))) (sent old new : List ℕ) → Grows known now → GoesOn wanted.session table planned.plan now more old new
+      → IsMade wanted table known (Some planned) records sent old → IsMade wanted table now (Some planned) (records ++ more) sent new
+  made_more known now planned records more sent old new grows goes made = record {
     plans = made.plans;
     first = made.first;
     second = made.second ++ more;
     whole = ap (λ rs. rs ++ more) made.whole ∙ ap (λ rs. fields_of planned.header ∷ rs) (append_assoc made.first made.second more);
-    sent_lines = lines_told wanted.session table planned.plan told now stays made.sent_lines;
-    waiting_lines = lines_go wanted.session table planned.plan now made.second more old new goes (lines_told wanted.session table planned.plan told now stays made.waiting_lines);
+    sent_lines = lines_known wanted.session table planned.plan known now grows made.sent_lines;
+    waiting_lines = lines_go wanted.session table planned.plan now made.second more old new goes (lines_known wanted.session table planned.plan known now grows made.waiting_lines);
   }
 
   -- the header, after nothing
-  pub made_header : (told now : Bool) (planned : Planned) (header : List (List ℕ)) (records : List (List (List ℕ))) (sent old new : List ℕ) → fields_of planned.header ≡ header → IsPlanOf wanted table header planned.plan
-      → GoesOn wanted.session table planned.plan now [] old new → IsMade wanted table told None records sent old → IsMade wanted table now (Some planned) (records ++ header ∷ []) sent new
-  made_header told now planned header records sent old new is plans goes made = record {
+  pub made_header : (known now : Known) (planned : Planned) (header : List (List ℕ)) (records : List (List (List ℕ))) (sent old new : List ℕ) → fields_of planned.header ≡ header → IsPlanOf wanted table header planned.plan
+      → GoesOn wanted.session table planned.plan now [] old new → IsMade wanted table known None records sent old → IsMade wanted table now (Some planned) (records ++ header ∷ []) sent new
+  made_header known now planned header records sent old new is plans goes made = record {
     plans = subst (λ h. IsPlanOf wanted table h planned.plan) (sym is) plans;
     first = [];
     second = [];
@@ -139,15 +168,15 @@ module _ (wanted : Wanted) (table : CommandTree) where
 
   -- a record by the plan
   pub record_makes : {T E : Type 0} (result : Result T E) (old : Progress) (planned : Planned) (made : Made) (fields : List (List ℕ)) (a b : Option (List ℕ)) → old.planned ≡ Some planned → IsPlanned wanted table old
-      → OnOk result ((table : CommandTree) → GoesOn planned.plan.session table planned.plan made.has_told (fields ∷ []) old.made.bytes.items made.bytes.items) → OnOk result (IsQuiet old.made.has_told made.has_told a b)
-      → OnOk result (Makes wanted table (fields ∷ []) old (record { planned = old.planned; made = made; held = old.held }))
-  record_makes (Ok _) old planned made fields a b is plans goes quiet = λ records sent before.
+      → OnOk result ((table : CommandTree) → GoesOn planned.plan.session table planned.plan (known_of made) (fields ∷ []) old.made.bytes.items made.bytes.items) → OnOk result (KeepsTexts (text_of_name old.made.texts) (text_of_name made.texts))
+      → OnOk result (IsQuiet old.made.has_told made.has_told a b) → OnOk result (Makes wanted table (fields ∷ []) old (record { planned = old.planned; made = made; held = old.held }))
+  record_makes (Ok _) old planned made fields a b is plans goes keeps quiet = λ records sent before.
       let by : IsPlanOf wanted table (fields_of planned.header) planned.plan = subst (λ p. IfSome p (λ planned. IsPlanOf wanted table (fields_of planned.header) planned.plan)) is plans in
-      subst (λ p. IsMade wanted table made.has_told p (records ++ fields ∷ []) sent made.bytes.items) (sym is)
-      (made_more old.made.has_told made.has_told planned records (fields ∷ []) sent old.made.bytes.items made.bytes.items (stays_quiet old.made.has_told made.has_told a b quiet)
-      (subst (λ s. GoesOn s table planned.plan made.has_told (fields ∷ []) old.made.bytes.items made.bytes.items) by.session_is (goes table))
-      (subst (λ p. IsMade wanted table old.made.has_told p records sent old.made.bytes.items) is before))
-  record_makes (Err _) old planned made fields a b is plans goes quiet = tt
+      subst (λ p. IsMade wanted table (known_of made) p (records ++ fields ∷ []) sent made.bytes.items) (sym is)
+      (made_more (known_of old.made) (known_of made) planned records (fields ∷ []) sent old.made.bytes.items made.bytes.items (grows_by old.made made (stays_quiet old.made.has_told made.has_told a b quiet) keeps)
+      (subst (λ s. GoesOn s table planned.plan (known_of made) (fields ∷ []) old.made.bytes.items made.bytes.items) by.session_is (goes table))
+      (subst (λ p. IsMade wanted table (known_of old.made) p records sent old.made.bytes.items) is before))
+  record_makes (Err _) old planned made fields a b is plans goes keeps quiet = tt
 
   -- no record
   pub makes_none : (progress : Progress) → Makes wanted table [] progress progress
@@ -159,25 +188,25 @@ module _ (wanted : Wanted) (table : CommandTree) where
       subst (λ rs. IsMadeIn wanted table three rs sent) (append_assoc records first second) (then_second (records ++ first) sent (then_first records sent made))
 
   -- what waited was sent
-  pub made_sent : (told : Bool) (planned : Option Planned) (records : List (List (List ℕ))) (sent waiting : List ℕ) → IsMade wanted table told planned records sent waiting → IsMade wanted table told planned records (sent ++ waiting) []
-  made_sent told None records sent waiting made = (made.0, ap (λ bs. bs ++ waiting) made.1 ∙ made.2, refl)
-  made_sent told (Some planned) records sent waiting made = record {
+  pub made_sent : (known : Known) (planned : Option Planned) (records : List (List (List ℕ))) (sent waiting : List ℕ) → IsMade wanted table known planned records sent waiting → IsMade wanted table known planned records (sent ++ waiting) []
+  made_sent known None records sent waiting made = (made.0, ap (λ bs. bs ++ waiting) made.1 ∙ made.2, refl)
+  made_sent known (Some planned) records sent waiting made = record {
     plans = made.plans;
     first = made.first ++ made.second;
     second = [];
     whole = made.whole ∙ ap (λ rs. fields_of planned.header ∷ rs) (sym (append-nil (made.first ++ made.second)));
-    sent_lines = lines_join wanted.session table planned.plan told made.first sent made.sent_lines made.waiting_lines;
+    sent_lines = lines_join wanted.session table planned.plan known made.first sent made.sent_lines made.waiting_lines;
     waiting_lines = nothing;
   }
 
   -- what was sent and what waits is what is written
-  pub output_told : (told : Bool) (planned : Option Planned) (records : List (List (List ℕ))) (sent waiting : List ℕ) → IsMade wanted table told planned records sent waiting → IsOutput wanted table told records (sent ++ waiting)
-  output_told told None records sent waiting made =
+  pub output_known : (known : Known) (planned : Option Planned) (records : List (List (List ℕ))) (sent waiting : List ℕ) → IsMade wanted table known planned records sent waiting → IsOutput wanted table known records (sent ++ waiting)
+  output_known known None records sent waiting made =
       let is : sent ++ waiting ≡ [] = ap (λ bs. bs ++ waiting) made.1 ∙ made.2 in
-      subst (λ rs. IsOutput wanted table told rs (sent ++ waiting)) (sym made.0) (λ plan. subst (AreLines wanted.session table plan told []) (sym is) nothing)
-  output_told told (Some planned) records sent waiting made =
-      subst (λ rs. IsOutput wanted table told rs (sent ++ waiting)) (sym made.whole)
-      (planned.plan, made.plans, lines_join wanted.session table planned.plan told made.first sent made.sent_lines made.waiting_lines)
+      subst (λ rs. IsOutput wanted table known rs (sent ++ waiting)) (sym made.0) (λ plan. subst (AreLines wanted.session table plan known []) (sym is) nothing)
+  output_known known (Some planned) records sent waiting made =
+      subst (λ rs. IsOutput wanted table known rs (sent ++ waiting)) (sym made.whole)
+      (planned.plan, made.plans, lines_join wanted.session table planned.plan known made.first sent made.sent_lines made.waiting_lines)
 
-  pub output_of : (told : Bool) (planned : Option Planned) (records : List (List (List ℕ))) (sent waiting : List ℕ) → IsMade wanted table told planned records sent waiting → IsOutput wanted table true records (sent ++ waiting)
-  output_of told planned records sent waiting made = output_told true planned records sent waiting (made_told told true planned records sent waiting (stays_told told true refl) made)
+  pub output_of : (known : Known) (planned : Option Planned) (records : List (List (List ℕ))) (sent waiting : List ℕ) → IsMade wanted table known planned records sent waiting → IsOutput wanted table (known_told known) records (sent ++ waiting)
+  output_of known planned records sent waiting made = output_known (known_told known) planned records sent waiting (made_known known (known_told known) planned records sent waiting (grows_told known) made)

@@ -125,12 +125,12 @@ module _ (wanted : Wanted) (table : CommandTree) (before : Option (List ℕ)) wh
       }
 
   pub far_left_out : {T E : Type 0} (result : Result T E) (old new : Batch) (progress progress_now : Progress) (input : List ℕ) (byte : ℕ) (after : Option (List ℕ)) → ((whole begun : List ℕ) → IsBatchOf wanted.separator old whole begun → Takes wanted.separator kinds.EndedLong new whole begun byte) → progress_now.planned ≡ progress.planned → progress_now.made.bytes.items ≡ progress.made.bytes.items
-      → progress_now.made.has_told ≡ true → progress_now.held ≡ progress.held → SoFar wanted table before old progress input after
+      → progress_now.made.has_told ≡ true → progress_now.made.texts ≡ progress.made.texts → progress_now.held ≡ progress.held → SoFar wanted table before old progress input after
       → MatchResult result (λ _. SoFar wanted table before new progress_now (input ++ byte ∷ []) after) (λ _. WroteSoFar wanted table (input ++ byte ∷ []) before after)
-  far_left_out (Ok _) old new progress progress_now input byte after takes planned bytes told held far =
+  far_left_out (Ok _) old new progress progress_now input byte after takes planned bytes told texts held far =
       let ends = ended_long_of wanted.separator new (concat (kept far.waiting)) far.rest byte (takes (concat (kept far.waiting)) far.rest far.in_batch) in
-      far_ended_long old new progress progress_now input byte after far ends.0 ends.1.0 ends.1.1 told (taken_told wanted table progress progress_now (kept far.past) before after planned bytes told held far.taken)
-  far_left_out (Err _) old new progress progress_now input byte after takes planned bytes told held far = far_stops old progress input (byte ∷ []) after far
+      far_ended_long old new progress progress_now input byte after far ends.0 ends.1.0 ends.1.1 told (taken_told wanted table progress progress_now (kept far.past) before after planned bytes told texts held far.taken)
+  far_left_out (Err _) old new progress progress_now input byte after takes planned bytes told texts held far = far_stops old progress input (byte ∷ []) after far
 
   -- the records of a batch are taken
   pub far_passes : {T E : Type 0} (result : Result T E) (old new : Batch) (progress progress_now : Progress) (input : List ℕ) (after later a b : Option (List ℕ)) (far : SoFar wanted table before old progress input after)
@@ -220,15 +220,15 @@ module _ (wanted : Wanted) (table : CommandTree) (before : Option (List ℕ)) wh
 
   -- something was told at the end
   pub far_told : (batch : Batch) (progress progress_now : Progress) (input : List ℕ) (after : Option (List ℕ)) → progress_now.planned ≡ progress.planned → progress_now.made.bytes.items ≡ progress.made.bytes.items
-      → progress_now.made.has_told ≡ true → progress_now.held ≡ progress.held → SoFar wanted table before batch progress input after → SoFar wanted table before batch progress_now input after
-  far_told batch progress progress_now input after planned bytes told held far = record {
+      → progress_now.made.has_told ≡ true → progress_now.made.texts ≡ progress.made.texts → progress_now.held ≡ progress.held → SoFar wanted table before batch progress input after → SoFar wanted table before batch progress_now input after
+  far_told batch progress progress_now input after planned bytes told texts held far = record {
     past = far.past;
     waiting = far.waiting;
     rest = far.rest;
     cut = far.cut;
     in_batch = far.in_batch;
     none_lacks = λ off. absurd (false≢true (sym off ∙ told));
-    taken = taken_told wanted table progress progress_now (kept far.past) before after planned bytes told held far.taken;
+    taken = taken_told wanted table progress progress_now (kept far.past) before after planned bytes told texts held far.taken;
   }
 
   pub end_front : (batch : Batch) (progress : Progress) (input : List ℕ) (after : Option (List ℕ)) → SoFar wanted table before batch progress input after → WroteAtEnd wanted table input before after

@@ -13,8 +13,8 @@ use Rattle.rs_csv.specs.declared.filter.Stop.{Stop}
 use Rattle.rs_csv.specs.declared.filter.Wanted.{Wanted}
 use Rattle.rs_csv.specs.Cutting.{text_of}
 use Rattle.rs_csv.specs.Reading.{AreTexts, ReadsAll, nothing_read, one_more_batch}
-use Rattle.rs_csv.specs.Output.{AreLines, AreTaken, IsHeld, IsMade, IsOutput, IsSent, Makes, SendsMore, TakesMore, WroteFront, WroteOf, held_texts, nothing}
-use Rattle.rs_csv.proofs.Outputs.{lines_join, made_sent, made_told, output_of, output_told, stays_told}
+use Rattle.rs_csv.specs.Output.{AreLines, AreTaken, IsHeld, IsMade, IsOutput, IsSent, Known, known_of, Makes, SendsMore, TakesMore, WroteFront, WroteOf, held_texts, nothing}
+use Rattle.rs_csv.proofs.Outputs.{grows_same, known_told, lines_join, made_known, made_sent, output_known, output_of, stays_told}
 
 -- ---- texts
 
@@ -44,6 +44,7 @@ module _ (wanted : Wanted) (table : CommandTree) where
     sent = [];
     lost = [];
     put = put;
+    texts = λ name. None;
     lines = λ plan. nothing;
   }
 
@@ -58,6 +59,7 @@ module _ (wanted : Wanted) (table : CommandTree) where
     sent = front.sent;
     lost = front.lost;
     put = front.put;
+    texts = front.texts;
     lines = front.lines;
   }
 
@@ -69,7 +71,7 @@ module _ (wanted : Wanted) (table : CommandTree) where
     read = nothing_read;
     sent = [];
     put = Appends-nil output;
-    made = subst (λ planned. IsMade wanted table progress.made.has_told planned [] [] progress.made.bytes.items) (sym none) (refl, refl, no_line);
+    made = subst (λ planned. IsMade wanted table (known_of progress.made) planned [] [] progress.made.bytes.items) (sym none) (refl, refl, no_line);
     none_waits = no_line;
   }
 
@@ -83,22 +85,23 @@ module _ (wanted : Wanted) (table : CommandTree) where
     sent = sent.sent;
     lost = progress.made.bytes.items;
     put = sent.put;
-    lines = output_of wanted table progress.made.has_told progress.planned sent.records sent.sent progress.made.bytes.items sent.made;
+    texts = (known_of progress.made).texts;
+    lines = output_of wanted table (known_of progress.made) progress.planned sent.records sent.sent progress.made.bytes.items sent.made;
   }
 
   -- the lines of a batch
   sent_batch : (old mid new : Progress) (raws batch : List (List ℕ)) (more : List (List (List ℕ))) (before after later : Option (List ℕ)) → ReadsAll wanted.separator (text_of wanted.separator batch) more → Makes wanted table more old mid → new.planned ≡ mid.planned
-      → new.made.has_told ≡ mid.made.has_told → new.made.bytes.items ≡ [] → Appends after later mid.made.bytes.items → IsSent wanted table before old raws after → IsSent wanted table before new (raws ++ batch) later
-  sent_batch old mid new raws batch more before after later reads makes planned told none puts sent = record {
+      → known_of new.made ≡ known_of mid.made → new.made.bytes.items ≡ [] → Appends after later mid.made.bytes.items → IsSent wanted table before old raws after → IsSent wanted table before new (raws ++ batch) later
+  sent_batch old mid new raws batch more before after later reads makes planned known none puts sent = record {
     records = sent.records ++ more;
     read = one_more_batch batch more sent.read reads;
     sent = sent.sent ++ mid.made.bytes.items;
     put = Appends-trans before after later sent.sent mid.made.bytes.items sent.put puts;
     made =
-        subst (λ p. IsMade wanted table new.made.has_told p (sent.records ++ more) (sent.sent ++ mid.made.bytes.items) new.made.bytes.items) (sym planned)
-        (subst (IsMade wanted table new.made.has_told mid.planned (sent.records ++ more) (sent.sent ++ mid.made.bytes.items)) (sym none)
-        (subst (λ t. IsMade wanted table t mid.planned (sent.records ++ more) (sent.sent ++ mid.made.bytes.items) []) (sym told)
-        (made_sent wanted table mid.made.has_told mid.planned (sent.records ++ more) sent.sent mid.made.bytes.items (makes sent.records sent.sent sent.made))));
+        subst (λ p. IsMade wanted table (known_of new.made) p (sent.records ++ more) (sent.sent ++ mid.made.bytes.items) new.made.bytes.items) (sym planned)
+        (subst (IsMade wanted table (known_of new.made) mid.planned (sent.records ++ more) (sent.sent ++ mid.made.bytes.items)) (sym none)
+        (subst (λ k. IsMade wanted table k mid.planned (sent.records ++ more) (sent.sent ++ mid.made.bytes.items) []) (sym known)
+        (made_sent wanted table (known_of mid.made) mid.planned (sent.records ++ more) sent.sent mid.made.bytes.items (makes sent.records sent.sent sent.made))));
     none_waits = none;
   }
 
@@ -113,17 +116,18 @@ module _ (wanted : Wanted) (table : CommandTree) where
     sent = sent.sent ++ puts.front;
     lost = lost;
     put = Appends-trans before after later sent.sent puts.front sent.put puts.put;
+    texts = (known_of mid.made).texts;
     lines =
-        subst (IsOutput wanted table true (sent.records ++ more)) (ap (λ bs. sent.sent ++ bs) puts.whole ∙ sym (append_assoc sent.sent puts.front lost))
-        (output_of wanted table mid.made.has_told mid.planned (sent.records ++ more) sent.sent mid.made.bytes.items (makes sent.records sent.sent sent.made));
+        subst (IsOutput wanted table (known_told (known_of mid.made)) (sent.records ++ more)) (ap (λ bs. sent.sent ++ bs) puts.whole ∙ sym (append_assoc sent.sent puts.front lost))
+        (output_of wanted table (known_of mid.made) mid.planned (sent.records ++ more) sent.sent mid.made.bytes.items (makes sent.records sent.sent sent.made));
   }
 
   pub sends : {T E : Type 0} (result : Result T E) (old mid new : Progress) (text : List ℕ) (batch : List (List ℕ)) (more : List (List (List ℕ))) (after later : Option (List ℕ)) → ReadsAll wanted.separator text more → text ≡ text_of wanted.separator batch
-      → Makes wanted table more old mid → new.planned ≡ mid.planned → new.made.has_told ≡ mid.made.has_told → OnOk result ((new.made.bytes.items ≡ []) × Appends after later mid.made.bytes.items)
+      → Makes wanted table more old mid → new.planned ≡ mid.planned → known_of new.made ≡ known_of mid.made → OnOk result ((new.made.bytes.items ≡ []) × Appends after later mid.made.bytes.items)
       → OnErr result ((lost : List ℕ) × PutsBut mid.made.bytes.items lost after later) → SendsMore wanted table result batch old new after later
-  sends (Ok _) old mid new text batch more after later reads is makes planned told ok err = λ before raws sent.
-      sent_batch old mid new raws batch more before after later (subst (λ t. ReadsAll wanted.separator t more) is reads) makes planned told ok.0 ok.1 sent
-  sends (Err _) old mid new text batch more after later reads is makes planned told ok err = λ before raws sent.
+  sends (Ok _) old mid new text batch more after later reads is makes planned known ok err = λ before raws sent.
+      sent_batch old mid new raws batch more before after later (subst (λ t. ReadsAll wanted.separator t more) is reads) makes planned known ok.0 ok.1 sent
+  sends (Err _) old mid new text batch more after later reads is makes planned known ok err = λ before raws sent.
       lost_batch old mid raws batch more err.0 before after later (subst (λ t. ReadsAll wanted.separator t more) is reads) makes err.1 sent
 
   -- ---- raw records that are taken
@@ -161,18 +165,19 @@ module _ (wanted : Wanted) (table : CommandTree) where
   takes_by_holding (Err _) old new text batch output flag grown is = λ before raws taken. front_more raws batch before output (held_front (held_texts old) raws before output (taken.held flag))
 
   -- something was told, and nothing made
-  pub taken_told : (old new : Progress) (raws : List (List ℕ)) (before after : Option (List ℕ)) → new.planned ≡ old.planned → new.made.bytes.items ≡ old.made.bytes.items → new.made.has_told ≡ true → new.held ≡ old.held
+  pub taken_told : (old new : Progress) (raws : List (List ℕ)) (before after : Option (List ℕ)) → new.planned ≡ old.planned → new.made.bytes.items ≡ old.made.bytes.items → new.made.has_told ≡ true → new.made.texts ≡ old.made.texts
+      → new.held ≡ old.held
       → AreTaken wanted table before old raws after → AreTaken wanted table before new raws after
-  taken_told old new raws before after planned bytes told held taken = record {
+  taken_told old new raws before after planned bytes told texts held taken = record {
     sent = λ flag. let sent = taken.sent flag in record {
       records = sent.records;
       read = sent.read;
       sent = sent.sent;
       put = sent.put;
       made =
-          subst (λ p. IsMade wanted table new.made.has_told p sent.records sent.sent new.made.bytes.items) (sym planned)
-          (subst (IsMade wanted table new.made.has_told old.planned sent.records sent.sent) (sym bytes)
-          (made_told wanted table old.made.has_told new.made.has_told old.planned sent.records sent.sent old.made.bytes.items (stays_told old.made.has_told new.made.has_told told) sent.made));
+          subst (λ p. IsMade wanted table (known_of new.made) p sent.records sent.sent new.made.bytes.items) (sym planned)
+          (subst (IsMade wanted table (known_of new.made) old.planned sent.records sent.sent) (sym bytes)
+          (made_known wanted table (known_of old.made) (known_of new.made) old.planned sent.records sent.sent old.made.bytes.items (grows_same old.made new.made (stays_told old.made.has_told new.made.has_told told) texts) sent.made));
       none_waits = bytes ∙ sent.none_waits;
     };
     held = λ flag. let was = taken.held flag in record { texts_are = subst (λ h. AreTexts wanted.separator (map (λ text. text.items) h.items) raws) (sym held) was.texts_are; put = was.put };
@@ -187,28 +192,30 @@ module _ (wanted : Wanted) (table : CommandTree) where
     read = sent.read;
     sent = sent.sent;
     put = sent.put;
+    texts = (known_of progress.made).texts;
     lines =
-        subst (IsOutput wanted table progress.made.has_told sent.records) (ap (λ bs. sent.sent ++ bs) sent.none_waits ∙ append-nil sent.sent)
-        (output_told wanted table progress.made.has_told progress.planned sent.records sent.sent progress.made.bytes.items sent.made);
+        subst (IsOutput wanted table (known_of progress.made) sent.records) (ap (λ bs. sent.sent ++ bs) sent.none_waits ∙ append-nil sent.sent)
+        (output_known wanted table (known_of progress.made) progress.planned sent.records sent.sent progress.made.bytes.items sent.made);
   }
 
   -- lines that define routes, and what is written after them
-  pub output_routed : (told : Bool) (records : List (List (List ℕ))) (routes bytes : List ℕ) → ((plan : Plan) → AreLines wanted.session table plan told [] routes) → IsOutput wanted table told records bytes
-      → IsOutput wanted table told records (routes ++ bytes)
-  output_routed told [] routes bytes front lines = λ plan. lines_join wanted.session table plan told [] routes (front plan) (lines plan)
-  output_routed told (header ∷ records) routes bytes front (plan, plans, lines) = (plan, plans, lines_join wanted.session table plan told [] routes (front plan) lines)
+  pub output_routed : (known : Known) (records : List (List (List ℕ))) (routes bytes : List ℕ) → ((plan : Plan) → AreLines wanted.session table plan known [] routes) → IsOutput wanted table known records bytes
+      → IsOutput wanted table known records (routes ++ bytes)
+  output_routed known [] routes bytes front lines = λ plan. lines_join wanted.session table plan known [] routes (front plan) (lines plan)
+  output_routed known (header ∷ records) routes bytes front (plan, plans, lines) = (plan, plans, lines_join wanted.session table plan known [] routes (front plan) lines)
 
-  pub all_routed : (told : Bool) (raws : List (List ℕ)) (routes : List ℕ) (before after later : Option (List ℕ)) → ((plan : Plan) → AreLines wanted.session table plan told [] routes) → Appends before after routes
+  pub all_routed : (told : Bool) (raws : List (List ℕ)) (routes : List ℕ) (before after later : Option (List ℕ)) → ((known : Known) (plan : Plan) → AreLines wanted.session table plan known [] routes) → Appends before after routes
       → WroteOf wanted table told raws after later → WroteOf wanted table told raws before later
   all_routed told raws routes before after later front put wrote = record {
     records = wrote.records;
     read = wrote.read;
     sent = routes ++ wrote.sent;
     put = Appends-trans before after later routes wrote.sent put wrote.put;
-    lines = output_routed told wrote.records routes wrote.sent front wrote.lines;
+    texts = wrote.texts;
+    lines = output_routed (record { told = told; texts = wrote.texts }) wrote.records routes wrote.sent (front (record { told = told; texts = wrote.texts })) wrote.lines;
   }
 
-  pub front_routed : (raws : List (List ℕ)) (routes : List ℕ) (before after later : Option (List ℕ)) → ((plan : Plan) → AreLines wanted.session table plan true [] routes) → Appends before after routes
+  pub front_routed : (raws : List (List ℕ)) (routes : List ℕ) (before after later : Option (List ℕ)) → ((known : Known) (plan : Plan) → AreLines wanted.session table plan known [] routes) → Appends before after routes
       → WroteFront wanted table raws after later → WroteFront wanted table raws before later
   front_routed raws routes before after later front put wrote = record {
     first = wrote.first;
@@ -219,13 +226,14 @@ module _ (wanted : Wanted) (table : CommandTree) where
     sent = routes ++ wrote.sent;
     lost = wrote.lost;
     put = Appends-trans before after later routes wrote.sent put wrote.put;
+    texts = wrote.texts;
     lines =
-        subst (IsOutput wanted table true wrote.records) (sym (append_assoc routes wrote.sent wrote.lost))
-        (output_routed true wrote.records routes (wrote.sent ++ wrote.lost) front wrote.lines);
+        subst (IsOutput wanted table (record { told = true; texts = wrote.texts }) wrote.records) (sym (append_assoc routes wrote.sent wrote.lost))
+        (output_routed (record { told = true; texts = wrote.texts }) wrote.records routes (wrote.sent ++ wrote.lost) (front (record { told = true; texts = wrote.texts })) wrote.lines);
   }
 
   -- a front of the lines that define routes
-  pub routes_lost : (raws : List (List ℕ)) (routes lost : List ℕ) (before after : Option (List ℕ)) → ((plan : Plan) → AreLines wanted.session table plan true [] routes) → PutsBut routes lost before after
+  pub routes_lost : (raws : List (List ℕ)) (routes lost : List ℕ) (before after : Option (List ℕ)) → ((known : Known) (plan : Plan) → AreLines wanted.session table plan known [] routes) → PutsBut routes lost before after
       → WroteFront wanted table raws before after
   routes_lost raws routes lost before after front puts = record {
     first = [];
@@ -236,15 +244,16 @@ module _ (wanted : Wanted) (table : CommandTree) where
     sent = puts.front;
     lost = lost;
     put = puts.put;
-    lines = λ plan. subst (AreLines wanted.session table plan true []) puts.whole (front plan);
+    texts = λ name. None;
+    lines = λ plan. subst (AreLines wanted.session table plan (record { told = true; texts = λ name. None }) []) puts.whole (front (record { told = true; texts = λ name. None }) plan);
   }
 
   -- what is written after the lines that define routes, where texts waited for these
-  pub ends_held : (result : Result Bool Stop) (raws : List (List ℕ)) (routes : List ℕ) (before output middle later : Option (List ℕ)) → ((told : Bool) (plan : Plan) → AreLines wanted.session table plan told [] routes)
+  pub ends_held : (result : Result Bool Stop) (raws : List (List ℕ)) (routes : List ℕ) (before output middle later : Option (List ℕ)) → ((known : Known) (plan : Plan) → AreLines wanted.session table plan known [] routes)
       → Appends before output [] → Appends output middle routes → MatchResult result (λ told. WroteOf wanted table told raws middle later) (λ _. WroteFront wanted table raws middle later)
       → MatchResult result (λ told. WroteOf wanted table told raws before later) (λ _. WroteFront wanted table raws before later)
-  ends_held (Ok told) raws routes before output middle later front put puts wrote = all_routed told raws routes before middle later (front told) (Appends-trans before output middle [] routes put puts) wrote
-  ends_held (Err _) raws routes before output middle later front put puts wrote = front_routed raws routes before middle later (front true) (Appends-trans before output middle [] routes put puts) wrote
+  ends_held (Ok told) raws routes before output middle later front put puts wrote = all_routed told raws routes before middle later front (Appends-trans before output middle [] routes put puts) wrote
+  ends_held (Err _) raws routes before output middle later front put puts wrote = front_routed raws routes before middle later front (Appends-trans before output middle [] routes put puts) wrote
 
   -- ---- texts in turn
 

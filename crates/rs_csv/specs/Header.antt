@@ -1,5 +1,5 @@
 -- Which fields of a record a plan takes: those that have the names that are wanted in the header.
-use Rattle.std.specs.Prelude.{◌≡◌, ◌⊎◌, ℕ, ◌<◌, ◌==◌, Bool, List, [], ◌∷◌, length, map, Some, codes}
+use Rattle.std.specs.Prelude.{◌≡◌, ◌⊎◌, ℕ, ◌<◌, ◌==◌, Bool, true, false, List, [], ◌∷◌, length, map, Some, codes}
 use Rattle.std.specs.List.{position_or_len, before_first, after_first}
 use Rattle.std.specs.Char.{to_ascii_lowercase}
 use Rattle.csv.specs.Records.{field_at}
@@ -11,6 +11,7 @@ use Rattle.rs_csv_lines.specs.declared.plan.Place.{Place}
 use Rattle.rs_csv_lines.specs.declared.plan.Scale.{Scale}
 use Rattle.rs_csv_lines.specs.declared.plan.Place.TheVariants as places
 use Rattle.rs_csv_lines.specs.Fields.{content}
+use Rattle.rs_csv_lines.specs.Names.{IsMadeName}
 use Rattle.rs_csv_lines.specs.Numbers.{scale_text}
 use Rattle.rs_csv.specs.declared.filter.Wanted.{Wanted}
 use Rattle.rs_csv.specs.declared.names.Case.{Case}
@@ -20,16 +21,22 @@ use Rattle.rs_csv.specs.declared.names.Found.TheVariants as found
 use Rattle.rs_csv.specs.declared.tell.Lack.{Lack}
 use Rattle.rs_csv.specs.declared.tell.Lack.TheVariants as lacks
 
--- the field of the header at a place is this name, in quotes or not
-abbrev pub HasName : List (List ℕ) → List ℕ → ℕ → Type 0
-HasName header name place = (field : List ℕ) × (field_at header place ≡ Some field) × (content field ≡ name)
-
--- the same, but for the case of letters of ASCII
+-- two texts are the same, with the case of their letters, or but for the case of letters of ASCII
 abbrev pub small : List ℕ → List ℕ
 small bytes = map to_ascii_lowercase bytes
 
-abbrev pub HasLetters : List (List ℕ) → List ℕ → ℕ → Type 0
-HasLetters header name place = (field : List ℕ) × (field_at header place ≡ Some field) × (small (content field) ≡ small name)
+abbrev pub AreSame : Case → List ℕ → List ℕ → Type 0
+AreSame cases.Kept text other = text ≡ other
+AreSame cases.Ignored text other = small text ≡ small other
+
+-- they are one name: they are the same, or where names are made those that they are made are
+abbrev pub AreOne : (makes_names : Bool) → Case → List ℕ → List ℕ → Type 0
+AreOne false case text other = AreSame case text other
+AreOne true case text other = (name : List ℕ) × (other_name : List ℕ) × IsMadeName text name × IsMadeName other other_name × AreSame case name other_name
+
+-- the field of the header at a place is this name, in quotes or not
+abbrev pub Has : (makes_names : Bool) → Case → List (List ℕ) → List ℕ → ℕ → Type 0
+Has makes_names case header name place = (field : List ℕ) × (field_at header place ≡ Some field) × AreOne makes_names case (content field) name
 
 -- The place has it, and no other does.
 pub record IsOnly (Has : ℕ → Type 0) (place : ℕ) : Type 0 where
@@ -49,15 +56,11 @@ abbrev pub HasNone : (ℕ → Type 0) → Type 0
 HasNone Has = (place : ℕ) → ¬ Has place
 
 -- It is the only field that has this name; or where none has it, the only one that has it but for the case of letters.
-abbrev pub IsNamed : List (List ℕ) → List ℕ → ℕ → Type 0
-IsNamed header name place = IsOnly (HasName header name) place ⊎ (HasNone (HasName header name) × IsOnly (HasLetters header name) place)
+abbrev pub IsNamed : (makes_names : Bool) → List (List ℕ) → List ℕ → ℕ → Type 0
+IsNamed makes_names header name place = IsOnly (Has makes_names cases.Kept header name) place
+    ⊎ (HasNone (Has makes_names cases.Kept header name) × IsOnly (Has makes_names cases.Ignored header name) place)
 
 -- ---- a look for one
-
--- the field at a place has this name, with the case of its letters or whatever that is
-abbrev pub Has : Case → List (List ℕ) → List ℕ → ℕ → Type 0
-Has cases.Kept = HasName
-Has cases.Ignored = HasLetters
 
 -- what is found: no place that has it, the only one, or two
 abbrev pub IsFound : (ℕ → Type 0) → Found → Type 0
@@ -66,13 +69,13 @@ IsFound Has (found.At place) = IsOnly Has place
 IsFound Has found.Twice = IsTwice Has
 
 -- why none is taken: no field has the name, in letters of whichever case; two have it; or none has it, and two but for the case of letters
-abbrev pub IsLack : List (List ℕ) → List ℕ → Lack → Type 0
-IsLack header name lacks.Nowhere = HasNone (HasLetters header name)
-IsLack header name lacks.Twice = IsTwice (HasName header name)
-IsLack header name lacks.TwiceButForCase = HasNone (HasName header name) × IsTwice (HasLetters header name)
+abbrev pub IsLack : (makes_names : Bool) → List (List ℕ) → List ℕ → Lack → Type 0
+IsLack makes_names header name lacks.Nowhere = HasNone (Has makes_names cases.Ignored header name)
+IsLack makes_names header name lacks.Twice = IsTwice (Has makes_names cases.Kept header name)
+IsLack makes_names header name lacks.TwiceButForCase = HasNone (Has makes_names cases.Kept header name) × IsTwice (Has makes_names cases.Ignored header name)
 
-abbrev pub IsUnnamed : List (List ℕ) → List ℕ → Type 0
-IsUnnamed header name = (lack : Lack) × IsLack header name lack
+abbrev pub IsUnnamed : (makes_names : Bool) → List (List ℕ) → List ℕ → Type 0
+IsUnnamed makes_names header name = (lack : Lack) × IsLack makes_names header name lack
 
 -- ---- the names
 
@@ -100,14 +103,14 @@ IsScaled words column scale = IsTold words column (codes "1") (scale_text scale)
 
 -- the fields that say where an event of this kind is
 abbrev pub IsPlaceNamed : Wanted → List (List ℕ) → Kind → Place → Type 0
-IsPlaceNamed wanted header kinds.Line (places.Along from to) = IsNamed header wanted.from.now from × IsNamed header wanted.to.now to
-IsPlaceNamed wanted header kinds.Point (places.At at) = IsNamed header wanted.at.now at
+IsPlaceNamed wanted header kinds.Line (places.Along from to) = IsNamed wanted.makes_names header wanted.from.now from × IsNamed wanted.makes_names header wanted.to.now to
+IsPlaceNamed wanted header kinds.Point (places.At at) = IsNamed wanted.makes_names header wanted.at.now at
 IsPlaceNamed wanted header _ _ = ⊥
 
 -- the column of a plan is of the type of this column of the table, takes the field that has the name that is wanted for it, and has its scale
 abbrev pub IsColumnOf : Wanted → List (List ℕ) → List ℕ × ColumnType → Column → Type 0
 IsColumnOf wanted header definition column =
-    (column.column_type ≡ definition.1) × ((name : List ℕ) × IsCalled (map (λ words. words.now) wanted.columns.now) definition.0 name × IsNamed header name column.field)
+    (column.column_type ≡ definition.1) × ((name : List ℕ) × IsCalled (map (λ words. words.now) wanted.columns.now) definition.0 name × IsNamed wanted.makes_names header name column.field)
     × IsScaled (map (λ words. words.now) wanted.scales.now) definition.0 column.scale
 
 -- the same of each, in their order

@@ -1,5 +1,6 @@
 pub mod Quoting
 pub mod Header
+pub mod Texts
 pub mod Cutting
 pub mod Reading
 pub mod Output

@@ -22,6 +22,8 @@ use Rattle.rs_csv.specs.declared.filter.Planned.{Planned}
 use Rattle.rs_csv.specs.declared.filter.Progress.{Progress}
 use Rattle.rs_csv.specs.declared.filter.Stop.{Stop}
 use Rattle.rs_csv.specs.declared.filter.Wanted.{Wanted}
+use Rattle.rs_csv.specs.declared.made.Made.{Made}
+use Rattle.rs_csv.specs.Texts.{IsOneText, text_of_name}
 
 -- the command that a definition is
 abbrev pub table_of : Definition → CommandTree
@@ -52,31 +54,38 @@ pub record IsPlanOf (wanted : Wanted) (table : CommandTree) (header : List (List
   pub definitions : List (List ℕ × ColumnType)
   pub table_is : table ≡ define_table kind plan.table.bytes definitions
   pub columns : AreColumnsOf wanted header definitions plan.columns.items
-  pub route : IsNamed header wanted.route.now plan.route
+  pub route : IsNamed wanted.makes_names header wanted.route.now plan.route
   pub place : IsPlaceNamed wanted header kind plan.place
   pub named : IsName plan.table.bytes
   pub some : 0 < length plan.columns.items
   pub session_is : plan.session ≡ wanted.session
   pub rounds_is : plan.rounds ≡ wanted.rounds
+  pub names_is : plan.makes_names ≡ wanted.makes_names
   pub in_range : wanted.session < 64
 
--- Lines of the session, each with its LF, over records in their order: each record has its INSERT, or is left out where something is
--- told. Among these are lines that define the table, or a route.
-pub data AreLines (session : ℕ) (table : CommandTree) (plan : Plan) (told : Bool) : List (List (List ℕ)) → List ℕ → Type 0 where
-  nothing : AreLines session table plan told [] []
-  definition_line : {records : List (List (List ℕ))} {bytes : List ℕ} (line : List ℕ) → AreLines session table plan told records bytes → Asks line (command session table)
-      → AreLines session table plan told records (bytes ++ line ++ 10 ∷ [])
-  route_line : {records : List (List (List ℕ))} {bytes : List ℕ} (line name : List ℕ) (start finish : ℕ) → AreLines session table plan told records bytes
-      → Asks line (command session (define_route name start finish)) → AreLines session table plan told records (bytes ++ line ++ 10 ∷ [])
-  insert_line : {records : List (List (List ℕ))} {bytes : List ℕ} (fields : List (List ℕ)) (line : List ℕ) (tree : CommandTree) → AreLines session table plan told records bytes
-      → IsInsertOf plan fields tree → Asks line (command session tree) → AreLines session table plan told (records ++ fields ∷ []) (bytes ++ line ++ 10 ∷ [])
-  left_out : {records : List (List (List ℕ))} {bytes : List ℕ} (fields : List (List ℕ)) → AreLines session table plan told records bytes → told ≡ true
-      → AreLines session table plan told (records ++ fields ∷ []) bytes
+-- What is known of records: whether something was told, and the text of which each name is made.
+pub record Known : Type 0 where
+  pub told : Bool
+  pub texts : List ℕ → Option (List ℕ)
+
+-- Lines of the session, each with its LF, over records in their order: each record has its INSERT, where names are made by a route whose
+-- name is made of one text alone, or is left out where something is told. Among these are lines that define the table, or a route.
+pub data AreLines (session : ℕ) (table : CommandTree) (plan : Plan) (known : Known) : List (List (List ℕ)) → List ℕ → Type 0 where
+  nothing : AreLines session table plan known [] []
+  definition_line : {records : List (List (List ℕ))} {bytes : List ℕ} (line : List ℕ) → AreLines session table plan known records bytes → Asks line (command session table)
+      → AreLines session table plan known records (bytes ++ line ++ 10 ∷ [])
+  route_line : {records : List (List (List ℕ))} {bytes : List ℕ} (line name : List ℕ) (start finish : ℕ) → AreLines session table plan known records bytes
+      → Asks line (command session (define_route name start finish)) → AreLines session table plan known records (bytes ++ line ++ 10 ∷ [])
+  insert_line : {records : List (List (List ℕ))} {bytes : List ℕ} (fields : List (List ℕ)) (line : List ℕ) (tree : CommandTree) → AreLines session table plan known records bytes
+      → (inserts : IsInsertOf plan fields tree) → IsOneText plan known.texts fields inserts.route → Asks line (command session tree)
+      → AreLines session table plan known (records ++ fields ∷ []) (bytes ++ line ++ 10 ∷ [])
+  left_out : {records : List (List (List ℕ))} {bytes : List ℕ} (fields : List (List ℕ)) → AreLines session table plan known records bytes → known.told ≡ true
+      → AreLines session table plan known (records ++ fields ∷ []) bytes
 
 -- What is written for these records: nothing but definitions where there is none, else by the header the lines of those after it.
-abbrev pub IsOutput : Wanted → CommandTree → Bool → List (List (List ℕ)) → List ℕ → Type 0
-IsOutput wanted table told [] bytes = (plan : Plan) → AreLines wanted.session table plan told [] bytes
-IsOutput wanted table told (header ∷ records) bytes = (plan : Plan) × IsPlanOf wanted table header plan × AreLines wanted.session table plan told records bytes
+abbrev pub IsOutput : Wanted → CommandTree → Known → List (List (List ℕ)) → List ℕ → Type 0
+IsOutput wanted table known [] bytes = (plan : Plan) → AreLines wanted.session table plan known [] bytes
+IsOutput wanted table known (header ∷ records) bytes = (plan : Plan) × IsPlanOf wanted table header plan × AreLines wanted.session table plan known records bytes
 
 -- as long as nothing is told, nothing was, and the errors stream is as it was
 abbrev pub IsQuiet : Bool → Bool → Option (List ℕ) → Option (List ℕ) → Type 0
@@ -84,11 +93,15 @@ IsQuiet told told_now before after = told_now ≡ false → (told ≡ false) × 
 
 -- ---- what was read and made so far
 
+-- what is known by what was made
+abbrev pub known_of : Made → Known
+known_of made = record { told = made.has_told; texts = text_of_name made.texts }
+
 -- Bytes that grew by the lines of records.
-pub record GoesOn (session : ℕ) (table : CommandTree) (plan : Plan) (told : Bool) (records : List (List (List ℕ))) (old new : List ℕ) : Type 0 where
+pub record GoesOn (session : ℕ) (table : CommandTree) (plan : Plan) (known : Known) (records : List (List (List ℕ))) (old new : List ℕ) : Type 0 where
   pub bytes : List ℕ
   pub grown : new ≡ old ++ bytes
-  pub lines : AreLines session table plan told records bytes
+  pub lines : AreLines session table plan known records bytes
 
 -- the plan is by the header that was read
 abbrev pub IsPlanned : Wanted → CommandTree → Progress → Type 0
@@ -100,22 +113,22 @@ pub record FilterParts : Type 0 where
   pub progress : Progress
 
 -- What was made of a header and the records after it: lines that were sent, and others that wait.
-pub record IsMadeBy (wanted : Wanted) (table : CommandTree) (told : Bool) (planned : Planned) (records : List (List (List ℕ))) (sent waiting : List ℕ) : Type 0 where
+pub record IsMadeBy (wanted : Wanted) (table : CommandTree) (known : Known) (planned : Planned) (records : List (List (List ℕ))) (sent waiting : List ℕ) : Type 0 where
   pub plans : IsPlanOf wanted table (fields_of planned.header) planned.plan
   pub first : List (List (List ℕ))
   pub second : List (List (List ℕ))
   pub whole : records ≡ fields_of planned.header ∷ (first ++ second)
-  pub sent_lines : AreLines wanted.session table planned.plan told first sent
-  pub waiting_lines : AreLines wanted.session table planned.plan told second waiting
+  pub sent_lines : AreLines wanted.session table planned.plan known first sent
+  pub waiting_lines : AreLines wanted.session table planned.plan known second waiting
 
 -- the same, where there may be no header yet
-abbrev pub IsMade : Wanted → CommandTree → Bool → Option Planned → List (List (List ℕ)) → List ℕ → List ℕ → Type 0
-IsMade wanted table told None records sent waiting = (records ≡ []) × (sent ≡ []) × (waiting ≡ [])
-IsMade wanted table told (Some planned) records sent waiting = IsMadeBy wanted table told planned records sent waiting
+abbrev pub IsMade : Wanted → CommandTree → Known → Option Planned → List (List (List ℕ)) → List ℕ → List ℕ → Type 0
+IsMade wanted table known None records sent waiting = (records ≡ []) × (sent ≡ []) × (waiting ≡ [])
+IsMade wanted table known (Some planned) records sent waiting = IsMadeBy wanted table known planned records sent waiting
 
 -- these records were sent so, and the others wait
 abbrev pub IsMadeIn : Wanted → CommandTree → Progress → List (List (List ℕ)) → List ℕ → Type 0
-IsMadeIn wanted table progress records sent = IsMade wanted table progress.made.has_told progress.planned records sent progress.made.bytes.items
+IsMadeIn wanted table progress records sent = IsMade wanted table (known_of progress.made) progress.planned records sent progress.made.bytes.items
 
 -- what is made of more records
 abbrev pub Makes : Wanted → CommandTree → List (List (List ℕ)) → Progress → Progress → Type 0
@@ -170,7 +183,8 @@ pub record WroteOf (wanted : Wanted) (table : CommandTree) (told : Bool) (raws :
   pub read : AreReadOf wanted.separator raws records
   pub sent : List ℕ
   pub put : Appends before after sent
-  pub lines : IsOutput wanted table told records sent
+  pub texts : List ℕ → Option (List ℕ)
+  pub lines : IsOutput wanted table (record { told = told; texts = texts }) records sent
 
 -- The output grew by a front of what is written for the records read of the first of these.
 pub record WroteFront (wanted : Wanted) (table : CommandTree) (raws : List (List ℕ)) (before after : Option (List ℕ)) : Type 0 where
@@ -182,7 +196,8 @@ pub record WroteFront (wanted : Wanted) (table : CommandTree) (raws : List (List
   pub sent : List ℕ
   pub lost : List ℕ
   pub put : Appends before after sent
-  pub lines : IsOutput wanted table true records (sent ++ lost)
+  pub texts : List ℕ → Option (List ℕ)
+  pub lines : IsOutput wanted table (record { told = true; texts = texts }) records (sent ++ lost)
 
 -- The input is cut, and the output grew by what is written for its records, but for those that are too long. Where nothing was told
 -- there is none of these.

@@ -1,6 +1,6 @@
 //! The filter: CSV is read in pieces, and the lines of its records are written.
 
-ghost use Rattle.std.specs.Prelude.{◌≡◌, ◌⊎◌, ◌<◌, [], ◌∷◌, ◌++◌, OnOk, OnErr, IfOk, ℕ, List, Bool, Option, None, Ok, false, true};
+ghost use Rattle.std.specs.Prelude.{◌≡◌, ◌⊎◌, ◌<◌, [], ◌∷◌, ◌++◌, OnOk, OnErr, IfOk, ℕ, List, Option, None, Ok, false, true};
 ghost use Rattle.std.specs.List.{concat};
 ghost use Rattle.std.specs.Io.KnownBytes.{Appends, Consumes, Keeps};
 ghost use Rattle.csv.specs.Records.{fields_of};
@@ -8,7 +8,7 @@ ghost use Rattle.rs_protocol.specs.Puts.{PutsBut};
 ghost use Rattle.rs_syntax.specs.Tree.{CommandTree};
 ghost use Rattle.rs_csv_lines.specs.declared.plan.Plan.{Plan};
 ghost use Rattle.rs_csv.specs.Cutting.{IsBatchOf, IsBetween, text_of};
-ghost use Rattle.rs_csv.specs.Output.{Ends, EndsTaken, GoesFar, GoesOn, IsAsked, IsPlanOf, IsQuiet, Makes, SendsMore, SoFar, TakesHead, TakesInput, TakesMore, TakesRest, held_texts, table_of};
+ghost use Rattle.rs_csv.specs.Output.{Ends, EndsTaken, GoesFar, GoesOn, IsAsked, IsPlanOf, IsQuiet, Known, Makes, SendsMore, SoFar, TakesHead, TakesInput, TakesMore, TakesRest, held_texts, table_of};
 ghost use Rattle.rs_csv.specs.Reading.{ReadsAll};
 
 use crate::batch::{Batch, Taken};
@@ -55,6 +55,8 @@ pub struct Wanted<'a> {
     pub defines_routes: bool,
     /// Whether measures are taken to the nearest thousandth, which is told.
     pub rounds: bool,
+    /// Whether names are made of routes, and of columns of the header, that are none.
+    pub makes_names: bool,
 }
 
 /// Why not all of the input was read.
@@ -178,7 +180,7 @@ impl<'a> Model for Filter<'a> {
 
 // Makes the line that defines the table, where it is wanted.
 fn put_definition(job: &Job<'_>, bytes: &mut Vec<u8>) -> Result<(), AllocError>
-    ensures { OnOk result ((plan : Plan) (told : Bool) → GoesOn job.now.wanted.session (table_of job.now.definition) plan told [] bytes.old.items bytes.new.items) }
+    ensures { OnOk result ((plan : Plan) (known : Known) → GoesOn job.now.wanted.session (table_of job.now.definition) plan known [] bytes.old.items bytes.new.items) }
 {
     if !job.wanted.defines_table {
         return Ok(());
@@ -195,7 +197,8 @@ fn take_header<E: Write>(
 ) -> Result<Planned, Stop>
     ensures header { IfOk result (λ planned. planned.header ≡ header) }
     ensures plan { IfOk result (λ planned. IsPlanOf job.now.wanted (table_of job.now.definition) (fields_of header) planned.plan) }
-    ensures made { OnOk result ((plan : Plan) (told : Bool) → GoesOn job.now.wanted.session (table_of job.now.definition) plan told [] made.old.bytes.items made.new.bytes.items) }
+    ensures made { OnOk result ((plan : Plan) (known : Known) → GoesOn job.now.wanted.session (table_of job.now.definition) plan known [] made.old.bytes.items made.new.bytes.items) }
+    ensures texts { made.new.texts ≡ made.old.texts }
     ensures quiet { OnOk result (IsQuiet made.old.has_told made.new.has_told (E.contents errors.old) (E.contents errors.new)) }
 {
     let plan = make_plan(job.alloc, &job.definition, &header, &job.wanted, errors)?;
@@ -208,6 +211,7 @@ fn write_made<W: Write>(made: &mut Made, output: &mut W) -> Result<(), Stop>
     ensures sent { OnOk result ((made.new.bytes.items ≡ []) × Appends (W.contents output.old) (W.contents output.new) made.old.bytes.items) }
     ensures fault { OnErr result ((lost : List ℕ) × PutsBut made.old.bytes.items lost (W.contents output.old) (W.contents output.new)) }
     ensures told { made.new.has_told ≡ made.old.has_told }
+    ensures texts { made.new.texts ≡ made.old.texts }
 {
     match put_parts(output, &[made.bytes.as_slice()]) {
         Ok(()) => {
@@ -223,6 +227,7 @@ fn leave_out_long<E: Write>(progress: &mut Progress, errors: &mut E) -> Result<(
     ensures plan { progress.new.planned ≡ progress.old.planned }
     ensures bytes { progress.new.made.bytes.items ≡ progress.old.made.bytes.items }
     ensures told { progress.new.made.has_told ≡ true }
+    ensures texts { progress.new.made.texts ≡ progress.old.made.texts }
     ensures held { progress.new.held ≡ progress.old.held }
 {
     if progress.planned.is_some() {

@@ -23,17 +23,17 @@ fn column_field<E: Write>(
     errors: &mut E,
 ) -> Result<usize, Stop>
     ensures named { IfOk result (λ place. (name : List ℕ) × IsCalled (map (λ words. words.now) wanted.now.columns.now) column.now name
-        × IsNamed (fields_of header.now) name place) }
+        × IsNamed wanted.now.makes_names (fields_of header.now) name place) }
     ensures quiet { OnOk result (Keeps (E.contents errors.old) (E.contents errors.new)) }
 {
     for renaming in wanted.columns {
         if let Some((name, other)) = renaming.split_once('=') {
             if name == column {
-                return field_named(header, other, errors);
+                return field_named(header, other, wanted.makes_names, errors);
             }
         }
     }
-    field_named(header, column, errors)
+    field_named(header, column, wanted.makes_names, errors)
 }
 
 // What the numbers of a column are multiplied by: 1, where the words do not say so.
@@ -65,12 +65,12 @@ fn place_fields<E: Write>(
 {
     match kind {
         Kind::Line => {
-            let from = field_named(header, wanted.from, errors)?;
-            let to = field_named(header, wanted.to, errors)?;
+            let from = field_named(header, wanted.from, wanted.makes_names, errors)?;
+            let to = field_named(header, wanted.to, wanted.makes_names, errors)?;
             Ok(Place::Along { from, to })
         }
         Kind::Point => {
-            let at = field_named(header, wanted.at, errors)?;
+            let at = field_named(header, wanted.at, wanted.makes_names, errors)?;
             Ok(Place::At { at })
         }
     }
@@ -89,7 +89,7 @@ pub fn make_plan<E: Write>(
     ensures plan { IfOk result (λ plan. IsPlanOf wanted.now (table_of definition.now) (fields_of header.now) plan) }
     ensures quiet { OnOk result (Keeps (E.contents errors.old) (E.contents errors.new)) }
 {
-    let route = field_named(header, wanted.route, errors)?;
+    let route = field_named(header, wanted.route, wanted.makes_names, errors)?;
     let place = place_fields(definition.kind, header, wanted, errors)?;
     let mut columns = Vec::new(alloc);
     for column in &definition.columns {
@@ -109,5 +109,6 @@ pub fn make_plan<E: Write>(
         route,
         place,
         rounds: wanted.rounds,
+        makes_names: wanted.makes_names,
     })
 }

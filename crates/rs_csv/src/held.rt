@@ -2,11 +2,11 @@
 //!
 //! What is told of a record was told when it was read first.
 
-ghost use Rattle.std.specs.Prelude.{◌≡◌, [], OnOk, IfOk, MatchResult, ℕ, List, Bool, Option, Ok, false, map};
+ghost use Rattle.std.specs.Prelude.{◌≡◌, [], OnOk, IfOk, MatchResult, ℕ, List, Option, Ok, false, map};
 ghost use Rattle.std.specs.Io.KnownBytes.{Keeps};
 ghost use Rattle.rs_syntax.specs.Tree.{CommandTree};
 ghost use Rattle.rs_csv_lines.specs.declared.plan.Plan.{Plan};
-ghost use Rattle.rs_csv.specs.Output.{AreLines, EndsTaken, GoesOn, IsQuiet, WroteFront, WroteOf, table_of};
+ghost use Rattle.rs_csv.specs.Output.{AreLines, EndsTaken, GoesOn, IsQuiet, Known, WroteFront, WroteOf, table_of};
 ghost use Rattle.rs_csv.specs.Reading.{AreTexts};
 
 use crate::filter::{Filter, Job, Progress, Stop};
@@ -25,7 +25,7 @@ fn put_route<E: Write>(
     made: &mut Made,
     errors: &mut E,
 ) -> Result<(), Stop>
-    ensures lines { OnOk result ((table : CommandTree) (plan : Plan) (told : Bool) → GoesOn job.now.wanted.session table plan told [] lines.old.items lines.new.items) }
+    ensures lines { OnOk result ((table : CommandTree) (plan : Plan) (known : Known) → GoesOn job.now.wanted.session table plan known [] lines.old.items lines.new.items) }
     ensures bytes { made.new.bytes.items ≡ made.old.bytes.items }
     ensures quiet { OnOk result (IsQuiet made.old.has_told made.new.has_told (E.contents errors.old) (E.contents errors.new)) }
 {
@@ -42,7 +42,7 @@ fn put_route<E: Write>(
 
 // The lines that define the routes.
 fn route_lines<E: Write>(job: &Job<'_>, made: &mut Made, errors: &mut E) -> Result<Vec<u8>, Stop>
-    ensures lines { IfOk result (λ lines. (table : CommandTree) (plan : Plan) (told : Bool) → AreLines job.now.wanted.session table plan told [] lines.items) }
+    ensures lines { IfOk result (λ lines. (table : CommandTree) (plan : Plan) (known : Known) → AreLines job.now.wanted.session table plan known [] lines.items) }
     ensures bytes { OnOk result (made.new.bytes.items ≡ made.old.bytes.items) }
     ensures quiet { OnOk result (IsQuiet made.old.has_told made.new.has_told (E.contents errors.old) (E.contents errors.new)) }
 {

@@ -16,5 +16,6 @@ pub mod names;
 pub mod quoting;
 pub mod routes;
 pub mod tell;
+pub mod texts;
 
 pub use filter::{Stop, Wanted, write_lines};

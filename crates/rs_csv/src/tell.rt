@@ -6,6 +6,7 @@ use csv::ByteRecord;
 use itoa::Buffer;
 use rs_csv_lines::fields::content;
 use rs_csv_lines::{Cause, Misfit};
+use rs_methods::Name;
 use rs_protocol::put_parts;
 use std::io::Write;
 
@@ -139,6 +140,24 @@ pub fn tell_misfit<E: Write>(
     }
 }
 
+/// Tells that a record was left out, since its route would have the name that is made of another text.
+pub fn tell_taken_name<E: Write>(
+    errors: &mut E,
+    number: u64,
+    text: &[u8],
+    first: &[u8],
+    name: &Name,
+) {
+    let mut digits = Buffer::new();
+    let record = digits.format(number).as_bytes();
+    let _ = put_parts(errors, &[b"roadseg: record ", record, b": "]);
+    let _ = put_parts(
+        errors,
+        &[beginning(text), b" would be ", name.as_str().as_bytes()],
+    );
+    let _ = put_parts(errors, &[b", as ", beginning(first), b" is\n"]);
+}
+
 /// Tells that a record was left out, since it is too long to be read.
 pub fn tell_long_record<E: Write>(errors: &mut E, number: u64) {
     let mut digits = Buffer::new();
@@ -175,14 +194,21 @@ fn show_names<E: Write>(errors: &mut E, header: &ByteRecord) {
 }
 
 /// Tells that the header has no column of this name, or two.
-pub fn tell_column<E: Write>(errors: &mut E, header: &ByteRecord, name: &str, lack: Lack) {
+pub fn tell_column<E: Write>(
+    errors: &mut E,
+    header: &ByteRecord,
+    name: &str,
+    makes_names: bool,
+    lack: Lack,
+) {
     let wrong: &[u8] = match lack {
         Lack::Nowhere => b": no such column in the header, which has: ",
+        Lack::Twice if makes_names => b": column twice in the header once names are made: ",
         Lack::Twice => b": column twice in the header\n",
         Lack::TwiceButForCase => b": column twice in the header but for the case of letters: ",
     };
     let _ = put_parts(errors, &[b"roadseg: ", name.as_bytes(), wrong]);
-    if lack == Lack::Twice {
+    if lack == Lack::Twice && !makes_names {
         return;
     }
     show_names(errors, header);

@@ -1,5 +1,5 @@
 -- The line that is put together is a session's, and says the INSERT of its record.
-use Rattle.std.proofs.Common.{◌≡◌, ◌∙◌, ℕ, ◌<◌, ◌≤◌, Bool, inl, inr, List, [], ◌∷◌, ◌++◌, length, Some, Ok, refl, sym, ap, subst, append_assoc, le-leb, arith}
+use Rattle.std.proofs.Common.{◌≡◌, ◌∙◌, ℕ, ◌<◌, ◌≤◌, Bool, true, false, inl, inr, List, [], ◌∷◌, ◌++◌, length, Some, Ok, refl, sym, ap, subst, append_assoc, le-leb, arith}
 use Rattle.std.specs.Prelude.{codes, IsUtf8}
 use Rattle.rs_grammar.specs.declared.kind.TokenKind.TheVariants as kinds
 use Rattle.rs_grammar.specs.declared.kind.TheConstants.{NAME_BYTES}
@@ -10,6 +10,7 @@ use Rattle.rs_methods.specs.PositionText.{IsWord}
 use Rattle.rs_value.specs.declared.column.ColumnType.{ColumnType}
 use Rattle.rs_value.specs.declared.column.ColumnType.TheVariants as types
 use Rattle.rs_value.specs.Row.{Datum, Row}
+use Rattle.rs_value.specs.Values.{is_text}
 use Rattle.rs_syntax.specs.Sound.{IsName}
 use Rattle.rs_syntax.specs.Tree.{EventLocationTree, along, at_point, CommandTree, insert}
 use Rattle.rs_syntax.specs.Verdict.{Reads}
@@ -21,9 +22,10 @@ use Rattle.rs_csv_lines.specs.declared.plan.Place.TheVariants as places
 use Rattle.rs_csv_lines.specs.declared.plan.Plan.{Plan}
 use Rattle.rs_csv_lines.specs.declared.plan.Scale.{Scale}
 use Rattle.rs_csv_lines.specs.Fields.{content, SaysName, TellsPosition, TellsNumber, TellsDatum}
+use Rattle.rs_csv_lines.specs.Names.{SaysRoute}
 use Rattle.rs_csv_lines.specs.Texts.{session_text, PutsPosition, PutsNumber, PutsDatum}
 use Rattle.rs_csv_lines.specs.Inserts.{TellsRoute, TellsPositionAt, TellsPlace, TellsRow, IsInsertOf, PutsPositionAt, PutsPlace, PutsFurther, PutsRow, insert_line}
-use Rattle.rs_csv_lines.proofs.Clean.{is_clean_text, line_clean, route_clean}
+use Rattle.rs_csv_lines.proofs.Clean.{IsClean, is_clean_text, line_clean, name_clean, route_clean}
 use Rattle.rs_csv_lines.proofs.Sessions.{session_begins, session_asks, no_return}
 use Rattle.rs_csv_lines.proofs.Lines.{line_reads}
 
@@ -43,6 +45,15 @@ kind_of_word (letter ∷ bytes) word is = rw (word.0, word.1, is) refl
 
 pub kind_of_name : (name : List ℕ) → IsName name → token_kind name ≡ Some kinds.Name
 kind_of_name name is = kind_of_word name is.word (name_word name is)
+
+-- so is that of a route, which has no control character
+route_kind : (makes_names : Bool) (text name : List ℕ) → SaysRoute makes_names text name → token_kind name ≡ Some kinds.Name
+route_kind false text name says = name_kind text name says
+route_kind true text name says = kind_of_name name says.is_name
+
+route_is_clean : (makes_names : Bool) (text name : List ℕ) → is_text text ≡ true → SaysRoute makes_names text name → IsClean name
+route_is_clean false text name plain says = route_clean text name plain says
+route_is_clean true text name plain says = name_clean name says.is_name.word
 
 -- what is put says what is told
 position_told : (rounds : Bool) (field : List ℕ) (position : PositionExpression) (bytes : List ℕ) → PutsPosition rounds field position bytes → TellsPosition rounds field position
@@ -85,9 +96,9 @@ module _ (fields : List (List ℕ)) where
   row_told [] row bytes puts = elim puts [ ]
   row_told (column ∷ columns) [] bytes puts = elim puts [ ]
 
--- the INSERT of a record, and the line that asks it
-abbrev pub AsksInsert : Plan → List (List ℕ) → List ℕ → Type 0
-AsksInsert plan fields line = (tree : CommandTree) × IsInsertOf plan fields tree × Asks line (command plan.session tree)
+-- the INSERT of a record, of this route, and the line that asks it
+abbrev pub AsksInsert : Plan → List (List ℕ) → List ℕ → List ℕ → Type 0
+AsksInsert plan fields route line = (tree : CommandTree) × (inserts : IsInsertOf plan fields tree) × (inserts.route ≡ route) × Asks line (command plan.session tree)
 
 ends_plain : (session : ℕ) (table route place_bytes values : List ℕ) → without_return (insert_line session table route place_bytes values) ≡ insert_line session table route place_bytes values
 ends_plain session table route place_bytes values =
@@ -103,19 +114,20 @@ ends_plain session table route place_bytes values =
 
 pub line_asks : (plan : Plan) (fields : List (List ℕ)) (line route place_bytes values : List ℕ) (location : EventLocationTree) (row : Row)
     → plan.session < 64 → IsName plan.table.bytes → IsUtf8 line → length line ≤ LINE_BYTES
-    → TellsRoute fields plan.route route → PutsPlace plan.rounds fields plan.place location place_bytes → PutsRow fields plan.columns.items row values
-    → line ≡ insert_line plan.session plan.table.bytes route place_bytes values → AsksInsert plan fields line
+    → TellsRoute plan.makes_names fields plan.route route → PutsPlace plan.rounds fields plan.place location place_bytes → PutsRow fields plan.columns.items row values
+    → line ≡ insert_line plan.session plan.table.bytes route place_bytes values → AsksInsert plan fields route line
 line_asks plan fields line route place_bytes values location row few named utf8 short puts_route puts_place puts_row is =
     let table = plan.table.bytes in
     let whole = insert_line plan.session table route place_bytes values in
     let tree = insert table route location row in
     let table_is : token_kind table ≡ Some kinds.Name = kind_of_name table named in
     let reads : Reads whole (length (session_text plan.session)) (Ok tree) =
-    line_reads plan.session table route place_bytes values plan.rounds fields plan.place location plan.columns.items row table_is (name_kind (content puts_route.0) route puts_route.3) puts_place puts_row in
+    line_reads plan.session table route place_bytes values plan.rounds fields plan.place location plan.columns.items row table_is (route_kind plan.makes_names (content puts_route.0) route puts_route.3) puts_place puts_row in
     let text = is_clean_text whole (subst IsUtf8 is utf8)
-    (line_clean plan.rounds fields plan.session table route place_bytes values plan.place location plan.columns.items row few named.word (route_clean (content puts_route.0) route puts_route.2 puts_route.3) puts_place puts_row) in (
+    (line_clean plan.rounds fields plan.session table route place_bytes values plan.place location plan.columns.items row few named.word (route_is_clean plan.makes_names (content puts_route.0) route puts_route.2 puts_route.3) puts_place puts_row) in (
       tree,
       record { route = route; place = location; row = row; route_told = puts_route; place_told = place_told plan.rounds fields plan.place location place_bytes puts_place; row_told = row_told fields plan.columns.items row values puts_row; is = refl },
+      refl,
       subst (λ l. Asks l (command plan.session tree)) (sym is)
           (session_asks whole plan.session (length (session_text plan.session)) tree (subst (λ l. length l ≤ LINE_BYTES) is short) text (ends_plain plan.session table route place_bytes values)
           (session_begins plan.session _ few) reads),

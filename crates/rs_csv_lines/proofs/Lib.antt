@@ -11,3 +11,4 @@ pub mod Clean
 pub mod Inserts
 mod Spelled
 mod Putting
+mod Named

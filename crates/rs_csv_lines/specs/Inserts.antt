@@ -9,7 +9,8 @@ use Rattle.rs_csv_lines.specs.declared.plan.Column.{Column}
 use Rattle.rs_csv_lines.specs.declared.plan.Place.{Place}
 use Rattle.rs_csv_lines.specs.declared.plan.Place.TheVariants as places
 use Rattle.rs_csv_lines.specs.declared.plan.Plan.{Plan}
-use Rattle.rs_csv_lines.specs.Fields.{content, SaysName, TellsPosition, TellsDatum}
+use Rattle.rs_csv_lines.specs.Fields.{content, TellsPosition, TellsDatum}
+use Rattle.rs_csv_lines.specs.Names.{SaysRoute}
 use Rattle.rs_csv_lines.specs.Texts.{session_text, PutsPosition, PutsDatum}
 
 -- the field of a record at a place is text, and says so
@@ -17,8 +18,8 @@ abbrev pub Field : List (List ℕ) → ℕ → (List ℕ → Type 0) → Type 0
 Field fields i IsSo = (field : List ℕ) × (field_at fields i ≡ Some field) × IsTrue (is_text (content field)) × IsSo field
 
 -- what the record says of its route, and of its place
-abbrev pub TellsRoute : List (List ℕ) → ℕ → List ℕ → Type 0
-TellsRoute fields i route = Field fields i (λ field. SaysName (content field) route)
+abbrev pub TellsRoute : Bool → List (List ℕ) → ℕ → List ℕ → Type 0
+TellsRoute makes_names fields i route = Field fields i (λ field. SaysRoute makes_names (content field) route)
 
 abbrev pub TellsPositionAt : Bool → List (List ℕ) → ℕ → PositionExpression → Type 0
 TellsPositionAt rounds fields i position = Field fields i (λ field. TellsPosition rounds (content field) position)
@@ -39,7 +40,7 @@ pub record IsInsertOf (plan : Plan) (fields : List (List ℕ)) (tree : CommandTr
   pub route : List ℕ
   pub place : EventLocationTree
   pub row : Row
-  pub route_told : TellsRoute fields plan.route route
+  pub route_told : TellsRoute plan.makes_names fields plan.route route
   pub place_told : TellsPlace plan.rounds fields plan.place place
   pub row_told : TellsRow fields plan.columns.items row
   pub is : tree ≡ insert plan.table.bytes route place row

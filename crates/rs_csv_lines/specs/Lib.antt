@@ -1,4 +1,5 @@
 pub mod Numbers
 pub mod Fields
+pub mod Names
 pub mod Texts
 pub mod Inserts

@@ -140,15 +140,15 @@ pub fn write_insert(
     requires session { plan.now.session < 64 }
     requires named { IsName plan.now.table.bytes }
     requires some { 0 < length plan.now.columns.items }
-    ensures { OnOk result ((tree : CommandTree) × IsInsertOf plan.now (fields_of csv_record.now) tree
-        × Asks (string_bytes line.new) (command plan.now.session tree)) }
+    ensures { IfOk result (λ event. (tree : CommandTree) × (inserts : IsInsertOf plan.now (fields_of csv_record.now) tree)
+        × (inserts.route ≡ event.route.bytes) × Asks (string_bytes line.new) (command plan.now.session tree)) }
 {
     line.clear();
     put_session(line, plan.session)?;
     line.push_str(" INSERT INTO ")?;
     line.push_str(plan.table.as_str())?;
     line.push_str(" ON ")?;
-    let route = put_route(alloc, csv_record, plan.route, line)?;
+    let route = put_route(alloc, csv_record, plan.route, plan.makes_names, line)?;
     let ends = put_place(alloc, csv_record, plan.place, plan.rounds, line)?;
     line.push_str(" VALUES (")?;
     put_row(alloc, csv_record, plan.columns.as_slice(), line)?;

@@ -5,11 +5,14 @@
 
 pub mod fields;
 pub mod insert;
+pub mod laws;
+pub mod names;
 pub mod numbers;
 pub mod plan;
 pub mod put;
 pub mod words;
 
 pub use insert::{Ends, Event, write_insert};
+pub use names::made_name;
 pub use plan::{Cause, Column, Misfit, Place, Plan, Scale};
 pub use words::write_words;

@@ -111,6 +111,8 @@ pub struct Plan {
     pub columns: Vec<Column>,
     /// Which field says the route, from 0.
     pub route: usize,
+    /// Whether a route that is no name is made one.
+    pub makes_names: bool,
     /// Which fields say the place.
     pub place: Place,
     /// Whether measures are taken to the nearest thousandth.

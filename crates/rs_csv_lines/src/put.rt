@@ -12,13 +12,15 @@ ghost use Rattle.rs_value.specs.Row.{Datum};
 ghost use Rattle.rs_value.specs.Row as rows;
 ghost use Rattle.rs_value.specs.Text.{datum_text};
 ghost use Rattle.rs_syntax.specs.Written.{position_lexemes, AreToldOf};
+ghost use Rattle.rs_csv_lines.specs.Names.{SaysRoute};
 ghost use Rattle.rs_csv_lines.specs.Numbers.{WritesMeasure, WritesWhole};
 ghost use Rattle.rs_csv_lines.specs.Texts.{session_text, position_text, signed_text, PutsNumber, PutsDatum};
 ghost use Rattle.rs_csv_lines.specs.Inserts.{Field, TellsRoute, PutsPositionAt};
 
 use crate::fields::{field_text, name_in, number_in, position_in};
+use crate::names::made_name;
 use crate::numbers::{written_measure, written_whole};
-use crate::plan::{Misfit, Scale};
+use crate::plan::{Cause, Misfit, Scale};
 use csv::ByteRecord;
 use itoa::Buffer;
 use rs_meaning::meaning::text;
@@ -88,18 +90,32 @@ fn put_signed(line: &mut String, is_negative: bool, digits: &str) -> Result<(), 
     line.push_str(digits)
 }
 
+// The name of the route that a text says.
+fn route_in(alloc: Global, text: &str, place: usize, makes_names: bool) -> Result<Name, Misfit>
+    ensures { IfOk result (λ name. SaysRoute makes_names text.now name.bytes) }
+{
+    if !makes_names {
+        return name_in(alloc, text, place);
+    }
+    match made_name(text.as_bytes()) {
+        Some(name) => Ok(name),
+        None => Err(Misfit::Field(place, Cause::NotName)),
+    }
+}
+
 /// Puts the route that a field names, and gives it.
 pub fn put_route(
     alloc: Global,
     csv_record: &ByteRecord,
     place: usize,
+    makes_names: bool,
     line: &mut String,
 ) -> Result<Name, Misfit>
-    ensures told { IfOk result (λ name. TellsRoute (fields_of csv_record.now) place name.bytes) }
+    ensures told { IfOk result (λ name. TellsRoute makes_names (fields_of csv_record.now) place name.bytes) }
     ensures put { IfOk result (λ name. string_bytes line.new ≡ string_bytes line.old ++ name.bytes) }
 {
     let field = field_text(csv_record, place)?;
-    let name = name_in(alloc, field.text, place)?;
+    let name = route_in(alloc, field.text, place, makes_names)?;
     line.push_str(name.as_str())?;
     Ok(name)
 }

@@ -71,6 +71,7 @@ fn wanted_by<'a>(words: &'a CsvWords<'a>) -> Result<Wanted<'a>, &'static [u8]>
         defines_table: !words.omits_definition,
         defines_routes: words.defines_routes,
         rounds: words.rounds,
+        makes_names: words.makes_names,
     })
 }
 

@@ -18,4 +18,5 @@ returns c =
     let nine = c.in_ok-arg-9.ensures.shape c.flag-2.ensures.local ∙ ap₂ with_rule eight c.flag-2.ensures.rule in
     let ten = c.in_ok-arg-10.ensures.shape c.flag-3.ensures.local ∙ ap₂ with_rule nine c.flag-3.ensures.rule in
     let eleven = c.in_ok-arg-11.ensures.shape c.text_option-6.ensures.local ∙ ap₂ with_rule ten c.text_option-6.ensures.rule in
-    IfOk-weaker c.arg-12.result _ _ (λ r adds. adds.shape c.scale_option.ensures.local ∙ ap₂ with_rule eleven c.scale_option.ensures.rule) c.arg-12.ensures
+    let twelve = c.in_ok-arg-12.ensures.shape c.scale_option.ensures.local ∙ ap₂ with_rule eleven c.scale_option.ensures.rule in
+    IfOk-weaker c.arg-13.result _ _ (λ r adds. adds.shape c.flag-4.ensures.local ∙ ap₂ with_rule twelve c.flag-4.ensures.rule) c.arg-13.ensures

@@ -26,6 +26,7 @@ returns-clause-plan g c =
       some = subst (λ n. 0 < n) (sym count) (omega (arith, c.requires.defines.sound.1));
       session_is = refl;
       rounds_is = refl;
+      names_is = refl;
       in_range = c.requires.in_range;
     }
 

@@ -1,6 +1,6 @@
 use Rattle.std.proofs.Common.{◌∙◌, ap, subst}
 use Rattle.csv.specs.Records.{fields_of}
-use Rattle.rs_csv.specs.Output.{IsMade, IsPlanOf, table_of}
+use Rattle.rs_csv.specs.Output.{IsMade, IsPlanOf, known_of, table_of}
 use Rattle.rs_csv.proofs.Outputs.{made_header, record_makes}
 use Rattle.rs_csv.proofs.filter.Filter.take_next.Goals as goal
 
@@ -9,7 +9,7 @@ returns-in-Some-clause-made g c =
     let filter = c.self.inside in
     rw (← c.self.view_is)
     (record_makes filter.job.now.wanted (table_of filter.job.now.definition) c.take_record.result filter.progress c.in-Some.planned c.take_record.new.made (fields_of c.args.csv_record.now) _ _ c.in-Some.is c.self.invariant
-    c.take_record.ensures.made c.take_record.ensures.quiet)
+    c.take_record.ensures.made c.take_record.ensures.texts c.take_record.ensures.quiet)
 
 pub returns-in_ok-planned-in-None-clause-made : goal.returns-in_ok-planned-in-None-clause-made
 returns-in_ok-planned-in-None-clause-made g c =
@@ -22,6 +22,6 @@ returns-in_ok-planned-in-None-clause-made g c =
     let copy = c.in_ok-header-in-None.ensures.cases in
     rw (← c.self.view_is)
     (λ records sent made.
-    made_header wanted table old.has_told now.has_told planned (fields_of c.args.csv_record.now) records sent old.bytes.items now.bytes.items
+    made_header wanted table (known_of old) (known_of now) planned (fields_of c.args.csv_record.now) records sent old.bytes.items now.bytes.items
     (ap fields_of (c.in_ok-planned-in-None.ensures.header ∙ copy)) (subst (λ r. IsPlanOf wanted table (fields_of r) planned.plan) copy c.in_ok-planned-in-None.ensures.plan)
-    (c.in_ok-planned-in-None.ensures.made planned.plan now.has_told) (subst (λ p. IsMade wanted table old.has_told p records sent old.bytes.items) c.in-None.is made))
+    (c.in_ok-planned-in-None.ensures.made planned.plan (known_of now)) (subst (λ p. IsMade wanted table (known_of old) p records sent old.bytes.items) c.in-None.is made))
