@@ -31,8 +31,8 @@ returns-in_err-insertion g c =
       leaves = leaves_at_once g.D.Disk c.args.self.now c.from_residual.result;
     }
 
-pub insert-new_facts-requires-clause-row : goal.insert-new_facts-requires-clause-row
-insert-new_facts-requires-clause-row g c =
+pub insert-requires-clause-row : goal.insert-requires-clause-row
+insert-requires-clause-row g c =
     let old : EngineState g.row.D.Denot = record { store = c.self.inside.live.store; oldest = c.self.inside.live.oldest; cursors = c.self.inside.cursors } in
     let insertion = c.in_ok-insertion.insertion in
     let event = c.in_ok-insertion.ensures.event in
@@ -48,8 +48,8 @@ insert-new_facts-requires-clause-row g c =
       placed = event.placed;
     })
 
-pub insert-new_facts-requires-clause-lies : goal.insert-new_facts-requires-clause-lies
-insert-new_facts-requires-clause-lies g c =
+pub insert-requires-clause-lies : goal.insert-requires-clause-lies
+insert-requires-clause-lies g c =
     let old : EngineState g.row.D.Denot = record { store = c.self.inside.live.store; oldest = c.self.inside.live.oldest; cursors = c.self.inside.cursors } in
     let insertion = c.in_ok-insertion.insertion in
     let event = c.in_ok-insertion.ensures.event in

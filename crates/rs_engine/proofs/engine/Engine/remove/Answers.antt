@@ -32,8 +32,8 @@ returns-in_err-removal g c =
       leaves = leaves_at_once g.D.Disk c.args.self.now c.from_residual.result;
     }
 
-pub remove-gone-requires-clause-table : goal.remove-gone-requires-clause-table
-remove-gone-requires-clause-table g c =
+pub remove-requires-clause-table : goal.remove-requires-clause-table
+remove-requires-clause-table g c =
     let old : EngineState g.row.D.Denot = record { store = c.self.inside.live.store; oldest = c.self.inside.live.oldest; cursors = c.self.inside.cursors } in
     let event = c.in_ok-removal.ensures.there in
     in_store old c.args.self.now c.self.view_is c.checks.result c.checks.ensures
