@@ -24,6 +24,7 @@ python3 tests/files_and_peers.py
 python3 tests/room.py
 python3 tests/clients.py
 python3 tests/csv_lines.py
+python3 tests/csv_answers.py
 python3 tests/dumps.py
 python3 tests/files.py
 python3 tests/refusals.py

@@ -24,6 +24,7 @@ PAGED = "How does an office's CSV become a page to look at?"
 FROM_CSV = "How do two CSV files become a payment table and a diagram?"
 BY_SHELL = "How does a CSV become a table, and that a payment table, in the shell?"
 BY_NAMES = "How do routes such as I-95, and numbers with decimals, go in?"
+ASKED_AS_CSV = "How does an answer become a CSV for a spreadsheet?"
 AS_TEXT = "How is the inventory kept as plain text, and what changed between two days?"
 KEPT = "How does an office keep its inventory?"
 SENT_AGAIN = "Which lines of a load were refused, and how are they sent again?"
@@ -169,6 +170,11 @@ def names_are_made_and_numbers_scaled_in_the_shell(program):
     expect("scripts", run_section(program, COOKBOOK, BY_NAMES), 1)
 
 
+def an_answer_becomes_a_csv(program):
+    prepare(program)
+    expect("scripts", run_section(program, COOKBOOK, ASKED_AS_CSV), 1)
+
+
 def the_inventory_is_kept_as_plain_text(program):
     prepare(program)
     expect("scripts", run_section(program, COOKBOOK, AS_TEXT), 5)
@@ -217,7 +223,7 @@ def each_script_of_the_cookbook_is_run(_program):
     with open(COOKBOOK, encoding="utf-8") as file:
         headings = [line[3:].rstrip("\n") for line in file if line.startswith("## ")]
     with_scripts = [one for one in headings if any(block.language in ("python", "sh") for block in blocks_of(COOKBOOK, one))]
-    run = {ASKED, DRAWN, LOOKED_AT, PAGED, FROM_CSV, BY_SHELL, BY_NAMES, AS_TEXT, KEPT, SENT_AGAIN, BACKED_UP, LONGER, REFUSED, NETWORKED}
+    run = {ASKED, DRAWN, LOOKED_AT, PAGED, FROM_CSV, BY_SHELL, BY_NAMES, ASKED_AS_CSV, AS_TEXT, KEPT, SENT_AGAIN, BACKED_UP, LONGER, REFUSED, NETWORKED}
     expect("sections with scripts", set(with_scripts), run)
 
 
@@ -233,5 +239,6 @@ DOCUMENT_TESTS = [
     two_csv_files_become_a_payment_table_and_a_diagram,
     csv_becomes_a_payment_table_in_the_shell,
     names_are_made_and_numbers_scaled_in_the_shell,
+    an_answer_becomes_a_csv,
     the_inventory_is_kept_as_plain_text,
 ]

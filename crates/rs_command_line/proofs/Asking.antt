@@ -12,15 +12,15 @@ use Rattle.clap.specs.Kinds.{value_kinds}
 use Rattle.clap.specs.Simple.{Shape, argument_words, built, built_leaf, entered, filled, help_rule, help_shape, inherited, marked_built, names_of, rows_at, version_rule, with_leaf_noted}
 use Rattle.clap.specs.Takes.{is_given}
 use Rattle.clap.specs.ValueTests.{accepts, is_unsigned_in}
-use Rattle.clap.specs.Walk.{Held, Row, Text, answers_to, finished, first_of, has_row, nothing_held, rows_after, settled, walk, walk_from, with_default}
+use Rattle.clap.specs.Walk.{Held, Row, Text, all_of, answers_to, finished, first_of, has_row, nothing_held, rows_after, settled, walk, walk_from, with_default}
 use Rattle.clap.specs.declared.error.kind.ErrorKind.TheVariants.{DisplayHelp, DisplayVersion, InvalidSubcommand, MissingRequiredArgument, MissingSubcommand, ValueValidation}
 use Rattle.clap.specs.declared.builder.value_parser.Reading.{Reading}
 use Rattle.clap.specs.declared.builder.value_parser.Reading.TheVariants.{WithoutMinus}
 use Rattle.clap.specs.declared.builder.value_parser.ValueParser.TheVariants.{Signed, Unsigned}
 use Rattle.clap.proofs.ValueTestLemmas.{Accepts-accepts, accepts-Accepts}
-use Rattle.rs_command_line.specs.CommandLine.{command_line, connections_option, create_command, csv_command, dump_command, explain_command, file_option, flag, listen_option, run_command, serve_command, text_option}
-use Rattle.rs_command_line.specs.Asked.{address_in, asked_by, asked_of, connections_in, creates, dumps, file_in, flag_in, serves}
-use Rattle.rs_command_line.proofs.Rows.{AllDefaults, AllSound, Full, IsSound, default_gives_row, default_keeps_row, defaults_full, flag_sound, found_row, given_row, neither, no_kind, option_sound, request_sound}
+use Rattle.rs_command_line.specs.CommandLine.{ask_command, command_line, connections_option, create_command, csv_command, dump_command, explain_command, file_option, flag, listen_option, question_argument, run_command, serve_command, text_option}
+use Rattle.rs_command_line.specs.Asked.{address_in, asked_by, asked_of, asks, connections_in, creates, dumps, file_in, flag_in, serves}
+use Rattle.rs_command_line.proofs.Rows.{AllDefaults, AllSound, Full, IsSound, append_sound, default_gives_row, default_keeps_row, defaults_full, flag_sound, found_row, given_row, neither, no_kind, option_sound, request_sound}
 use Rattle.rs_command_line.proofs.Walks.{settle_full, walk_good}
 
 -- a text that passed the range reads as a number in it
@@ -61,6 +61,9 @@ create_shape = built_leaf (inherited above create_command.top)
 
 abbrev run_shape : Shape
 run_shape = built_leaf (inherited above run_command.top)
+
+abbrev ask_shape : Shape
+ask_shape = built_leaf (inherited above ask_command.top)
 
 abbrev csv_shape : Shape
 csv_shape = built_leaf (inherited above csv_command.top)
@@ -113,6 +116,9 @@ listen_id how v e = absurd (true≢false (sym e))
 definitions_id : (how : Reading) (v : Text) → IsNumber (codes "definitions") how v
 definitions_id how v e = absurd (true≢false (sym e))
 
+question_id : (how : Reading) (v : Text) → IsNumber (codes "question") how v
+question_id how v e = absurd (true≢false (sym e))
+
 table_id : (how : Reading) (v : Text) → IsNumber (codes "table") how v
 table_id how v e = absurd (true≢false (sym e))
 
@@ -141,6 +147,9 @@ definitions_sound = flag_sound IsNumber (filled (flag (codes "definitions"))) (c
 table_sound : IsSound IsNumber (filled (text_option (codes "table")))
 table_sound = option_sound IsNumber (filled (text_option (codes "table"))) refl refl refl (λ v passed. table_id _ v)
 
+question_sound : IsSound IsNumber (record (filled question_argument) { index = Some 1 })
+question_sound = append_sound IsNumber (record (filled question_argument) { index = Some 1 }) refl refl refl (λ v. question_id _ v)
+
 connections_sound : IsSound IsNumber (filled connections_option)
 connections_sound = option_sound IsNumber (filled connections_option) refl refl refl (λ v passed same. (refl, number_kinds v (neither _ [] passed).0))
 
@@ -149,6 +158,9 @@ top_sound = (help_sound, (version_sound, tt))
 
 create_sound : AllSound IsNumber create_shape.rules
 create_sound = (file_sound true, (help_sound, tt))
+
+ask_sound : AllSound IsNumber ask_shape.rules
+ask_sound = (file_sound true, (question_sound, (help_sound, tt)))
 
 dump_sound : AllSound IsNumber dump_shape.rules
 dump_sound = (file_sound true, (definitions_sound, (table_sound, (help_sound, tt))))
@@ -161,6 +173,9 @@ no_value v vs e = cc
 
 create_defaults : AllDefaults IsNumber create_shape.rules
 create_defaults = ((λ v vs e. absurd (no_value v vs e)), ((λ v vs e. absurd (no_value v vs e)), tt))
+
+ask_defaults : AllDefaults IsNumber ask_shape.rules
+ask_defaults = ((λ v vs e. absurd (no_value v vs e)), ((λ v vs e. absurd (no_value v vs e)), ((λ v vs e. absurd (no_value v vs e)), tt)))
 
 dump_defaults : AllDefaults IsNumber dump_shape.rules
 dump_defaults = (
@@ -199,6 +214,13 @@ needs_file rows e = go (is_given (codes "file") rows) refl
     go true same = refl
     go false same = absurd (no_kind MissingRequiredArgument [] (rw same at e))
 
+ask_needs_file : (rows : List Row) → check_fault ask_shape rows false ≡ [] → is_given (codes "file") rows ≡ true
+ask_needs_file rows e = go (is_given (codes "file") rows) refl
+  where
+    go : (b : Bool) → is_given (codes "file") rows ≡ b → b ≡ true
+    go true same = refl
+    go false same = absurd (no_kind MissingRequiredArgument [] (rw same at e))
+
 dump_needs_file : (rows : List Row) → check_fault dump_shape rows false ≡ [] → is_given (codes "file") rows ≡ true
 dump_needs_file rows e = go (is_given (codes "file") rows) refl
   where
@@ -218,6 +240,13 @@ create_asks words e =
     let end = level_end create_shape words create_sound create_defaults e in
     let rows = rows_after create_shape.rules [] words in
     some_map creates (file_in rows) (first_text rows (codes "file") end.0 (given_row rows (codes "file") (needs_file rows end.1)))
+
+ask_asks : (words : List Text) → level_fault ask_shape [] nothing_held words false [] ≡ [] → IsSome (asked_by (rows_at ask_shape words))
+ask_asks words e =
+    let end = level_end ask_shape words ask_sound ask_defaults e in
+    let rows = rows_after ask_shape.rules [] words in
+    some_map (λ (file : Text). asks file (unwrap_or (all_of (codes "question") rows) [])) (file_in rows)
+    (first_text rows (codes "file") end.0 (given_row rows (codes "file") (ask_needs_file rows end.1)))
 
 dump_asks : (words : List Text) → level_fault dump_shape [] nothing_held words false [] ≡ [] → IsSome (asked_by (rows_at dump_shape words))
 dump_asks words e =
@@ -267,18 +296,19 @@ no_help_met name other same = go (bytes_eq (codes "help") name) refl same
     go false same e = true≢false (sym e)
 
 -- the command that was met, one of those that there are
-met : (words : List Text) (a b c d e f g : Bool) → (g ≡ true → ⊥)
-    → option_map_or (λ s. level_fault s [] nothing_held words false []) (cond a (Some create_shape) (cond b (Some run_shape) (cond c (Some csv_shape) (cond d (Some dump_shape) (cond e (Some explain_shape) (cond f (Some serve_shape) (cond g (Some help_leaf) None))))))) [] ≡ []
-    → is_some (option_map (λ s. rows_at s words) (cond a (Some create_shape) (cond b (Some run_shape) (cond c (Some csv_shape) (cond d (Some dump_shape) (cond e (Some explain_shape) (cond f (Some serve_shape) (cond g (Some help_leaf) None)))))))) ≡ true
-    → IsSome (option_and_then asked_by (option_map (λ s. rows_at s words) (cond a (Some create_shape) (cond b (Some run_shape) (cond c (Some csv_shape) (cond d (Some dump_shape) (cond e (Some explain_shape) (cond f (Some serve_shape) (cond g (Some help_leaf) None)))))))))
-met words true b c d e f g other fault has = create_asks words fault
-met words false true c d e f g other fault has = refl
-met words false false true d e f g other fault has = refl
-met words false false false true e f g other fault has = dump_asks words fault
-met words false false false false true f g other fault has = refl
-met words false false false false false true g other fault has = serve_asks words fault
-met words false false false false false false true other fault has = absurd (other refl)
-met words false false false false false false false other fault has = absurd (true≢false (sym has))
+met : (words : List Text) (a b k c d e f g : Bool) → (g ≡ true → ⊥)
+    → option_map_or (λ s. level_fault s [] nothing_held words false []) (cond a (Some create_shape) (cond b (Some run_shape) (cond k (Some ask_shape) (cond c (Some csv_shape) (cond d (Some dump_shape) (cond e (Some explain_shape) (cond f (Some serve_shape) (cond g (Some help_leaf) None)))))))) [] ≡ []
+    → is_some (option_map (λ s. rows_at s words) (cond a (Some create_shape) (cond b (Some run_shape) (cond k (Some ask_shape) (cond c (Some csv_shape) (cond d (Some dump_shape) (cond e (Some explain_shape) (cond f (Some serve_shape) (cond g (Some help_leaf) None))))))))) ≡ true
+    → IsSome (option_and_then asked_by (option_map (λ s. rows_at s words) (cond a (Some create_shape) (cond b (Some run_shape) (cond k (Some ask_shape) (cond c (Some csv_shape) (cond d (Some dump_shape) (cond e (Some explain_shape) (cond f (Some serve_shape) (cond g (Some help_leaf) None))))))))))
+met words true b k c d e f g other fault has = create_asks words fault
+met words false true k c d e f g other fault has = refl
+met words false false true c d e f g other fault has = ask_asks words fault
+met words false false false true d e f g other fault has = refl
+met words false false false false true e f g other fault has = dump_asks words fault
+met words false false false false false true f g other fault has = refl
+met words false false false false false false true g other fault has = serve_asks words fault
+met words false false false false false false false true other fault has = absurd (other refl)
+met words false false false false false false false false other fault has = absurd (true≢false (sym has))
 
 -- a command is demanded
 demanded : (rows : List Row) (has : Bool) → check_fault (built command_line).top rows has ≡ [] → has ≡ true
@@ -289,7 +319,7 @@ entered_asks : (stop : Option (Text × List Text)) → IfSome stop (λ p. bytes_
     → is_some (entered (built command_line) stop) ≡ true → IsSome (option_and_then asked_by (entered (built command_line) stop))
 entered_asks None other e has = absurd (true≢false (sym has))
 entered_asks (Some p) other e has =
-    met p.1 (answers_to p.0 (codes "create", [])) (answers_to p.0 (codes "run", [])) (answers_to p.0 (codes "csv", [])) (answers_to p.0 (codes "dump", [])) (answers_to p.0 (codes "explain", [])) (answers_to p.0 (codes "serve", [])) (answers_to p.0 (codes "help", []))
+    met p.1 (answers_to p.0 (codes "create", [])) (answers_to p.0 (codes "run", [])) (answers_to p.0 (codes "ask", [])) (answers_to p.0 (codes "csv", [])) (answers_to p.0 (codes "dump", [])) (answers_to p.0 (codes "explain", [])) (answers_to p.0 (codes "serve", [])) (answers_to p.0 (codes "help", []))
     (no_help_met p.0 other) e has
 
 pub words_ask : (words : List Text) → fault_of command_line words ≡ [] → IsSome (asked_of words)

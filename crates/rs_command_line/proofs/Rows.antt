@@ -10,7 +10,7 @@ use Rattle.clap.specs.Faults.{action_fault, repeat_fault, use_fault, values_faul
 use Rattle.clap.specs.Walk.{Row, Rule, Text, action_of, at_row, default_rows, has_row, more_values, most_values, reading_by, used, used_as, values_or_missing, with_default, with_values, without}
 use Rattle.clap.specs.Takes.{is_given}
 use Rattle.clap.specs.declared.builder.action.ArgAction.{ArgAction}
-use Rattle.clap.specs.declared.builder.action.ArgAction.TheVariants.{Set, SetTrue}
+use Rattle.clap.specs.declared.builder.action.ArgAction.TheVariants.{Append, Set, SetTrue}
 use Rattle.clap.specs.declared.error.kind.ErrorKind.{ErrorKind}
 use Rattle.clap.specs.declared.error.kind.ErrorKind.TheVariants.{InvalidValue, WrongNumberOfValues}
 use Rattle.clap.specs.declared.builder.value_parser.Reading.{Reading}
@@ -101,6 +101,16 @@ module _ (Q : Text → Reading → Text → Type 0) where
     where
       go : (v : Text) → action_fault Set again a (v ∷ []) rows ≡ [] → Full (used_as Set a.id (reading_by a) (v ∷ []) rows)
       go v passed = with_values-Full a.id (reading_by a) CommandLine v [] (without a.id rows) (takes v (neither (repeat_fault again a.id rows) (values_fault a (v ∷ [])) passed).1) (without-Full a.id rows all)
+
+  -- an option that may come again, each time with one value, which will do
+  pub append_sound : (a : Rule) → action_of a ≡ Append → (unwrap_or_range a.range).start_inclusive ≡ 1 → most_values a ≡ 1
+      → ((v : Text) → Q a.id (reading_by a) v) → IsSound a
+  append_sound a append least most good again values rows e all =
+      let steps = neither (range_kinds (unwrap_or_range a.range).start_inclusive (most_values a) (length values)) _ e in
+      let one = only_value values (subst (λ n. range_kinds 1 n (length values) ≡ []) most (subst (λ n. range_kinds n (most_values a) (length values) ≡ []) least steps.0)) in
+      subst (λ (xs : List Text). Full (used a xs rows)) (sym one.1)
+      (subst (λ (x : ArgAction). Full (used_as x a.id (reading_by a) (one.0 ∷ []) rows)) (sym append)
+      (with_values-Full a.id (reading_by a) CommandLine one.0 [] rows (good one.0) all))
 
   -- a flag, each value of which will do
   pub flag_sound : (a : Rule) (given : Text) → action_of a ≡ SetTrue → a.missing ≡ given ∷ [] → ((v : Text) → Q a.id (reading_by a) v) → IsSound a

@@ -28,14 +28,15 @@ pub record CsvSaid : Type 0 where
   pub rounds : Bool
   pub makes_names : Bool
 
--- What is asked, with its texts and its number: a file is made, lines are answered over memory or over a file, CSV is made into
--- lines, the lines that rebuild a file or a table of it are written, with its rows or without, a refusal is explained, or so many
+-- What is asked, with its texts and its number: a file is made, lines are answered over memory or over a file, questions are answered
+-- from a file as CSV, CSV is made into lines, the lines that rebuild a file or a table of it are written, with its rows or without, a refusal is explained, or so many
 -- connections on an address are served over a file.
 pub data Said : Type 0 where
   creates : Text → Said
   runs : Said
   runs_over : Text → Said
   watches : Option Text → (bails : Bool) → (reports : Bool) → Said
+  asks : (file : Text) → (questions : List Text) → Said
   converts : CsvSaid → Said
   dumps : (file : Text) → (table : Option Text) → (omits_rows : Bool) → Said
   explains : Option Text → Said
@@ -73,6 +74,9 @@ asked_by_run rows =
     Some (if flag_in (codes "bail") rows || flag_in (codes "report") rows then watches (file_in rows) (flag_in (codes "bail") rows) (flag_in (codes "report") rows)
     else option_map_or runs_over (file_in rows) runs)
 
+abbrev pub asked_by_ask : List Row → Option Said
+asked_by_ask rows = option_map (λ file. asks file (unwrap_or (all_of (codes "question") rows) [])) (file_in rows)
+
 abbrev pub asked_by_csv : List Row → Option Said
 asked_by_csv rows = Some (converts (record {
   define = first_of (codes "define") rows;
@@ -104,10 +108,11 @@ asked_by_serve rows = option_and_then (λ file. option_and_then (λ address.
 abbrev pub asked_by : Text × List Row → Option Said
 asked_by command = if bytes_eq command.0 (codes "create") then asked_by_create command.1
     else (if bytes_eq command.0 (codes "run") then asked_by_run command.1
+    else (if bytes_eq command.0 (codes "ask") then asked_by_ask command.1
     else (if bytes_eq command.0 (codes "csv") then asked_by_csv command.1
     else (if bytes_eq command.0 (codes "dump") then asked_by_dump command.1
     else (if bytes_eq command.0 (codes "explain") then asked_by_explain command.1
-    else (if bytes_eq command.0 (codes "serve") then asked_by_serve command.1 else None)))))
+    else (if bytes_eq command.0 (codes "serve") then asked_by_serve command.1 else None))))))
 
 -- what the words ask, the program's own name first: that of the command that they name
 abbrev pub asked_of : List Text → Option Said
@@ -140,6 +145,7 @@ said_by (asked.Create file) = creates file.now
 said_by asked.Run = runs
 said_by (asked.RunFile file) = runs_over file.now
 said_by (asked.RunWatched file bails reports) = watches (given_text file) bails reports
+said_by (asked.Ask file questions) = asks file.now (map (λ t. t.now) questions.items)
 said_by (asked.Csv words) = converts (csv_said words)
 said_by (asked.Dump file table omits_rows) = dumps file.now (given_text table) omits_rows
 said_by (asked.Explain refusal) = explains (given_text refusal)

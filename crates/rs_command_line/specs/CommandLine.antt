@@ -48,7 +48,10 @@ scale_option = texts_option (codes "scale")
 abbrev pub flag : Text → Rule
 flag id = record (new_rule id) { long = Some id; action = Some SetTrue }
 
--- what stands by itself: the DEFINE TABLE of `csv`, and the number of `explain`
+-- what stands by itself: the questions of `ask`, one at least, the DEFINE TABLE of `csv`, and the number of `explain`
+abbrev pub question_argument : Rule
+question_argument = record (new_rule (codes "question")) { value_names = 1; action = Some Append; required = true }
+
 abbrev pub define_argument : Rule
 define_argument = record (new_rule (codes "define")) { value_names = 1; required = true }
 
@@ -57,6 +60,9 @@ refusal_argument = record (new_rule (codes "refusal")) { value_names = 1 }
 
 abbrev pub run_command : App
 run_command = with_rule (with_rule (with_rule (new_app (codes "run")) (file_option false)) (flag (codes "bail"))) (flag (codes "report"))
+
+abbrev pub ask_command : App
+ask_command = with_rule (with_rule (new_app (codes "ask")) (file_option true)) question_argument
 
 abbrev pub csv_command : App
 csv_command =
@@ -81,5 +87,5 @@ abbrev pub command_line : App
 command_line =
     let top = on_top (λ top. record top { has_version = true; subcommand_required = true })
     (new_app (codes "roadseg")) in
-    with_subcommand (with_subcommand (with_subcommand (with_subcommand (with_subcommand (with_subcommand top create_command.top) run_command.top) csv_command.top)
-    dump_command.top) explain_command.top) serve_command.top
+    with_subcommand (with_subcommand (with_subcommand (with_subcommand (with_subcommand (with_subcommand (with_subcommand top create_command.top) run_command.top)
+    ask_command.top) csv_command.top) dump_command.top) explain_command.top) serve_command.top

@@ -1,4 +1,4 @@
-//! The words are read: `create`, `run`, `csv`, `dump`, `explain` and `serve`, each with its own arguments.
+//! The words are read: `create`, `run`, `ask`, `csv`, `dump`, `explain` and `serve`, each with its own arguments.
 //!
 //! `clap` writes the help and the messages, fills in the defaults, and checks the number of
 //! connections.
@@ -9,9 +9,9 @@ ghost use Rattle.clap.specs.Words.{subcommand_rows_of};
 ghost use Rattle.rs_command_line.specs.CommandLine.{command_line, file_option, listen_option};
 ghost use Rattle.rs_command_line.specs.CommandLine.{connections_option};
 ghost use Rattle.rs_command_line.specs.CommandLine.{create_command, run_command, serve_command};
-ghost use Rattle.rs_command_line.specs.CommandLine.{csv_command, dump_command, explain_command, text_option};
-ghost use Rattle.rs_command_line.specs.CommandLine.{column_option, scale_option, flag, define_argument, refusal_argument};
-ghost use Rattle.rs_command_line.specs.Asked.{asked_of, asked_by, asked_by_csv, asked_by_dump, asked_by_run, flag_in};
+ghost use Rattle.rs_command_line.specs.CommandLine.{ask_command, csv_command, dump_command, explain_command, text_option};
+ghost use Rattle.rs_command_line.specs.CommandLine.{column_option, scale_option, flag, define_argument, question_argument, refusal_argument};
+ghost use Rattle.rs_command_line.specs.Asked.{asked_of, asked_by, asked_by_ask, asked_by_csv, asked_by_dump, asked_by_run, flag_in};
 ghost use Rattle.rs_command_line.specs.Asked.{said_by, HasConnectionsInRange};
 
 use clap::{Arg, ArgAction, ArgMatches, Command, Error};
@@ -67,6 +67,11 @@ pub enum Asked<'a> {
         file: Option<&'a str>,
         bails: bool,
         reports: bool,
+    },
+    /// `ask --file F QUESTION ..`: questions are answered from a file as CSV.
+    Ask {
+        file: &'a str,
+        questions: Vec<&'a str>,
     },
     /// `csv ..`: the CSV of standard input is made into lines.
     Csv(CsvWords<'a>),
@@ -128,6 +133,7 @@ fn asked_of_command<'a>(
             file: text_of(given, "file"),
         }),
         "run" => Ok(asked_of_run(given)),
+        "ask" => asked_of_ask(alloc, given),
         "csv" => asked_of_csv(alloc, given),
         "dump" => Ok(asked_of_dump(given)),
         "explain" => Ok(Asked::Explain {
@@ -160,6 +166,18 @@ fn asked_of_run<'a>(given: &ArgMatches<'a>) -> Asked<'a>
         Some(file) => Asked::RunFile { file },
         None => Asked::Run,
     }
+}
+
+/// What `ask` asks.
+fn asked_of_ask<'a>(alloc: Global, given: &ArgMatches<'a>) -> Result<Asked<'a>, AllocError>
+    requires { IsSome (asked_by_ask (rows_of (found_of given.now))) }
+    ensures { IfOk result (λ asked. asked_by_ask (rows_of (found_of given.now)) ≡ Some (said_by asked)) }
+{
+    let questions = texts_of(alloc, given, "question")?;
+    Ok(Asked::Ask {
+        file: text_of(given, "file"),
+        questions,
+    })
 }
 
 /// What `csv` asks.
@@ -237,6 +255,7 @@ fn roadseg_command<'a>(alloc: Global) -> Result<Command<'a>, AllocError>
         .subcommand_required(true)
         .subcommand(create_command(alloc)?)?
         .subcommand(run_command(alloc)?)?
+        .subcommand(ask_command(alloc)?)?
         .subcommand(csv_command(alloc)?)?
         .subcommand(dump_command(alloc)?)?
         .subcommand(explain_command(alloc)?)?
@@ -276,6 +295,18 @@ fn run_command<'a>(alloc: Global) -> Result<Command<'a>, AllocError>
             "report",
             "Show each refused line, of each number the first ten, and count them at the end; with status 1 where there are any",
         ))
+}
+
+fn ask_command<'a>(alloc: Global) -> Result<Command<'a>, AllocError>
+    ensures { IfOk result (λ command. app_of command ≡ ask_command) }
+{
+    let file = file_option(alloc, "The file to read; nothing is written to it");
+    Command::new(alloc, "ask")
+        .about(
+            "Answers questions from a file as CSV with a header, as: roadseg ask --file roads.seg 'SELECT pavement' > pavement.csv. A question is a SELECT or a TOTAL, without its session",
+        )
+        .arg(file.required(true))?
+        .arg(question_argument(alloc))
 }
 
 fn csv_command<'a>(alloc: Global) -> Result<Command<'a>, AllocError>
@@ -436,6 +467,18 @@ fn flag<'a>(alloc: Global, id: &'a str, help: &'a str) -> Arg<'a>
         .long(id)
         .action(ArgAction::SetTrue)
         .help(help)
+}
+
+/// The questions of `ask`.
+fn question_argument<'a>(alloc: Global) -> Arg<'a>
+    ensures rule { rule_of result ≡ question_argument }
+    ensures local { result.global ≡ false }
+{
+    Arg::new(alloc, "question")
+        .value_name("QUESTION")
+        .action(ArgAction::Append)
+        .help("A SELECT or a TOTAL; of several each is answered in turn")
+        .required(true)
 }
 
 /// The DEFINE TABLE of `csv`.

@@ -105,6 +105,7 @@ quiet_as words (Ok (asked.RunWatched file bails false)) a b asks quiet = inl qui
 quiet_as words (Ok (asked.Create file)) a b asks quiet = inl quiet
 quiet_as words (Ok asked.Run) a b asks quiet = inl quiet
 quiet_as words (Ok (asked.RunFile file)) a b asks quiet = inl quiet
+quiet_as words (Ok (asked.Ask file questions)) a b asks quiet = inl quiet
 quiet_as words (Ok (asked.Csv said)) a b asks quiet = quiet_csv words said a b asks quiet said.rounds refl
 quiet_as words (Ok (asked.Dump file table omits_rows)) a b asks quiet = inl quiet
 quiet_as words (Ok (asked.Explain refusal)) a b asks quiet = inl quiet

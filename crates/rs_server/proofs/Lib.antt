@@ -8,3 +8,4 @@ mod Unopened
 mod Surviving
 mod Openings
 mod Peers
+mod Questions

@@ -1,5 +1,5 @@
 -- How the program ends.
-use Rattle.std.specs.Prelude.{◌≡◌, ◌≢◌, ◌⊎◌, ℕ, List, [], ◌∷◌, Option, Some, None, Result, Ok, Err, Bool, true, false}
+use Rattle.std.specs.Prelude.{◌≡◌, ◌≢◌, ◌⊎◌, ℕ, List, [], ◌∷◌, Option, Some, None, Result, Ok, Err, Bool, true, false, map}
 use Rattle.std.specs.Io.KnownBytes.{Consumes, Keeps}
 use Rattle.std.specs.Option.{option_map}
 use Rattle.clap.specs.Words.{IsAmong, Kinds}
@@ -9,7 +9,7 @@ use Rattle.clap.specs.declared.error.Error.{Error}
 use Rattle.clap.specs.Values.{kind_of}
 use Rattle.rs_command_line.specs.Asked.{CsvSaid, Said, converts, watches}
 use Rattle.rs_command_line.specs.declared.command_line.Asked.{Asked}
-use Rattle.rs_command_line.specs.declared.command_line.Asked.TheVariants.{Create, Csv, Dump, Explain, Run, RunFile, RunWatched, Serve}
+use Rattle.rs_command_line.specs.declared.command_line.Asked.TheVariants.{Ask, Create, Csv, Dump, Explain, Run, RunFile, RunWatched, Serve}
 use Rattle.rs_csv.specs.Output.{Ends, IsAsked}
 use Rattle.rs_csv.specs.declared.filter.Stop.{Stop}
 use Rattle.rs_csv.specs.declared.filter.Wanted.{Wanted}
@@ -22,7 +22,7 @@ use Rattle.rs_protocol.specs.declared.stream.Fault.TheVariants.{Write}
 use Rattle.rs_refusal.specs.declared.refusal.Refusal.{Refusal}
 use Rattle.rs_refusal.specs.declared.refusal.Refusal.TheVariants as refusals
 use Rattle.rs_server.specs.Disks.{ServesInput, failure_of}
-use Rattle.rs_server.specs.Opened.{CreatesNamed, DumpsNamed, ServesNamed, ServesNamedAt}
+use Rattle.rs_server.specs.Opened.{AsksNamed, CreatesNamed, DumpsNamed, ServesNamed, ServesNamedAt}
 use Rattle.rs_server.specs.Saying.{SaysFront, failure_line}
 use Rattle.rs_server.specs.declared.file_system.Opening.{Opening}
 use Rattle.rs_server.specs.declared.report.Failure.{Failure}
@@ -109,14 +109,17 @@ module _ {D : Type 0} (d : disk.Ghosts D) (Gives : Opening → List ℕ → Resu
   Does (Serve file address connections) failure unread unread_now before after =
       ServesNamedAt d Gives file.now address connections failure before after × Keeps unread unread_now
   Does (RunWatched file bails reports) failure unread unread_now before after = Unit {0}
+  Does (Ask file questions) failure unread unread_now before after = Keeps unread unread_now
   Does (Csv words) failure unread unread_now before after = (status : ℕ) × WritesLines status unread unread_now before after
   Does (Dump file table omits_rows) failure unread unread_now before after = Keeps unread unread_now
   Does (Explain refusal) failure unread unread_now before after = Keeps unread unread_now
 
   -- The program does what is asked, and its status and the errors stream say what failed. What is said on the errors stream by `run` with
-  -- options, `csv` and `explain` is not known, nor by `dump` of a file that was opened.
+  -- options, `csv` and `explain` is not known, nor by `dump` and `ask` of a file that was opened.
   abbrev pub EndsDoing : Asked → ℕ → Option (List ℕ) → Option (List ℕ) → Option (List ℕ) → Option (List ℕ) → Option (List ℕ) → Option (List ℕ) → Type 0
   EndsDoing (RunWatched file bails reports) status unread unread_now before after errors errors_now = EndsWatched (option_map (λ t. t.now) file) status
+  EndsDoing (Ask file questions) status unread unread_now before after errors errors_now =
+      AsksNamed d Gives file.now (map (λ question. question.now) questions.items) status before after errors errors_now × Keeps unread unread_now
   EndsDoing (Csv words) status unread unread_now before after errors errors_now = WritesLines status unread unread_now before after
   EndsDoing (Dump file table omits_rows) status unread unread_now before after errors errors_now =
       DumpsNamed d Gives file.now (option_map (λ t. t.now) table) omits_rows status before after errors errors_now × Keeps unread unread_now

@@ -7,3 +7,4 @@ pub mod Saying
 pub mod Dumping
 pub mod Opened
 pub mod Files
+pub mod Asking

@@ -4,6 +4,7 @@
 //! a file, `serve_one` the two halves of one connection. All of them can be called over memory.
 #![tactic(auto)]
 
+pub mod asking;
 pub mod connection;
 pub mod disks;
 pub mod dumping;
@@ -15,10 +16,12 @@ pub mod reasons;
 mod reopened;
 pub mod report;
 pub mod service;
+mod shown;
 pub mod tally;
 pub mod watch;
 pub mod words;
 
+pub use asking::ask_on;
 pub use connection::{CannotAccept, Connection, serve_connections, serve_one};
 pub use disks::{create_on, serve_disk, serve_disk_at};
 pub use dumping::dump_on;

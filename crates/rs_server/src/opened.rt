@@ -1,11 +1,12 @@
 //! A file as it was opened, over any disk in its place: the disk is closed, served or dumped, or the failure is told.
 
-ghost use Rattle.std.specs.Prelude.{◌≡◌};
+ghost use Rattle.std.specs.Prelude.{◌≡◌, map};
 ghost use Rattle.std.specs.Option.{option_map};
 ghost use Rattle.std.specs.Io.KnownBytes.{Keeps};
 ghost use Rattle.rs_server.specs.Disks.{told_of};
-ghost use Rattle.rs_server.specs.Opened.{CreatesOpened, DumpsOpened, ServesOpened, ServesOpenedAt};
+ghost use Rattle.rs_server.specs.Opened.{AsksOpened, CreatesOpened, DumpsOpened, ServesOpened, ServesOpenedAt};
 
+use crate::asking::ask_on;
 use crate::disks::{create_on, serve_disk, serve_disk_at};
 use crate::dumping::dump_on;
 use crate::report::{Failure, SUCCESS, report_failure};
@@ -79,6 +80,24 @@ pub(crate) fn dump_opened<D: Disk + Drop, W: Write, E: Write>(
 {
     match opened {
         Ok(disk) => dump_on(alloc, disk, wanted, output, errors),
+        Err(failure) => report_failure(errors, &failure),
+    }
+}
+
+/// Answers questions from a disk that was opened for reading, as `ask_on` does, and gives the exit status.
+pub(crate) fn ask_opened<D: Disk + Drop, W: Write, E: Write>(
+    alloc: Global,
+    opened: Result<D, Failure<'_>>,
+    questions: &[&str],
+    output: &mut W,
+    errors: &mut E,
+) -> u8
+    ensures asks { AsksOpened D.Disk (map (λ question. question.now) questions.now) opened.entry result
+        (W.contents output.old) (W.contents output.new) (E.contents errors.old) (E.contents errors.new) }
+    ensures quiet { result ≡ SUCCESS → Keeps (E.contents errors.old) (E.contents errors.new) }
+{
+    match opened {
+        Ok(disk) => ask_on(alloc, disk, questions, output, errors),
         Err(failure) => report_failure(errors, &failure),
     }
 }

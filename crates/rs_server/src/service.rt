@@ -10,11 +10,12 @@ ghost use Rattle.rs_command_line.specs.Asked.{asked_of, said_by};
 ghost use Rattle.rs_command_line.specs.CommandLine.{command_line};
 ghost use Rattle.rs_command_line.specs.declared.command_line.Asked.{Asked};
 ghost use Rattle.rs_server.specs.Ending.{EndsAs, EndsBy, EndsDoing, EndsWatched, EndsWith, IsQuiet, IsQuietAs, Runs, RunsOver, RunsWatched, SaysMore};
-ghost use Rattle.rs_server.specs.Opened.{CreatesNamed, DumpsNamed, ServesNamed, ServesNamedAt};
+ghost use Rattle.rs_server.specs.Opened.{AsksNamed, CreatesNamed, DumpsNamed, ServesNamed, ServesNamedAt};
 
+use crate::asking::refuse_question;
 use crate::disks::failure_after;
 use crate::file_system::{FileSystem, Opening};
-use crate::opened::{create_opened, dump_opened, serve_opened, serve_opened_at};
+use crate::opened::{ask_opened, create_opened, dump_opened, serve_opened, serve_opened_at};
 use crate::report::{FAILED, Failure, MISUSE, SUCCESS, report_failure};
 use crate::tally::Tally;
 use crate::watch::{Line, LineByLine, Watched};
@@ -22,6 +23,7 @@ use crate::words::{convert, explain_refusal};
 use clap::Error;
 use clap::error::ErrorKind;
 use rs_command_line::{Asked, read_words};
+use rs_csv_answers::first_other;
 use rs_disk::{Disk, MemoryDisk};
 use rs_dump::Wanted;
 use rs_engine::Engine;
@@ -126,6 +128,9 @@ fn do_it<
             bails,
             reports,
         } => run_watched(rt, file, (bails, reports), input, output, errors),
+        Asked::Ask { file, questions } => {
+            ask_file(rt, file, questions.as_slice(), output, errors)
+        }
         Asked::Csv(words) => convert(rt.alloc(), &words, input, output, errors),
         Asked::Dump {
             file,
@@ -298,6 +303,31 @@ fn dump_file<P: AllocGlobal + FileSystem<Held = D>, D: Disk + Drop, W: Write, E:
     )
 }
 
+/// Answers questions from a file as CSV, and gives the exit status. Where one is no question the words are refused, and the file is not
+/// opened; else it is opened for reading alone, beside other readers.
+fn ask_file<P: AllocGlobal + FileSystem<Held = D>, D: Disk + Drop, W: Write, E: Write>(
+    rt: &P,
+    file: &str,
+    questions: &[&str],
+    output: &mut W,
+    errors: &mut E,
+) -> u8
+    ensures asks { AsksNamed D.Disk (P.gives rt.now) file.now (map (λ question. question.now) questions.now) result
+        (W.contents output.old) (W.contents output.new) (E.contents errors.old) (E.contents errors.new) }
+    ensures quiet { result ≡ SUCCESS → Keeps (E.contents errors.old) (E.contents errors.new) }
+{
+    match first_other(questions) {
+        Some(text) => refuse_question(errors, text),
+        None => ask_opened(
+            rt.alloc(),
+            rt.open_file(file, Opening::Reading),
+            questions,
+            output,
+            errors,
+        ),
+    }
+}
+
 /// Serves so many connections over a file, one after another, and closes it.
 fn serve_file<
     'a,
@@ -337,12 +367,13 @@ fn refuse_words<S: AsStr, E: Write>(error: &Error, words: &[S], errors: &mut E) 
     MISUSE
 }
 
-/// Whether a word has a point or a slash, as a file's name may, and none begins with `--file`. `csv` and `explain` take no file.
+/// Whether a word has a point or a slash, as a file's name may, and none begins with `--file`. `csv` and `explain` take no file, and a
+/// question of `ask` may have a point.
 fn lacks_file_option<S: AsStr>(words: &[S]) -> bool {
     let mut has_path = false;
     for word in words.iter().skip(1) {
         let text = word.as_str();
-        if text == "csv" || text == "explain" || text.starts_with("--file") {
+        if text == "ask" || text == "csv" || text == "explain" || text.starts_with("--file") {
             return false;
         }
         has_path = has_path || text.contains('.') || text.contains('/');

@@ -13,6 +13,15 @@ returns-in-run c =
     let rows = rows_of (found_of c.args.given.now) in
     subst (λ (name : Text). asked_by (name, rows) ≡ Some (said_by c.asked_of_run.result)) (sym c.in-run.is) c.asked_of_run.ensures
 
+pub asked_of_ask-requires : goal.asked_of_ask-requires
+asked_of_ask-requires c =
+    subst (λ (name : Text). IsSome (asked_by (name, rows_of (found_of c.args.given.now)))) c.in-ask.is c.requires
+
+pub returns-in-ask : goal.returns-in-ask
+returns-in-ask c =
+    let rows = rows_of (found_of c.args.given.now) in
+    IfOk-weaker c.asked_of_ask.result _ _ (λ a h. subst (λ (name : Text). asked_by (name, rows) ≡ Some (said_by a)) (sym c.in-ask.is) h) c.asked_of_ask.ensures
+
 pub returns-in-csv : goal.returns-in-csv
 returns-in-csv c =
     let rows = rows_of (found_of c.args.given.now) in

@@ -1,0 +1,5 @@
+pub mod Marks
+mod Cutting
+mod Cells
+mod Joining
+mod Turns

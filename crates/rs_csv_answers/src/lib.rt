@@ -1,0 +1,16 @@
+//! Answers as CSV: the rows of a reply as records, after a header.
+//!
+//! What a record has is a function of the row's text.
+#![tactic(auto)]
+
+pub mod asking;
+mod heads;
+pub mod laws;
+pub mod questions;
+pub mod records;
+pub mod words;
+
+pub use asking::{Shape, Shapes, answer_as_csv};
+pub use questions::answer_questions;
+pub use records::push_record;
+pub use words::first_other;

@@ -1,0 +1,116 @@
+//! Questions asked of an engine one after another, and their answers put into a writer.
+//!
+//! It promises that each question is answered by the machine that the one before left. Of one that is refused nothing is put; that is told.
+
+ghost use Rattle.std.specs.Prelude.{◌≡◌, ◌&&◌, IfOk, Ok, map, string_bytes, true};
+ghost use Rattle.std.specs.Io.KnownBytes.{Keeps};
+ghost use Rattle.rs_csv_answers.specs.Questions.{AnswersQuestion, AnswersQuestions, IsAnswered, line_of, text_result};
+ghost use Rattle.rs_machine.specs.Served.{Machine};
+
+use crate::asking::{Shapes, answer_as_csv};
+use itoa::Buffer;
+use rs_protocol::{Fault, put_parts};
+use rs_refusal::Refusal;
+use std::alloc::{AllocError, Global};
+use std::io::Write;
+
+/// Answers each question as the line of session 0 that asks it, and says whether none was refused. One that is refused is told on the
+/// errors stream, and those after it are answered all the same. After a fault a front of the answers is out.
+pub fn answer_questions<S: Shapes, W: Write, E: Write>(
+    alloc: Global,
+    engine: &mut S,
+    questions: &[&str],
+    output: &mut W,
+    errors: &mut E,
+) -> Result<bool, Fault>
+    ensures answers { (old : Machine) → S.is engine.old old → (new : Machine) × S.is engine.new new
+        × AnswersQuestions (map (λ question. question.now) questions.now) old result new (W.contents output.old) (W.contents output.new) }
+    ensures quiet { result ≡ Ok true → Keeps (E.contents errors.old) (E.contents errors.new) }
+{
+    let mut are_answered = true;
+    for place in 0..questions.len() {
+        let is_answered = answer_question(alloc, engine, place, questions[place], output, errors)?;
+        are_answered = are_both(is_answered, are_answered);
+    }
+    Ok(are_answered)
+}
+
+/// Whether both are so.
+fn are_both(one: bool, other: bool) -> bool
+    ensures { result ≡ (one && other) }
+{
+    one && other
+}
+
+/// Answers one question, and says whether it was not refused.
+fn answer_question<S: Shapes, W: Write, E: Write>(
+    alloc: Global,
+    engine: &mut S,
+    place: usize,
+    question: &str,
+    output: &mut W,
+    errors: &mut E,
+) -> Result<bool, Fault>
+    ensures answers { (old : Machine) → S.is engine.old old → (new : Machine) × S.is engine.new new
+        × AnswersQuestion question.now old result new (W.contents output.old) (W.contents output.new) }
+    ensures quiet { result ≡ Ok true → Keeps (E.contents errors.old) (E.contents errors.new) }
+{
+    match answer_to(alloc, engine, question) {
+        Ok(text) => {
+            put_parts(output, &[text.as_slice()])?;
+            Ok(true)
+        }
+        Err(refusal) => {
+            let _ = tell_refused(errors, place, &refusal, question);
+            Ok(false)
+        }
+    }
+}
+
+/// What a question is answered, as CSV; or its refusal, which may be for want of memory (90).
+fn answer_to<S: Shapes>(alloc: Global, engine: &mut S, question: &str) -> Result<Vec<u8>, Refusal>
+    ensures { (old : Machine) → S.is engine.old old → (new : Machine) × S.is engine.new new
+        × IsAnswered question.now old (text_result (λ text. text.items) result) new }
+{
+    match line_asking(alloc, question) {
+        Ok(line) => answer_as_csv(alloc, engine, line.as_bytes()),
+        Err(AllocError) => Err(Refusal::OutOfMemory),
+    }
+}
+
+/// The line of session 0 that asks a question.
+fn line_asking(alloc: Global, question: &str) -> Result<String, AllocError>
+    ensures { IfOk result (λ line. string_bytes line ≡ line_of question.now) }
+{
+    let mut line = String::new(alloc);
+    line.push_str("0 ")?;
+    line.push_str(question)?;
+    Ok(line)
+}
+
+/// Tells which of the questions was refused, why, and the line that asked it.
+fn tell_refused<E: Write>(
+    errors: &mut E,
+    place: usize,
+    refusal: &Refusal,
+    question: &str,
+) -> Result<(), Fault> {
+    let mut digits = Buffer::new();
+    let mut number = Buffer::new();
+    let count = digits.format(place.saturating_add(1)).as_bytes();
+    let words = refusal.words();
+    put_parts(
+        errors,
+        &[
+            b"roadseg: question ",
+            count,
+            b": ERR ",
+            number.format(refusal.number()).as_bytes(),
+            b" ",
+            words.as_str().as_bytes(),
+            b": 0 ",
+            question.as_bytes(),
+            b"\n",
+        ],
+    )
+}
