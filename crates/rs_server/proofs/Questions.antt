@@ -29,15 +29,21 @@ quiet_after (Ok true) a b c first then done = Keeps-trans a b c (first refl) the
 quiet_after (Ok false) a b c first then done = let wrong : FAILED ≡ SUCCESS = done in cc
 quiet_after (Err fault) a b c first then done = let wrong : FAILED ≡ SUCCESS = done in cc
 
+no_success : FAILED ≡ SUCCESS → ⊥
+no_success wrong = cc
+
+no_failure : SUCCESS ≡ FAILED → ⊥
+no_failure wrong = cc
+
 module _ (limit : ℕ) (content : Content) (questions : List (List ℕ)) (a b : Option (List ℕ)) (first last : Machine) (stood : Stands limit content first.state) where
   pub asked_all : (result : Result Bool Fault) → AnswersQuestions questions first result last a b → status_of_answers result ≡ SUCCESS → AsksDisk limit content questions true a b
   asked_all (Ok true) answers done = record { first = first; stood = stood; last = last; answers = answers }
-  asked_all (Ok false) answers done = let wrong : FAILED ≡ SUCCESS = done in cc
-  asked_all (Err fault) answers done = let wrong : FAILED ≡ SUCCESS = done in cc
+  asked_all (Ok false) answers done = absurd (no_success done)
+  asked_all (Err fault) answers done = absurd (no_success done)
 
   pub asked_some : (e f : Option (List ℕ)) (result : Result Bool Fault) → AnswersQuestions questions first result last a b → status_of_answers result ≡ FAILED
       → FailsToAsk limit content questions a b e f
-  asked_some e f (Ok true) answers failed = let wrong : SUCCESS ≡ FAILED = failed in cc
+  asked_some e f (Ok true) answers failed = absurd (no_failure failed)
   asked_some e f (Ok false) answers failed = inr (inl (record { first = first; stood = stood; last = last; answers = answers }))
   asked_some e f (Err fault) answers failed = inr (inr (record { first = first; stood = stood; fault = fault; last = last; answers = answers }))
 
