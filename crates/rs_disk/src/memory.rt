@@ -2,7 +2,7 @@
 //!
 //! It is honest. Only a growth that is refused fails, and it leaves the disk as it was.
 
-ghost use Rattle.std.specs.Prelude.{◌≡◌, ℕ, ◌+◌, ◌<◌, ◌≤◌, max, ◌*◌, true, false, [], length, slice_index, take, IsOk, OnOk, OnErr};
+ghost use Rattle.std.specs.Prelude.{◌≡◌, ℕ, ◌+◌, ◌<◌, ◌≤◌, max, ◌*◌, true, false, [], ◌++◌, length, slice_index, take, IsOk, OnOk, OnErr};
 ghost use Rattle.rs_disk.specs.Calls.{no_calls};
 ghost use Rattle.rs_disk.specs.Content.{content_of, Gives, Holds, KeepsOthers};
 ghost use Rattle.std.proofs.lemmas.Bool.{false≢true};
@@ -178,10 +178,21 @@ fn write_in(file: &mut Vec<u8>, at: usize, bytes: &[u8]) -> Result<(), DiskFault
     if bytes.is_empty() {
         return Ok(());
     }
+    if at == file.len() {
+        return append(file, bytes);
+    }
     let end = at.checked_add(bytes.len()).ok_or(DiskFault)?;
     grow(file, end).map_err(|_| DiskFault)?;
     overwrite(file, at, bytes);
     Ok(())
+}
+
+/// Puts bytes after the last. A refused growth changes nothing.
+fn append(file: &mut Vec<u8>, bytes: &[u8]) -> Result<(), DiskFault>
+    ensures bytes { OnOk result (file.new.items ≡ file.old.items ++ bytes.now) }
+    ensures refused { OnErr result (file.new.items ≡ file.old.items) }
+{
+    file.extend_from_slice(bytes).map_err(|_| DiskFault)
 }
 
 /// Makes room for `end` bytes. The bytes that are added are zeros.

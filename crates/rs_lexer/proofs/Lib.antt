@@ -1,5 +1,6 @@
 mod ReservedLaws
 mod ScanningLaws
+mod LongestLaws
 pub mod CutLaws
 pub mod TokenLaws
 pub mod NameTexts

@@ -1,18 +1,18 @@
 -- The lexer's machine accepts the tokens, and says their kinds.
 use Rattle.std.proofs.Common.{◌≡◌, ℕ, ◌+◌, ◌-◌, ◌<◌, ◌≤◌, Bool, true, false, List, [], ◌∷◌, ◌++◌, length, take, get_or, Option, Some, None, refl, sym, ap, ◌∙◌, ⊎_elim, arith, add-zero, zero, suc, le-leb}
 use Rattle.std.proofs.lemmas.List.{take_more}
-use Rattle.std.proofs.lemmas.Bool.{cases_lt, false≢true, lt-leb}
+use Rattle.std.proofs.lemmas.Bool.{cases_lt, lt-leb}
 use Rattle.std.specs.Prelude.{◌==◌, ◌&&◌, if◌then◌else◌, is_some, unwrap_or, nat_le}
 use Rattle.std.specs.Char.{is_ascii_alphabetic, is_ascii_digit}
 use Rattle.std.specs.List.{list_all}
 use Rattle.rs_grammar.specs.declared.kind.TheConstants.{NAME_BYTES}
 use Rattle.rs_grammar.specs.declared.kind.TokenKind.{TokenKind}
 use Rattle.rs_grammar.specs.declared.kind.TokenKind.TheVariants as kinds
-use Rattle.rs_lexer.specs.declared.scan.State.{State}
-use Rattle.rs_lexer.specs.declared.scan.State.TheVariants as states
+use Rattle.rs_lexer.specs.States.{State}
+use Rattle.rs_lexer.specs.States as states
 use Rattle.rs_grammar.specs.Words.{is_word_byte}
-use Rattle.rs_lexer.specs.Lexis.{reserved, kind_in, IsLongestToken, word_kind, is_whole, is_fraction, is_quoted_rest, single_kind, less_kind, greater_kind, alone, token_kind}
-use Rattle.rs_lexer.specs.Scanning.{symbol_state, after_start, after, run, accepts, is_dead, kind_at, some_if, kind_from}
+use Rattle.rs_lexer.specs.Lexis.{reserved, kind_in, word_kind, is_whole, is_fraction, is_quoted_rest, single_kind, less_kind, greater_kind, alone, token_kind}
+use Rattle.rs_lexer.specs.Scanning.{symbol_state, after_start, after, run, accepts, kind_at, some_if, kind_from}
 
 pub token_kind-nil : token_kind [] ≡ None
 unfolding token_kind
@@ -185,43 +185,27 @@ dead_stays state bytes i (suc k) dead h =
     let inside : i + k < length bytes = omega arith in
     ap (λ n. run state (take n bytes)) e ∙ run-next state bytes (i + k) inside ∙ ap (λ v. after v (get_or bytes (i + k) 0)) (dead_stays state bytes i k dead (omega arith))
 
-dead_beyond : (state : State) (bytes : List ℕ) (i longer : ℕ) → run state (take i bytes) ≡ states.Dead → i ≤ longer → longer ≤ length bytes → accepts (run state (take longer bytes)) ≡ false
+pub dead_beyond : (state : State) (bytes : List ℕ) (i longer : ℕ) → run state (take i bytes) ≡ states.Dead → i ≤ longer → longer ≤ length bytes → accepts (run state (take longer bytes)) ≡ false
 dead_beyond state bytes i longer dead above h =
     let e : i + (longer - i) ≡ longer = omega arith in
     ap accepts (ap (λ n. run state (take n bytes)) (sym e) ∙ dead_stays state bytes i (longer - i) dead (omega arith))
 
-Dead-from_is_dead : (state : State) → is_dead state ≡ true → state ≡ states.Dead
-Dead-from_is_dead states.Start e = cc
-Dead-from_is_dead states.Word e = cc
-Dead-from_is_dead states.Whole e = cc
-Dead-from_is_dead states.Point e = cc
-Dead-from_is_dead states.Decimal e = cc
-Dead-from_is_dead states.Inside e = cc
-Dead-from_is_dead states.Behind e = cc
-Dead-from_is_dead states.Less e = cc
-Dead-from_is_dead states.Greater e = cc
-Dead-from_is_dead (states.Symbol kind) e = cc
-Dead-from_is_dead states.Dead e = refl
+-- where the machine is dead at the next byte, or there is none, it accepts nothing longer
+pub none_beyond : (state : State) (bytes : List ℕ) (count : ℕ)
+    → (count < length bytes → after (run state (take count bytes)) (get_or bytes count 0) ≡ states.Dead)
+    → (longer : ℕ) → count < longer → longer ≤ length bytes → accepts (run state (take longer bytes)) ≡ false
+none_beyond state bytes count dead longer above h =
+    let lt : count < length bytes = omega arith in
+    dead_beyond state bytes (count + 1) longer (run-next state bytes count lt ∙ dead lt) (omega arith) h
 
--- after a byte at which the machine is dead no text is accepted
-pub none_beyond : (bytes : List ℕ) (place count : ℕ) (state : State) → state ≡ run states.Start (take place bytes) → place < length bytes
-    → is_dead (after state (get_or bytes place 0)) ≡ true
-    → ((longer : ℕ) → count < longer → longer ≤ place → accepts (run states.Start (take longer bytes)) ≡ false)
-    → (longer : ℕ) → count < longer → longer ≤ length bytes → accepts (run states.Start (take longer bytes)) ≡ false
-none_beyond bytes place count state is inside dead below longer above h =
+-- one more byte, at which nothing is accepted
+pub none_until : (state : State) (bytes : List ℕ) (place count : ℕ)
+    → ((longer : ℕ) → count < longer → longer ≤ place → accepts (run state (take longer bytes)) ≡ false)
+    → accepts (run state (take (place + 1) bytes)) ≡ false
+    → (longer : ℕ) → count < longer → longer ≤ place + 1 → accepts (run state (take longer bytes)) ≡ false
+none_until state bytes place count below here longer above h =
     ⊎_elim
-    (λ lt. dead_beyond states.Start bytes (place + 1) longer (run-next states.Start bytes place inside ∙ ap (λ v. after v (get_or bytes place 0)) (sym is) ∙ Dead-from_is_dead (after state (get_or bytes place 0)) dead) (omega arith) h)
-    (λ le. below longer above le)
-    (cases_lt place longer)
-
--- at one more byte
-pub none_until : (bytes : List ℕ) (place count : ℕ)
-    → ((longer : ℕ) → count < longer → longer ≤ place → accepts (run states.Start (take longer bytes)) ≡ false)
-    → accepts (run states.Start (take (place + 1) bytes)) ≡ false
-    → (longer : ℕ) → count < longer → longer ≤ place + 1 → accepts (run states.Start (take longer bytes)) ≡ false
-none_until bytes place count below here longer above h =
-    ⊎_elim
-    (λ lt. let e : longer ≡ place + 1 = omega arith in ap (λ n. accepts (run states.Start (take n bytes))) e ∙ here)
+    (λ lt. let e : longer ≡ place + 1 = omega arith in ap (λ n. accepts (run state (take n bytes))) e ∙ here)
     (λ le. below longer above le)
     (cases_lt place longer)
 
@@ -241,29 +225,3 @@ unfolding word_kind
 word_kind-long word found h =
     ap (λ b. if b then kinds.Name else kinds.LongWord) (sym (lt-leb (length word) NAME_BYTES h))
     ∙ ap (λ o. unwrap_or o (if nat_le (length word) NAME_BYTES then kinds.Name else kinds.LongWord)) found
-
--- the longest token, where the machine found one
-pub IsLongestToken-from_run : (bytes : List ℕ) (state : State) (kind : TokenKind) (count : ℕ) → count ≤ length bytes
-    → state ≡ run states.Start (take count bytes) → Some kind ≡ kind_at state (take count bytes)
-    → ((longer : ℕ) → count < longer → longer ≤ length bytes → accepts (run states.Start (take longer bytes)) ≡ false)
-    → IsLongestToken bytes kind count
-IsLongestToken-from_run bytes state kind count inside is says beyond = record {
-  inside = inside;
-  token = token_kind-run (take count bytes) ∙ ap (λ v. kind_at v (take count bytes)) (sym is) ∙ sym says;
-  longest = λ longer above h. no_kind (take longer bytes) (beyond longer above h);
-}
-
--- where it found none, no front is a token
-pub no_front : (bytes : List ℕ) (state : State) (count : ℕ) → count ≤ length bytes
-    → state ≡ run states.Start (take count bytes) → None ≡ kind_at state (take count bytes)
-    → (0 < count → accepts state ≡ true)
-    → ((longer : ℕ) → count < longer → longer ≤ length bytes → accepts (run states.Start (take longer bytes)) ≡ false)
-    → (size : ℕ) → size ≤ length bytes → token_kind (take size bytes) ≡ None
-no_front bytes state count inside is says accepted beyond size h =
-    ⊎_elim
-    (λ lt. no_kind (take size bytes) (beyond size lt h))
-    (λ le. ⊎_elim
-    (λ some. absurd (false≢true (ap is_some says ∙ is_some-kind_at state (take count bytes) ∙ accepted some)))
-    (λ none. let e : size ≡ 0 = omega arith in ap (λ n. token_kind (take n bytes)) e ∙ token_kind-nil)
-    (cases_lt 0 count))
-    (cases_lt count size)

@@ -11,8 +11,8 @@ use Rattle.std.proofs.lemmas.Str.{IsCharBoundary-before_ascii, IsCharBoundary-af
 use Rattle.rs_grammar.specs.declared.kind.TheConstants.{NAME_BYTES}
 use Rattle.rs_grammar.specs.declared.kind.TokenKind.{TokenKind}
 use Rattle.rs_grammar.specs.declared.kind.TokenKind.TheVariants as kinds
-use Rattle.rs_lexer.specs.declared.scan.State.{State}
-use Rattle.rs_lexer.specs.declared.scan.State.TheVariants as states
+use Rattle.rs_lexer.specs.States.{State}
+use Rattle.rs_lexer.specs.States as states
 use Rattle.rs_lexer.specs.declared.token.Token.{Token}
 use Rattle.rs_grammar.specs.Words.{is_word_byte}
 use Rattle.rs_lexer.specs.Lexis.{reserved, kind_in, word_kind, is_fraction, is_quoted_rest, single_kind, less_kind, greater_kind, alone, token_kind, token_text, IsTokenOf}

@@ -1,3 +1,4 @@
 pub mod Lexis
 pub mod Names
 pub mod Scanning
+pub mod States

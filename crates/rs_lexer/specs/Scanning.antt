@@ -1,12 +1,12 @@
--- The lexer's machine: what its states are after some bytes, and what tokens they lead to.
-use Rattle.std.specs.Prelude.{ℕ, Bool, true, false, ◌==◌, List, [], ◌∷◌, map, Option, Some, None, if◌then◌else◌}
+-- A machine that accepts the tokens: what its states are after some bytes, and what tokens they lead to.
+use Rattle.std.specs.Prelude.{◌≡◌, ℕ, ◌<◌, ◌≤◌, Bool, true, false, ◌==◌, List, [], ◌∷◌, length, take, map, Option, Some, None, if◌then◌else◌}
 use Rattle.std.specs.Char.{is_ascii_alphabetic, is_ascii_digit}
 use Rattle.std.specs.List.{list_all}
 use Rattle.rs_grammar.specs.declared.kind.TokenKind.{TokenKind}
 use Rattle.rs_grammar.specs.declared.kind.TokenKind.TheVariants as kinds
 use Rattle.rs_grammar.specs.declared.kind.Reserved.{Reserved}
-use Rattle.rs_lexer.specs.declared.scan.State.{State}
-use Rattle.rs_lexer.specs.declared.scan.State.TheVariants as states
+use Rattle.rs_lexer.specs.States.{State}
+use Rattle.rs_lexer.specs.States as states
 use Rattle.rs_grammar.specs.Words.{is_word_byte}
 use Rattle.rs_lexer.specs.Lexis.{word_kind, is_whole, is_fraction, is_quoted_rest, single_kind, less_kind, greater_kind, alone, token_kind}
 
@@ -58,19 +58,6 @@ accepts states.Greater = true
 accepts (states.Symbol kind) = true
 accepts states.Dead = false
 
-abbrev pub is_dead : State → Bool
-is_dead states.Start = false
-is_dead states.Word = false
-is_dead states.Whole = false
-is_dead states.Point = false
-is_dead states.Decimal = false
-is_dead states.Inside = false
-is_dead states.Behind = false
-is_dead states.Less = false
-is_dead states.Greater = false
-is_dead (states.Symbol kind) = false
-is_dead states.Dead = true
-
 -- the kind of a text that led to the state
 abbrev pub kind_at : State → List ℕ → Option TokenKind
 kind_at states.Start text = None
@@ -84,6 +71,12 @@ kind_at states.Less text = Some kinds.Less
 kind_at states.Greater text = Some kinds.Greater
 kind_at (states.Symbol kind) text = Some kind
 kind_at states.Dead text = None
+
+-- So many of the bytes, after those that led to the state, are the rest of the longest token, and it is of this kind.
+pub record IsLongestRest (state : State) (rest : List ℕ) (kind : TokenKind) (count : ℕ) : Type 0 where
+  pub inside : count ≤ length rest
+  pub says : (text : List ℕ) → kind_at (run state (take count rest)) text ≡ Some kind
+  pub longest : (longer : ℕ) → count < longer → longer ≤ length rest → accepts (run state (take longer rest)) ≡ false
 
 abbrev pub some_if : Bool → TokenKind → Option TokenKind
 some_if test kind = if test then Some kind else None

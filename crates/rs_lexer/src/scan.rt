@@ -1,47 +1,36 @@
-//! The longest token at the front of some bytes, by a machine of a few states.
+//! The longest token at the front of some bytes, told by its first byte.
 //!
-//! It stops at the byte that no token goes on with, so a line is scanned in linear time.
+//! Each kind has a loop of its own, which stops at the byte that no token goes on with, so a line is scanned in linear time.
 
-ghost use Rattle.std.specs.Prelude.{◌≡◌, ℕ, ◌+◌, ◌<◌, ◌≤◌, true, false, if◌then◌else◌, List, ◌∷◌, length, take, MatchOption, None};
+ghost use Rattle.std.specs.Prelude.{◌≡◌, ℕ, ◌<◌, ◌≤◌, true, false, List, ◌∷◌, length, slice_index, take, MatchOption, None};
+ghost use Rattle.std.specs.Char.{is_ascii_alphabetic, is_ascii_digit};
+ghost use Rattle.std.specs.List.{prefix_len};
 ghost use Rattle.std.specs.Str.{bytes_eq};
 ghost use Rattle.rs_grammar.specs.Words.{is_word_byte};
 ghost use Rattle.rs_lexer.specs.Lexis.{reserved, kind_in, word_kind, single_kind, token_kind, IsLongestToken};
-ghost use Rattle.rs_lexer.specs.Scanning.{rows_of, after, accepts, is_dead, kind_at, run};
+ghost use Rattle.rs_lexer.specs.Scanning.{rows_of, after_start, accepts, run, IsLongestRest};
+ghost use Rattle.rs_lexer.specs.States as states;
 
 use rs_grammar::kind::{NAME_BYTES, RESERVED, Reserved, TokenKind};
 
-/// What the bytes so far may be.
-#[derive(Clone, Copy)]
-pub enum State {
-    /// No byte yet.
-    Start,
-    /// A word.
-    Word,
-    /// Digits.
-    Whole,
-    /// Digits and a point.
-    Point,
-    /// Digits, a point, digits.
-    Decimal,
-    /// A quoted text that is open.
-    Inside,
-    /// A quoted text that is closed, unless another quote follows.
-    Behind,
-    /// `<`.
-    Less,
-    /// `>`.
-    Greater,
-    /// A symbol that no other begins with.
-    Symbol(TokenKind),
-    /// No token begins so.
-    Dead,
+// Whether these bytes, which are as many, are the word.
+fn same_bytes(bytes: &[u8], word: &[u8]) -> bool
+    requires { length bytes.now ≡ length word.now }
+    ensures { result ≡ bytes_eq bytes.now word.now }
+{
+    for (place, byte) in bytes.iter().enumerate() {
+        if *byte != word[place] {
+            return false;
+        }
+    }
+    true
 }
 
 // Whether these bytes are the word. Most words of a table have another length, which tells it at once.
 fn is_word(bytes: &[u8], word: &[u8]) -> bool
     ensures { result ≡ bytes_eq bytes.now word.now }
 {
-    bytes.len() == word.len() && bytes == word
+    bytes.len() == word.len() && same_bytes(bytes, word)
 }
 
 // The kind beside a word in a table.
@@ -127,141 +116,137 @@ fn single_kind(byte: u8) -> Option<TokenKind>
 fn is_word_byte(byte: u8) -> bool
     ensures { result ≡ is_word_byte byte }
 {
-    byte.is_ascii_alphanumeric() || byte == b'_'
+    byte.is_ascii_alphabetic() || byte.is_ascii_digit() || byte == b'_'
 }
 
-fn after_start(byte: u8) -> State
-    ensures { result ≡ after State.Start byte }
+// How many letters there are at the front.
+fn letters_length(bytes: &[u8]) -> usize
+    ensures { result ≡ prefix_len is_ascii_alphabetic bytes.now }
 {
-    if byte.is_ascii_alphabetic() {
-        State::Word
-    } else if byte.is_ascii_digit() {
-        State::Whole
-    } else if byte == b'\'' {
-        State::Inside
-    } else if byte == b'<' {
-        State::Less
-    } else if byte == b'>' {
-        State::Greater
-    } else {
-        match single_kind(byte) {
-            Some(kind) => State::Symbol(kind),
-            None => State::Dead,
+    bytes
+        .iter()
+        .take_while(|byte| byte.is_ascii_alphabetic())
+        .count()
+}
+
+// How many letters, digits and `_` there are at the front.
+fn word_bytes_length(bytes: &[u8]) -> usize
+    ensures { result ≡ prefix_len is_word_byte bytes.now }
+{
+    bytes.iter().take_while(|byte| is_word_byte(**byte)).count()
+}
+
+// The same. Most bytes of words are letters, which a test of their own tells sooner.
+fn word_length(bytes: &[u8]) -> usize
+    ensures count { result ≡ prefix_len is_word_byte bytes.now }
+    ensures inside { result ≤ length bytes.now }
+{
+    let letters = letters_length(bytes);
+    letters + word_bytes_length(&bytes[letters..])
+}
+
+// How many digits there are at the front.
+fn digits_length(bytes: &[u8]) -> usize
+    ensures { result ≡ prefix_len is_ascii_digit bytes.now }
+{
+    bytes
+        .iter()
+        .take_while(|byte| byte.is_ascii_digit())
+        .count()
+}
+
+// What the longest number has after its first digit: its kind, and how many bytes.
+fn number(rest: &[u8]) -> (TokenKind, usize)
+    ensures { IsLongestRest states.Whole rest.now result.0 result.1 }
+{
+    let whole = digits_length(rest);
+    if whole < rest.len() && rest[whole] == b'.' {
+        let decimals = digits_length(&rest[whole + 1..]);
+        if decimals > 0 {
+            return (TokenKind::Decimal, whole + 1 + decimals);
         }
     }
+    (TokenKind::Whole, whole)
 }
 
-fn after_digits(byte: u8) -> State
-    ensures { result ≡ after State.Whole byte }
+// How many bytes the longest quoted text has after its first quote; 0 where it is not closed.
+fn quoted_length(rest: &[u8]) -> usize
+    ensures inside { result ≤ length rest.now }
+    ensures closed { 0 < result → run states.Inside (take result rest.now) ≡ states.Behind }
+    ensures longest { (longer : ℕ) → result < longer → longer ≤ length rest.now
+        → accepts (run states.Inside (take longer rest.now)) ≡ false }
 {
-    if byte.is_ascii_digit() {
-        State::Whole
-    } else if byte == b'.' {
-        State::Point
-    } else {
-        State::Dead
-    }
-}
-
-fn after_less(byte: u8) -> State
-    ensures { result ≡ after State.Less byte }
-{
-    match byte {
-        b'=' => State::Symbol(TokenKind::LessOrEqual),
-        b'>' => State::Symbol(TokenKind::Unequal),
-        _ => State::Dead,
-    }
-}
-
-fn state_if(holds: bool, state: State) -> State
-    ensures { result ≡ (if holds then state else State.Dead) }
-{
-    if holds { state } else { State::Dead }
-}
-
-impl State {
-    // The state after one more byte.
-    fn after(self, byte: u8) -> State
-        ensures { result ≡ after self byte }
-    {
-        match self {
-            State::Start => after_start(byte),
-            State::Word => state_if(is_word_byte(byte), State::Word),
-            State::Whole => after_digits(byte),
-            State::Point | State::Decimal => state_if(byte.is_ascii_digit(), State::Decimal),
-            State::Inside => {
-                if byte == b'\'' {
-                    State::Behind
-                } else {
-                    State::Inside
-                }
-            }
-            State::Behind => state_if(byte == b'\'', State::Inside),
-            State::Less => after_less(byte),
-            State::Greater => state_if(byte == b'=', State::Symbol(TokenKind::GreaterOrEqual)),
-            State::Symbol(_) | State::Dead => State::Dead,
-        }
-    }
-
-    // Whether the bytes so far are a token.
-    fn is_token(self) -> bool
-        ensures { result ≡ accepts self }
-    {
-        match self {
-            State::Start | State::Point | State::Inside | State::Dead => false,
-            State::Word | State::Whole | State::Decimal | State::Behind => true,
-            State::Less | State::Greater | State::Symbol(_) => true,
-        }
-    }
-
-    fn is_dead(self) -> bool
-        ensures { result ≡ is_dead self }
-    {
-        match self {
-            State::Dead => true,
-            _ => false,
-        }
-    }
-
-    // What kind of token the bytes are that led here.
-    fn kind(self, text: &[u8]) -> Option<TokenKind>
-        ensures { result ≡ kind_at self text.now }
-    {
-        match self {
-            State::Start | State::Point | State::Inside | State::Dead => None,
-            State::Word => Some(word_kind(text)),
-            State::Whole => Some(TokenKind::Whole),
-            State::Decimal => Some(TokenKind::Decimal),
-            State::Behind => Some(TokenKind::Quoted),
-            State::Less => Some(TokenKind::Less),
-            State::Greater => Some(TokenKind::Greater),
-            State::Symbol(kind) => Some(kind),
-        }
-    }
-}
-
-// The state after the longest token at the front, and its bytes; `Start` and 0 where there is none.
-fn longest(bytes: &[u8]) -> (State, usize)
-    ensures inside { result.1 ≤ length bytes.now }
-    ensures state { result.0 ≡ run State.Start (take result.1 bytes.now) }
-    ensures token { 0 < result.1 → accepts result.0 ≡ true }
-    ensures longest { (longer : ℕ) → result.1 < longer → longer ≤ length bytes.now
-        → accepts (run State.Start (take longer bytes.now)) ≡ false }
-{
-    let mut state = State::Start;
-    let mut best = State::Start;
+    let mut is_open = true;
     let mut count = 0;
-    for (place, byte) in bytes.iter().enumerate() {
-        state = state.after(*byte);
-        if state.is_dead() {
-            return (best, count);
-        }
-        if state.is_token() {
-            best = state;
-            count = place + 1;
+    for (place, byte) in rest.iter().enumerate() {
+        if *byte == b'\'' {
+            is_open = !is_open;
+            if !is_open {
+                count = place + 1;
+            }
+        } else if !is_open {
+            return count;
         }
     }
-    (best, count)
+    count
+}
+
+// What the longest quoted text has after its first quote: its kind, and how many bytes.
+fn quoted(rest: &[u8]) -> Option<(TokenKind, usize)>
+    ensures { MatchOption result ((count : ℕ) → count ≤ length rest.now → accepts (run states.Inside (take count rest.now)) ≡ false)
+        (λ token. IsLongestRest states.Inside rest.now token.0 token.1) }
+{
+    let count = quoted_length(rest);
+    if count > 0 {
+        Some((TokenKind::Quoted, count))
+    } else {
+        None
+    }
+}
+
+// The first byte, and 0 where there is none.
+fn first_or_zero(bytes: &[u8]) -> u8
+    ensures { result ≡ slice_index bytes.now 0 }
+{
+    if bytes.is_empty() { 0 } else { bytes[0] }
+}
+
+// What the longest symbol has after `<`: its kind, and how many bytes.
+fn less(rest: &[u8]) -> (TokenKind, usize)
+    ensures { IsLongestRest states.Less rest.now result.0 result.1 }
+{
+    match first_or_zero(rest) {
+        b'=' => (TokenKind::LessOrEqual, 1),
+        b'>' => (TokenKind::Unequal, 1),
+        _ => (TokenKind::Less, 0),
+    }
+}
+
+// What the longest symbol has after `>`: its kind, and how many bytes.
+fn greater(rest: &[u8]) -> (TokenKind, usize)
+    ensures { IsLongestRest states.Greater rest.now result.0 result.1 }
+{
+    match first_or_zero(rest) {
+        b'=' => (TokenKind::GreaterOrEqual, 1),
+        _ => (TokenKind::Greater, 0),
+    }
+}
+
+// What the longest token has after this first byte, which is no letter: its kind, and how many bytes.
+fn other(first: u8, rest: &[u8]) -> Option<(TokenKind, usize)>
+    requires { is_ascii_alphabetic first ≡ false }
+    ensures { MatchOption result ((count : ℕ) → count ≤ length rest.now → accepts (run (after_start first) (take count rest.now)) ≡ false)
+        (λ token. IsLongestRest (after_start first) rest.now token.0 token.1) }
+{
+    if first.is_ascii_digit() {
+        return Some(number(rest));
+    }
+    match first {
+        b'\'' => quoted(rest),
+        b'<' => Some(less(rest)),
+        b'>' => Some(greater(rest)),
+        _ => Some((single_kind(first)?, 0)),
+    }
 }
 
 /// The longest token at the front of the bytes: its kind and the number of its bytes. `None` where
@@ -270,7 +255,11 @@ pub fn front_token(bytes: &[u8]) -> Option<(TokenKind, usize)>
     ensures { MatchOption result ((count : ℕ) → count ≤ length bytes.now → token_kind (take count bytes.now) ≡ None)
         (λ token. IsLongestToken bytes.now token.0 token.1) }
 {
-    let (state, count) = longest(bytes);
-    let kind = state.kind(&bytes[..count])?;
-    Some((kind, count))
+    let (first, rest) = bytes.split_first()?;
+    if first.is_ascii_alphabetic() {
+        let count = word_length(rest) + 1;
+        return Some((word_kind(&bytes[..count]), count));
+    }
+    let (kind, count) = other(*first, rest)?;
+    Some((kind, count + 1))
 }

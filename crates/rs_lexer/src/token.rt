@@ -22,6 +22,9 @@ pub struct Token {
     pub length: usize,
 }
 
+// Room for the tokens of most lines, which is taken once.
+const TOKENS: usize = 32;
+
 // Blanks part tokens and are dropped.
 fn is_blank(byte: u8) -> bool
     ensures { result ≡ (byte == 32) }
@@ -41,7 +44,7 @@ pub fn tokens(alloc: Global, line: &str, from: usize) -> Result<Vec<Token>, Refu
         ⊎ ((refusal ≡ Refusal.UnknownCharacter) × ((tokens : List Token) → AreTokensFrom line.now from tokens → ⊥))) }
 {
     let bytes = line.as_bytes();
-    let mut tokens = Vec::new(alloc);
+    let mut tokens = Vec::with_capacity(alloc, TOKENS)?;
     let mut place = from;
     while place < bytes.len() {
         if is_blank(bytes[place]) {

@@ -2,8 +2,7 @@
 use Rattle.std.specs.Prelude.{◌≡◌, ◌≢◌, ℕ, List, [], ◌∷◌, ◌++◌, flat_map}
 use Rattle.std.specs.List.{AllByRecursion}
 use Rattle.rs_machine.specs.Served.{Machine}
-use Rattle.rs_machine.specs.ReplyText.{reply_text}
-use Rattle.rs_machine.specs.Answered.{Answer, AnswersLine, Answered, answers_text}
+use Rattle.rs_machine.specs.Answered.{Answer, Answered, answers_text}
 
 abbrev pub LINE_FEED : ℕ
 LINE_FEED = 10
@@ -28,21 +27,3 @@ pub record AllAnswered (old : Machine) (bytes rest written : List ℕ) (new : Ma
   pub answers : List Answer
   pub answered : Answered old lines answers new
   pub text : written ≡ answers_text answers
-
--- The first lines of the bytes are answered, with one more after them, of whose reply only a front was written.
-pub record StoppedWriting (old : Machine) (bytes written : List ℕ) (new : Machine) : Type 0 where
-  pub lines : List (List ℕ)
-  pub line : List ℕ
-  pub later : List (List ℕ)
-  pub rest : List ℕ
-  pub cut : IsCutIntoLines bytes (lines ++ line ∷ later) rest
-  pub answers : List Answer
-  pub between : Machine
-  pub answered : Answered old lines answers between
-  pub last : Answer
-  pub last_answered : AnswersLine between line last new
-  pub front : List ℕ
-  pub lost : List ℕ
-  pub some_lost : lost ≢ []
-  pub text : written ≡ answers_text answers ++ front
-  pub stopped_in : reply_text last.session last.reply ≡ front ++ lost

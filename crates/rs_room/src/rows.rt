@@ -2,16 +2,11 @@
 //!
 //! It says whether they agree.
 
-use rs_value::{ColumnType, KeptRow, Literal, Schema, decode, fits, same_row};
+use rs_value::{ColumnType, Literal, Schema, decode, fits};
 use std::alloc::{AllocError, Global};
 
-/// Whether rows that fit their columns are those that their bytes say.
+/// Whether the row that a line writes is the one that is read in its bytes.
 pub(crate) fn rows_agree(alloc: Global) -> Result<bool, AllocError> {
-    Ok(row_is_read(alloc)? && row_is_kept(alloc)?)
-}
-
-/// The row of a line is the one that is read in its bytes.
-fn row_is_read(alloc: Global) -> Result<bool, AllocError> {
     let literals = [
         Literal::Int(-7),
         Literal::Text(String::from_str(alloc, "ab")?),
@@ -24,20 +19,6 @@ fn row_is_read(alloc: Global) -> Result<bool, AllocError> {
         return Ok(false);
     };
     Ok(fitted.as_slice() == decoded.as_slice())
-}
-
-/// The row that is kept of its values is the one that is kept of its bytes.
-fn row_is_kept(alloc: Global) -> Result<bool, AllocError> {
-    let literals = [Literal::Int(-7), Literal::Null];
-    let bytes = [1, 127, 255, 255, 255, 255, 255, 255, 249, 0, 0, 0, 0];
-    let Ok(fitted) = fits(&columns(), &literals) else {
-        return Ok(false);
-    };
-    let Some(kept) = KeptRow::of_encoded(alloc, &columns(), &bytes)? else {
-        return Ok(false);
-    };
-    let made = KeptRow::of_values(alloc, fitted.as_slice())?;
-    Ok(same_row(&kept, &made))
 }
 
 /// A number, and a text of three bytes.

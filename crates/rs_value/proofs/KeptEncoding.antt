@@ -1,13 +1,11 @@
 -- What each step does from bytes that keep a row to bytes of one width, and back.
-use Rattle.std.proofs.Common.{◌≡◌, ℕ, zero, suc, ◌+◌, ◌<◌, ◌≤◌, min, List, [], ◌∷◌, ◌++◌, length, take, drop, get_or, map, Bool, ◌==◌, IsTrue, rules, tests, refl, sym, ap, ◌∙◌, subst, arith, append_assoc, append-nil}
+use Rattle.std.proofs.Common.{◌≡◌, ℕ, zero, suc, ◌+◌, ◌<◌, ◌≤◌, min, List, [], ◌∷◌, ◌++◌, length, drop, get_or, Bool, ◌==◌, IsTrue, rules, tests, refl, sym, ap, ◌∙◌, subst, arith, append_assoc, append-nil}
 use Rattle.std.proofs.lemmas.List.{drop_all, drop_more, nil_from_length}
 use Rattle.rs_value.specs.declared.column.ColumnType.{ColumnType}
 use Rattle.rs_value.specs.declared.column.ColumnType.TheVariants as types
 use Rattle.rs_value.specs.declared.column.TheConstants.{TEXT_BYTES}
 use Rattle.rs_value.specs.Row.{Datum, null, number, text, Row}
-use Rattle.rs_value.specs.Values.{IsValue, AreValues, IsOfType, IsRowOf}
-use Rattle.rs_value.specs.declared.value.Value.{Value}
-use Rattle.rs_value.specs.View.{datum_of}
+use Rattle.rs_value.specs.Values.{IsOfType, IsRowOf}
 use Rattle.rs_value.specs.Encoding.{SaysDatum, SaysRow}
 use Rattle.rs_value.specs.Kept.{kept_datum, IsShort, MayBeKept, Keeps}
 use Rattle.rs_value.proofs.EncodingSteps.{row_length, read_past}
@@ -89,11 +87,3 @@ read_whole types i bytes rest empty past is some none = (
       let nil : rest ≡ [] = read_past types i bytes rest past none row says in
       subst IsTrue (sym (is ∙ ap (λ (l : List ℕ). length l == 0) nil)) refl),
 )
-
--- the next value of a list, and those after it
-pub value_left : (values : List Value) (i : ℕ) (value : Value) → i < length values → value ≡ get_or values i value → AreValues (map datum_of (drop i values))
-    → IsValue (datum_of value) × AreValues (map datum_of (drop (i + 1) values))
-value_left values i value within is are =
-    let split : IsValue (datum_of (get_or values i value)) × AreValues (map datum_of (drop (i + 1) values)) =
-    subst (λ vs. AreValues (map datum_of vs)) (drop_more values i value within) are in
-    (subst (λ v. IsValue (datum_of v)) (sym is) split.0, split.1)

@@ -9,19 +9,17 @@ ghost use Rattle.rs_value.specs.Kept.{MayBeKept};
 ghost use Rattle.rs_value.specs.LentView.{lent_datum};
 ghost use Rattle.rs_value.specs.Row.{Row, row_cmp, null};
 ghost use Rattle.rs_value.specs.Text.{values_text};
-ghost use Rattle.rs_value.specs.Values.{AreValues, IsRowOf};
-ghost use Rattle.rs_value.specs.View.{row_of, literal_row};
+ghost use Rattle.rs_value.specs.Values.{IsRowOf};
+ghost use Rattle.rs_value.specs.View.{literal_row};
 
 use crate::byte_order::compare_bytes;
 use crate::column::Schema;
 use crate::kept_bytes::{after_values, count_values, first_value};
 use crate::kept_encoding::{kept_of, push_encoded};
-use crate::kept_making::{
-    bytes_of, bytes_of_literals, bytes_of_nulls, columns_in, columns_of, joined,
-};
+use crate::kept_making::{bytes_of_literals, bytes_of_nulls, columns_in, columns_of, joined};
 use crate::kept_text::push_each;
 use crate::lent::LentValue;
-use crate::value::{Literal, Value};
+use crate::value::Literal;
 use std::alloc::{AllocError, Global};
 use std::cmp::Ordering;
 use std::marker::Model;
@@ -44,15 +42,6 @@ impl Model for KeptRow {
 }
 
 impl KeptRow {
-    /// The row of these values. The only refusal is for want of memory.
-    pub fn of_values(alloc: Global, values: &[Value]) -> Result<Self, AllocError>
-        requires { AreValues (row_of values.now) }
-        ensures { IfOk result (λ kept. kept ≡ row_of values.now) }
-    {
-        let bytes = bytes_of(alloc, values)?;
-        Ok(KeptRow { bytes })
-    }
-
     /// The row that these literals write. The only refusal is for want of memory.
     pub fn of_literals(alloc: Global, literals: &[Literal]) -> Result<Self, AllocError>
         requires { AllByRecursion MayBeKept (literal_row literals.now) }

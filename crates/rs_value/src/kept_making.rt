@@ -1,37 +1,15 @@
-//! The bytes of a row are made of values, and of those of other rows.
+//! The bytes of a row are made of literals, and of those of other rows.
 
 ghost use Rattle.std.specs.Prelude.{◌++◌, ◌∷◌, [], map, get_or, replicate, IfOk};
 ghost use Rattle.std.specs.List.{AllByRecursion};
 ghost use Rattle.rs_value.specs.Kept.{Keeps, MayBeKept};
 ghost use Rattle.rs_value.specs.Row.{Row, null};
-ghost use Rattle.rs_value.specs.Values.{AreValues};
-ghost use Rattle.rs_value.specs.View.{row_of, literal_row};
+ghost use Rattle.rs_value.specs.View.{literal_row};
 
 use crate::kept_bytes::{NULL, after_values, kept_width, push_kept, split_first};
-use crate::lent::{lent, lent_literal};
-use crate::value::{Literal, Value};
+use crate::lent::lent_literal;
+use crate::value::Literal;
 use std::alloc::{AllocError, Global};
-
-/// The bytes of a row of these values. The only refusal is for want of memory.
-pub(crate) fn bytes_of(alloc: Global, values: &[Value]) -> Result<Vec<u8>, AllocError>
-    requires { AreValues (row_of values.now) }
-    ensures { IfOk result (λ bytes. Keeps bytes.items (row_of values.now)) }
-{
-    let mut bytes = Vec::with_capacity(alloc, width_of(values))?;
-    for value in values {
-        push_kept(&mut bytes, lent(value))?;
-    }
-    Ok(bytes)
-}
-
-// How many bytes keep the values.
-fn width_of(values: &[Value]) -> usize {
-    let mut total = 0_usize;
-    for value in values {
-        total = total.saturating_add(kept_width(lent(value)));
-    }
-    total
-}
 
 /// The bytes of the row that these literals write. The only refusal is for want of memory.
 pub(crate) fn bytes_of_literals(alloc: Global, literals: &[Literal]) -> Result<Vec<u8>, AllocError>

@@ -1,13 +1,12 @@
 //! A value that is lent by the row that holds it.
 
 ghost use Rattle.std.specs.Prelude.{◌≡◌};
-ghost use Rattle.rs_value.specs.Kept.{IsShort};
 ghost use Rattle.rs_value.specs.Row as rows;
 ghost use Rattle.rs_value.specs.LentView.{lent_datum};
 ghost use Rattle.rs_value.specs.Values.{IsValue};
-ghost use Rattle.rs_value.specs.View.{datum_of, literal_datum};
+ghost use Rattle.rs_value.specs.View.{literal_datum};
 
-use crate::value::{Literal, Value};
+use crate::value::Literal;
 use std::str;
 
 /// A value in a column of a row, lent.
@@ -29,18 +28,6 @@ pub(crate) fn text_in(bytes: &[u8]) -> &str
     match str::from_utf8(bytes) {
         Ok(text) => text,
         Err(_) => unreachable!(),
-    }
-}
-
-/// A value, lent.
-pub(crate) fn lent(value: &Value) -> LentValue<'_>
-    ensures value { lent_datum result ≡ datum_of value.now }
-    ensures short { IsShort (lent_datum result) }
-{
-    match value {
-        Value::Null => LentValue::Null,
-        Value::Int(number) => LentValue::Int(*number),
-        Value::Text(text) => LentValue::Text(text.as_str().as_bytes()),
     }
 }
 
