@@ -108,6 +108,13 @@ impl Referents {
         of_route(&self.items, route).len()
     }
 
+    /// The referents of the route in the order of their names, START not among them. Takes no memory.
+    pub fn on_route(&self, route: u32) -> &[Referent]
+        ensures { map mark_of result.now ≡ referents_of route self.now }
+    {
+        of_route(&self.items, route)
+    }
+
     /// They are in order, each once, and none is START.
     pub fn stand_in_order(&self)
         ensures { AreReferents self.now }
