@@ -2,15 +2,16 @@
 //!
 //! It promises the machine's referents, where a position lies by them, and how a measure is printed by them.
 
-ghost use Rattle.std.specs.Prelude.{◌≡◌, ◌≤◌, ◌≢◌, true, IsOk, IfOk, OnOk, OnErr, string_bytes};
+ghost use Rattle.std.specs.Prelude.{◌≡◌, ◌≤◌, ◌≢◌, true, IsOk, IfOk, OnOk, OnErr, map, string_bytes};
 ghost use Rattle.std.specs.FinMap as names;
 ghost use Rattle.rs_methods.specs.Position.{start_name, expression_of, located, expression_at, expression_text};
+ghost use Rattle.rs_methods.specs.Referents.{mark_of};
 ghost use Rattle.rs_machine.specs.State.{has};
 ghost use Rattle.rs_catalog.specs.Referents.{referents_by_name, referents_on, at_number, no_referents};
 
 use crate::entries::RouteEntry;
 use rs_measure::Measure;
-use rs_methods::{Method, Name, Position, Referents, express, locate};
+use rs_methods::{Method, Name, Position, Referent, Referents, express, locate};
 use rs_refusal::Refusal;
 use std::alloc::{AllocError, Global};
 use std::collections::BTreeMap;
@@ -97,6 +98,19 @@ impl RouteReferents {
                 referents.count(OWN_ROUTE)
             }
             None => 0,
+        }
+    }
+
+    /// The referents of the route of this number beside START, in the order of their names. It takes no memory.
+    pub fn on_route(&self, number: u32) -> &[Referent]
+        ensures { map mark_of result.now ≡ names.entries (referents_on self.now number) }
+    {
+        match self.by_route.get(&number) {
+            Some(referents) => {
+                referents.stand_in_order();
+                referents.on_route(OWN_ROUTE)
+            }
+            None => &[],
         }
     }
 
