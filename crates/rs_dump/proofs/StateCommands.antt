@@ -1,5 +1,5 @@
 -- The commands of definitions and referents: as a state tells them, and as they were written.
-use Rattle.std.proofs.Common.{◌≡◌, ◌∙◌, ℕ, List, ap, map, refl, sym}
+use Rattle.std.proofs.Common.{◌≡◌, ◌∙◌, ℕ, List, ap, map, refl}
 use Rattle.std.specs.Prelude.{Option, Some, None, flat_map, option_map}
 use Rattle.std.specs.FinMap as names
 use Rattle.rs_catalog.specs.Definitions.{Definitions, IndexItem, Numbered, Rest, RouteItem, TableItem, on_numbered, referents_from, state_from, table_from, tables_from}
@@ -7,8 +7,7 @@ use Rattle.rs_catalog.specs.Definitions as catalog
 use Rattle.rs_catalog.specs.Referents.{HeldReferents, referents_on}
 use Rattle.rs_catalog.proofs.Names.{each_entry, entries-map_values}
 use Rattle.rs_catalog.proofs.StateLaws.{get-tables_from}
-use Rattle.rs_dump.specs.Sections.{columns_in, index_commands, index_of, named_route, referent_commands, referents_of_route, route_commands, table_commands}
-use Rattle.rs_dump.specs.Shown.{Shown}
+use Rattle.rs_dump.specs.Sections.{columns_in, index_commands, index_of, referent_commands, referents_beside, referents_of_route, route_commands, table_commands}
 use Rattle.rs_dump_laws.specs.Dump.{index_command, referent_command, route_command, table_command}
 use Rattle.rs_dump_laws.specs.Listed.{listed_referents, placed_referent}
 use Rattle.rs_facts.specs.Fact.{Name}
@@ -26,7 +25,7 @@ state_of definitions held spans_on rest = state_from definitions (λ (route : �
 abbrev pub with_ends : Name × RouteItem → Name × RouteEnds
 with_ends entry = (entry.0, entry.1.ends)
 
-module _ (definitions : Definitions) (held : Numbered HeldReferents) (shown : Shown) (spans_on : ℕ → ℕ → List Stretch) (rest : Rest) where
+module _ (definitions : Definitions) (held : Numbered HeldReferents) (spans_on : ℕ → ℕ → List Stretch) (rest : Rest) where
   abbrev the_state : State
   the_state = state_of definitions held spans_on rest
 
@@ -66,25 +65,16 @@ module _ (definitions : Definitions) (held : Numbered HeldReferents) (shown : Sh
   abbrev commands_on : Name × RouteEnds → List CommandTree
   commands_on route = map referent_command (map (placed_referent route.0) (names.entries (the_state.referents route.0)))
 
-  abbrev shown_on : Name × ℕ → List CommandTree
-  shown_on route = referents_of_route route.0 (shown.referents route.1)
+  one_route : (entry : Name × RouteItem) → names.get definitions.routes entry.0 ≡ Some entry.1 → commands_on (with_ends entry) ≡ referents_beside held entry
+  one_route entry there =
+      map_twice (placed_referent entry.0) referent_command (names.entries (the_state.referents entry.0))
+      ∙ ap (referents_of_route entry.0) (ap names.entries (referents_there entry.0 entry.1 there))
 
-  -- those that are shown of each route are those that are kept of it
-  abbrev pub AreReferents : Type 0
-  AreReferents = (name : Name) (route : RouteItem) → names.get definitions.routes name ≡ Some route → shown.referents route.number ≡ names.entries (referents_on held route.number)
-
-  module _ (are : AreReferents) where
-    one_route : (entry : Name × RouteItem) → names.get definitions.routes entry.0 ≡ Some entry.1 → commands_on (with_ends entry) ≡ shown_on (named_route entry)
-    one_route entry there =
-        map_twice (placed_referent entry.0) referent_command (names.entries (the_state.referents entry.0))
-        ∙ ap (referents_of_route entry.0) (ap names.entries (referents_there entry.0 entry.1 there) ∙ sym (are entry.0 entry.1 there))
-
-    pub same_referents : map referent_command (listed_referents the_state) ≡ referent_commands (map named_route (names.entries definitions.routes)) shown
-    same_referents =
-        map_flat (λ (route : Name × RouteEnds). map (placed_referent route.0) (names.entries (the_state.referents route.0))) referent_command (names.entries the_state.routes)
-        ∙ ap (flat_map commands_on) (entries-map_values (λ (item : RouteItem). item.ends) definitions.routes)
-        ∙ flat_mapped with_ends commands_on (names.entries definitions.routes)
-        ∙ flat_alike (λ (entry : Name × RouteItem). commands_on (with_ends entry)) (λ entry. shown_on (named_route entry)) (names.entries definitions.routes)
-        (all_weaker (λ (entry : Name × RouteItem). names.get definitions.routes entry.0 ≡ Some entry.1) (λ entry. commands_on (with_ends entry) ≡ shown_on (named_route entry)) one_route
-        (names.entries definitions.routes) (each_entry definitions.routes))
-        ∙ sym (flat_mapped named_route shown_on (names.entries definitions.routes))
+  pub same_referents : map referent_command (listed_referents the_state) ≡ referent_commands definitions held
+  same_referents =
+      map_flat (λ (route : Name × RouteEnds). map (placed_referent route.0) (names.entries (the_state.referents route.0))) referent_command (names.entries the_state.routes)
+      ∙ ap (flat_map commands_on) (entries-map_values (λ (item : RouteItem). item.ends) definitions.routes)
+      ∙ flat_mapped with_ends commands_on (names.entries definitions.routes)
+      ∙ flat_alike (λ (entry : Name × RouteItem). commands_on (with_ends entry)) (referents_beside held) (names.entries definitions.routes)
+      (all_weaker (λ (entry : Name × RouteItem). names.get definitions.routes entry.0 ≡ Some entry.1) (λ entry. commands_on (with_ends entry) ≡ referents_beside held entry) one_route
+      (names.entries definitions.routes) (each_entry definitions.routes))

@@ -3,7 +3,7 @@ use Rattle.std.proofs.Common.{◌≡◌, ◌∙◌, ℕ, Bool, false, List, [], 
 use Rattle.rs_catalog.specs.Definitions.{Definitions, Numbered}
 use Rattle.rs_catalog.specs.Referents.{HeldReferents}
 use Rattle.rs_dump.specs.Dumped.{WroteAll, all_rows, first_commands, last_commands}
-use Rattle.rs_dump.specs.Sections.{named_route, referent_commands, route_commands, table_commands}
+use Rattle.rs_dump.specs.Sections.{referent_commands, route_commands, table_commands}
 use Rattle.rs_dump.specs.Shown.{Shown}
 use Rattle.rs_dump.specs.States.{IsDumped, IsStateOf}
 use Rattle.rs_dump_laws.specs.Dump.{alignment_command, commands_of}
@@ -15,7 +15,6 @@ use Rattle.rs_facts.specs.Runs.{Stretch}
 use Rattle.rs_machine.specs.Lawful.{IsLawful}
 use Rattle.rs_machine.specs.State.{State}
 use Rattle.rs_syntax.specs.Tree.{CommandTree, QueryTree}
-use Rattle.std.specs.FinMap as names
 use Rattle.rs_dump.proofs.InTurn.{name_before, queried}
 use Rattle.rs_dump.proofs.KeptNames.{all_fit, kept_fit}
 use Rattle.rs_dump.proofs.Mapped.{regrouped}
@@ -46,20 +45,20 @@ module _ (definitions : Definitions) (held : Numbered HeldReferents) (shown : Sh
   parts = listed_parts kept (spans_named definitions shown) (map queried wrote.views)
 
   abbrev written : List CommandTree
-  written = first_commands definitions shown ++ (all_rows definitions shown ++ last_commands definitions wrote.views)
+  written = first_commands definitions held ++ (all_rows definitions shown ++ last_commands definitions wrote.views)
 
   -- section by section
   same_commands : commands_of (texts_of definitions) kept parts ≡ written
   same_commands =
-      let routes = same_routes definitions held shown of.spans_on of.rest in
-      let referents = same_referents definitions held shown of.spans_on of.rest of.referents in
-      let tables = same_tables definitions held shown of.spans_on of.rest in
+      let routes = same_routes definitions held of.spans_on of.rest in
+      let referents = same_referents definitions held of.spans_on of.rest in
+      let tables = same_tables definitions held of.spans_on of.rest in
       let rows = same_rows definitions held shown of.spans_on of.rest in
       let alignments = ap (map alignment_command) (kept_fit definitions.alignments) in
       let views = same_views definitions held wrote.views wrote.in_turn in
-      let indexes = same_indexes definitions held shown of.spans_on of.rest in
+      let indexes = same_indexes definitions held of.spans_on of.rest in
       (λ i. routes i ++ (referents i ++ (tables i ++ (rows i ++ (alignments i ++ (views i ++ indexes i))))))
-      ∙ sym (regrouped (route_commands definitions) (referent_commands (map named_route (names.entries definitions.routes)) shown) (table_commands definitions)
+      ∙ sym (regrouped (route_commands definitions) (referent_commands definitions held) (table_commands definitions)
       (all_rows definitions shown ++ last_commands definitions wrote.views))
 
   -- nothing is left out where nothing is said to be

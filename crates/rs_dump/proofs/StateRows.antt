@@ -26,7 +26,7 @@ use Rattle.rs_dump.proofs.StateCommands.{state_of, with_ends}
 
 -- the spans that are shown of a table on a route, by their names
 abbrev shown_of : Shown → Option TableItem → Option RouteItem → List Stretch
-shown_of shown (Some table) (Some route) = shown.spans table.number table.kind route.number
+shown_of shown (Some table) (Some route) = shown table.number table.kind route.number
 shown_of shown (Some table) None = []
 shown_of shown None route = []
 
@@ -46,7 +46,7 @@ module _ (definitions : Definitions) (held : Numbered HeldReferents) (shown : Sh
   abbrev IsRouteUnder : Name → RouteItem → Type 0
   IsRouteUnder name route = names.get definitions.routes name ≡ Some route
 
-  spans_there : (name : Name) (table : TableItem) → IsTableUnder name table → (on : Name) (route : RouteItem) → IsRouteUnder on route → spans name on ≡ shown.spans table.number table.kind route.number
+  spans_there : (name : Name) (table : TableItem) → IsTableUnder name table → (on : Name) (route : RouteItem) → IsRouteUnder on route → spans name on ≡ shown table.number table.kind route.number
   spans_there name table there on route also = λ i. shown_of shown (there i) (also i)
 
   -- ---- the rows are the runs of the state's tables
@@ -54,7 +54,7 @@ module _ (definitions : Definitions) (held : Numbered HeldReferents) (shown : Sh
   -- the spans that are shown of each table on each route are all runs of its facts there
   abbrev pub AreRuns : Type 0
   AreRuns = (name : Name) (table : TableItem) → IsTableUnder name table → (on : Name) (route : RouteItem) → IsRouteUnder on route
-      → AreAllRunsOf table.kind (places_of (spans_on table.number route.number)) (shown.spans table.number table.kind route.number)
+      → AreAllRunsOf table.kind (places_of (spans_on table.number route.number)) (shown table.number table.kind route.number)
 
   facts_there : (table : TableItem) (on : Name) (route : RouteItem) → IsRouteUnder on route → facts_from definitions.routes (spans_on table.number) on ≡ places_of (spans_on table.number route.number)
   unfolding facts_from
@@ -91,7 +91,7 @@ module _ (definitions : Definitions) (held : Numbered HeldReferents) (shown : Sh
   placed_of table = flat_map (placed_on table) (names.entries the_state.routes)
 
   abbrev shown_on : Name × (ℕ × Kind) → Name × ℕ → List CommandTree
-  shown_on table route = rows_on table.0 route.0 table.1.1 (shown.spans table.1.0 table.1.1 route.1)
+  shown_on table route = rows_on table.0 route.0 table.1.1 (shown table.1.0 table.1.1 route.1)
 
   on_one : (entry : Name × TableItem) → IsTableUnder entry.0 entry.1 → (route : Name × RouteItem) → IsRouteUnder route.0 route.1
       → map (row_command the_state) (placed_on entry.0 (with_ends route)) ≡ shown_on (named_table entry) (named_route route)

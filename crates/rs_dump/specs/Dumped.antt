@@ -20,9 +20,8 @@ use Rattle.rs_syntax.specs.Tree.{CommandTree}
 
 -- ---- the sections
 
-abbrev pub first_commands : Definitions → Shown → List CommandTree
-first_commands definitions shown =
-    route_commands definitions ++ (referent_commands (map named_route (names.entries definitions.routes)) shown ++ table_commands definitions)
+abbrev pub first_commands : Definitions → Numbered HeldReferents → List CommandTree
+first_commands definitions referents = route_commands definitions ++ (referent_commands definitions referents ++ table_commands definitions)
 
 abbrev pub all_rows : Definitions → Shown → List CommandTree
 all_rows definitions shown = row_commands (map named_table (names.entries definitions.tables)) (map named_route (names.entries definitions.routes)) shown
@@ -48,7 +47,7 @@ pub record WroteLast (definitions : Definitions) (referents : Numbered HeldRefer
 pub record WroteAll (definitions : Definitions) (referents : Numbered HeldReferents) (shown : Shown) (omits_rows lacks : Bool) (before after : Option (List ℕ)) : Type 0 where
   pub views : List (Name × ViewItem)
   pub in_turn : AreInTurn (record { definitions = definitions; referents = referents; left_out = map (λ entry. entry.0) (too_long (names.entries definitions.alignments)) }) [] views
-  pub put : Appends before after (lines_bytes (first_commands definitions shown ++ ((if omits_rows then [] else all_rows definitions shown) ++ last_commands definitions views)))
+  pub put : Appends before after (lines_bytes (first_commands definitions referents ++ ((if omits_rows then [] else all_rows definitions shown) ++ last_commands definitions views)))
   pub all_alignments : lacks ≡ false → too_long (names.entries definitions.alignments) ≡ []
   pub all_views : lacks ≡ false → HasAllViews definitions (map (λ view. view.0) views)
   pub passing : HasAllThatPass (record { definitions = definitions; referents = referents; left_out = map (λ entry. entry.0) (too_long (names.entries definitions.alignments)) })
@@ -81,7 +80,7 @@ pub record FrontOfLast (definitions : Definitions) (referents : Numbered HeldRef
 pub record FrontOfAll (definitions : Definitions) (referents : Numbered HeldReferents) (shown : Shown) (omits_rows : Bool) (stop : Stop) (before after : Option (List ℕ)) : Type 0 where
   pub views : List (Name × ViewItem)
   pub in_turn : AreInTurn (record { definitions = definitions; referents = referents; left_out = map (λ entry. entry.0) (too_long (names.entries definitions.alignments)) }) [] views
-  pub front : WroteFront stop (lines_bytes (first_commands definitions shown ++ ((if omits_rows then [] else all_rows definitions shown) ++ last_commands definitions views))) before after
+  pub front : WroteFront stop (lines_bytes (first_commands definitions referents ++ ((if omits_rows then [] else all_rows definitions shown) ++ last_commands definitions views))) before after
 
 -- there is no table of this name, and nothing was written
 pub record MissesTable (definitions : Definitions) (name : Name) (stop : Stop) (before after : Option (List ℕ)) : Type 0 where

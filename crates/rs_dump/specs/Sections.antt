@@ -1,7 +1,8 @@
 -- The commands of each section of a dump, by what a store has of them.
 use Rattle.std.specs.Prelude.{ℕ, List, [], flat_map, map, Option, Some, None}
 use Rattle.std.specs.FinMap as names
-use Rattle.rs_catalog.specs.Definitions.{Definitions, IndexItem, RouteItem, TableItem}
+use Rattle.rs_catalog.specs.Definitions.{Definitions, IndexItem, Numbered, RouteItem, TableItem}
+use Rattle.rs_catalog.specs.Referents.{HeldReferents, referents_on}
 use Rattle.rs_dump_laws.specs.Dump.{location_of, route_command}
 use Rattle.rs_dump.specs.Shown.{Shown}
 use Rattle.rs_dump.specs.declared.held.NamedRoute.{NamedRoute}
@@ -41,10 +42,18 @@ index_of definitions index = define_index index.0 index.1.table (indexed_column 
 abbrev pub index_commands : Definitions → List CommandTree
 index_commands definitions = map (index_of definitions) (names.entries definitions.indexes)
 
--- ---- referents of a route, and rows of a table on a route
+-- ---- the referents of each route, in the order of their names
 
 abbrev pub referents_of_route : Name → List (Name × ℕ) → List CommandTree
 referents_of_route route referents = map (λ referent. define_referent route referent.0 (absolute referent.1)) referents
+
+abbrev pub referents_beside : Numbered HeldReferents → Name × RouteItem → List CommandTree
+referents_beside held route = referents_of_route route.0 (names.entries (referents_on held route.1.number))
+
+abbrev pub referent_commands : Definitions → Numbered HeldReferents → List CommandTree
+referent_commands definitions held = flat_map (referents_beside held) (names.entries definitions.routes)
+
+-- ---- rows of a table on a route
 
 abbrev pub rows_on : Name → Name → Kind → List Stretch → List CommandTree
 rows_on table route kind spans = map (λ span. insert table route (location_of kind span) span.row) spans
@@ -63,13 +72,10 @@ named_table entry = (entry.0, (entry.1.number, entry.1.kind))
 abbrev pub table_seen : NamedTable → Name × (ℕ × Kind)
 table_seen table = (table.name.bytes, (table.number, table.kind))
 
--- ---- the referents of many routes, and the rows of many tables on them
-
-abbrev pub referent_commands : List (Name × ℕ) → Shown → List CommandTree
-referent_commands routes shown = flat_map (λ route. referents_of_route route.0 (shown.referents route.1)) routes
+-- ---- the rows of many tables on many routes
 
 abbrev pub rows_of_table : Name × (ℕ × Kind) → List (Name × ℕ) → Shown → List CommandTree
-rows_of_table table routes shown = flat_map (λ route. rows_on table.0 route.0 table.1.1 (shown.spans table.1.0 table.1.1 route.1)) routes
+rows_of_table table routes shown = flat_map (λ route. rows_on table.0 route.0 table.1.1 (shown table.1.0 table.1.1 route.1)) routes
 
 abbrev pub row_commands : List (Name × (ℕ × Kind)) → List (Name × ℕ) → Shown → List CommandTree
 row_commands tables routes shown = flat_map (λ table. rows_of_table table routes shown) tables

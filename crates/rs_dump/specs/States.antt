@@ -23,18 +23,16 @@ use Rattle.rs_syntax.specs.Tree.{CommandTree, define_view}
 abbrev pub HasDefiningLine : Name → ViewItem → Type 0
 HasDefiningLine name view = (line : List ℕ) × (session : ℕ) × Asks line (command session (define_view name (query_tree view.query) view.text))
 
--- The lawful state has these definitions and these referents. On each of its routes those are the referents that are shown, and the
--- spans that are shown of a table are all maximal runs of its facts, each once.
+-- The lawful state has these definitions and these referents. On each of its routes the spans that are shown of a table are all maximal
+-- runs of its facts, each once.
 pub record IsStateOf (definitions : Definitions) (held : Numbered HeldReferents) (shown : Shown) (state : State) : Type 0 where
   pub lawful : IsLawful state
   pub spans_on : ℕ → ℕ → List Stretch
   pub rest : Rest
   pub is : state ≡ state_from definitions (λ (route : ℕ). referents_on held route) spans_on rest
-  pub referents : (name : Name) (route : RouteItem) → names.get definitions.routes name ≡ Some route
-      → shown.referents route.number ≡ names.entries (referents_on held route.number)
   pub spans : (name : Name) (table : TableItem) → names.get definitions.tables name ≡ Some table
       → (on : Name) (route : RouteItem) → names.get definitions.routes on ≡ Some route
-      → AreAllRunsOf table.kind (places_of (spans_on table.number route.number)) (shown.spans table.number table.kind route.number)
+      → AreAllRunsOf table.kind (places_of (spans_on table.number route.number)) (shown table.number table.kind route.number)
   pub views : Each definitions.views HasDefiningLine
 
 -- Nothing of the state has to be left out: no alignment is too long for a line, and each view passes now the checks of its DEFINE line,

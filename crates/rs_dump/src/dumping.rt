@@ -6,7 +6,7 @@ ghost use Rattle.rs_dump.specs.Reads.{Reads};
 ghost use Rattle.rs_dump.specs.Sections.{table_of};
 ghost use Rattle.rs_dump.specs.Shown.{Shown};
 ghost use Rattle.rs_dump.specs.Stopping.{StopsForTable, StopsReading};
-ghost use Rattle.rs_dump.specs.Written.{StopsWriting, WritesRead};
+ghost use Rattle.rs_dump.specs.Written.{StopsWriting, WritesAll, WritesRead};
 
 use crate::alignments::{tell_left_out, write_alignments};
 use crate::definitions::{routes_of, tables_of, write_indexes, write_routes, write_tables};
@@ -77,25 +77,21 @@ fn write_all<H: Held, W: Write, E: Write>(
         → IfErr result (λ stop. FrontOfAll (H.catalog held.old) (H.referents held.old) shown omits_rows stop (W.contents output.old) (W.contents output.new)) }
 {
     let mut line = String::new(alloc);
-    write_first(alloc, held, &mut line, output)?;
+    write_first(held, &mut line, output)?;
     write_middle(alloc, held, omits_rows, &mut line, output)?;
     write_last(alloc, held, &mut line, output, errors)
 }
 
 /// Writes routes, referents and tables.
 fn write_first<H: Held, W: Write>(
-    alloc: Global,
-    held: &mut H,
+    held: &H,
     line: &mut String,
     output: &mut W,
 ) -> Result<(), Stop>
-    ensures reads { Reads H.Held held.old held.new }
-    ensures lines { (shown : Shown) → H.shows held.old shown → WritesRead result (first_commands (H.catalog held.old) shown) (W.contents output.old) (W.contents output.new) }
-    ensures wants { IfErr result (λ stop. StopsReading H.Held stop held.old held.new) }
+    ensures { WritesAll result (first_commands (H.catalog held.now) (H.referents held.now)) (W.contents output.old) (W.contents output.new) }
 {
-    let routes = routes_of(alloc, held.catalog())?;
     write_routes(held.catalog(), line, output)?;
-    write_referents(alloc, held, &routes, line, output)?;
+    write_referents(held.catalog(), held.referents(), line, output)?;
     write_tables(held.catalog(), line, output)
 }
 

@@ -1,4 +1,4 @@
-//! What is dumped: definitions in memory, and the referents and spans that are read route by route.
+//! What is dumped: definitions and referents in memory, and the spans that are read route by route.
 //!
 //! What it shows is a relation, since it may keep what no value of its own says.
 
@@ -7,12 +7,11 @@ ghost use Rattle.rs_catalog.specs.Definitions.{Definitions, Numbered};
 ghost use Rattle.rs_catalog.specs.Referents.{HeldReferents};
 ghost use Rattle.rs_dump.specs.Shown.{Shown};
 ghost use Rattle.rs_facts.specs.Spans.{seen};
-ghost use Rattle.rs_methods.specs.Referents.{mark_of};
 ghost use Rattle.rs_refusal.specs.declared.refusal.Refusal.{Refusal};
 
 use rs_catalog::{Catalog, RouteReferents};
 use rs_facts::Span;
-use rs_methods::{Name, Referent};
+use rs_methods::Name;
 use rs_refusal::Refusal;
 use rs_value::Kind;
 use std::alloc::Global;
@@ -45,7 +44,7 @@ pub trait Held {
     /// The referents in memory.
     ghost referents: { Self → Numbered HeldReferents };
 
-    /// The referents and spans that are shown, by the numbers of routes and tables.
+    /// The spans that are shown, by the numbers of tables and routes.
     ghost shows: { Self → Shown → Type 0 };
 
     /// What a call keeps of all else, such as the bytes of a disk.
@@ -62,19 +61,6 @@ pub trait Held {
     fn referents(&self) -> &RouteReferents
         ensures { result.now ≡ referents self.now };
 
-    /// The referents beside START of the route, in the order of their names.
-    fn listed_referents(
-        &mut self,
-        alloc: Global,
-        route: &NamedRoute,
-    ) -> Result<Vec<Referent>, Refusal>
-        ensures lists { (shown : Shown) → shows self.old shown → IfOk result (λ found. map mark_of found.items ≡ shown.referents route.now.number) }
-        ensures wants { IfErr result (λ why. wants why self.old self.new) }
-        ensures catalog { catalog self.new ≡ catalog self.old }
-        ensures referents { referents self.new ≡ referents self.old }
-        ensures shows { (shown : Shown) → shows self.old shown → shows self.new shown }
-        ensures passes { passes self.old self.new };
-
     /// The spans of the table on the route.
     fn listed_spans(
         &mut self,
@@ -82,7 +68,7 @@ pub trait Held {
         table: &NamedTable,
         route: &NamedRoute,
     ) -> Result<Vec<Span>, Refusal>
-        ensures lists { (shown : Shown) → shows self.old shown → IfOk result (λ found. map seen found.items ≡ shown.spans table.now.number table.now.kind route.now.number) }
+        ensures lists { (shown : Shown) → shows self.old shown → IfOk result (λ found. map seen found.items ≡ shown table.now.number table.now.kind route.now.number) }
         ensures wants { IfErr result (λ why. wants why self.old self.new) }
         ensures catalog { catalog self.new ≡ catalog self.old }
         ensures referents { referents self.new ≡ referents self.old }

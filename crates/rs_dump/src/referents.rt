@@ -1,35 +1,27 @@
 //! The lines of referents, route by route and in the order of their names.
 
-ghost use Rattle.std.specs.Prelude.{IfErr, map};
-ghost use Rattle.rs_dump.specs.Reads.{Reads};
-ghost use Rattle.rs_dump.specs.Sections.{referent_commands, referents_of_route, route_seen};
-ghost use Rattle.rs_dump.specs.Shown.{Shown};
-ghost use Rattle.rs_dump.specs.Stopping.{StopsReading};
-ghost use Rattle.rs_dump.specs.Written.{WritesAll, WritesRead};
+ghost use Rattle.std.specs.Prelude.{map};
+ghost use Rattle.rs_dump.specs.Sections.{referent_commands, referents_of_route};
+ghost use Rattle.rs_dump.specs.Written.{WritesAll};
 ghost use Rattle.rs_methods.specs.Referents.{mark_of};
 
-use crate::held::{Held, NamedRoute};
 use crate::put::put_referent;
 use crate::stop::Stop;
+use rs_catalog::{Catalog, RouteReferents};
 use rs_methods::{Name, Referent};
-use std::alloc::Global;
 use std::io::Write;
 
-/// Writes the lines of the referents beside START of these routes.
-pub fn write_referents<H: Held, W: Write>(
-    alloc: Global,
-    held: &mut H,
-    routes: &[NamedRoute],
+/// Writes the lines of the referents beside START of each route.
+pub fn write_referents<W: Write>(
+    catalog: &Catalog,
+    referents: &RouteReferents,
     line: &mut String,
     output: &mut W,
 ) -> Result<(), Stop>
-    ensures reads { Reads H.Held held.old held.new }
-    ensures lines { (shown : Shown) → H.shows held.old shown → WritesRead result (referent_commands (map route_seen routes.now) shown) (W.contents output.old) (W.contents output.new) }
-    ensures wants { IfErr result (λ stop. StopsReading H.Held stop held.old held.new) }
+    ensures { WritesAll result (referent_commands catalog.now referents.now) (W.contents output.old) (W.contents output.new) }
 {
-    for route in routes {
-        let referents = held.listed_referents(alloc, route)?;
-        write_referents_of(&route.name, &referents, line, output)?;
+    for (name, route) in catalog.routes() {
+        write_referents_of(name, referents.on_route(route.number()), line, output)?;
     }
     Ok(())
 }

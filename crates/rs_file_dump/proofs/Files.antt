@@ -1,8 +1,7 @@
 -- What is shown of a store stays while it is read, and is that of its state.
 use Rattle.std.proofs.Common.{◌≡◌, ◌∙◌, ℕ, Some, List, ap, refl, subst, sym}
 use Rattle.std.specs.FinMap as names
-use Rattle.rs_catalog.specs.Definitions.{Numbered, ViewItem}
-use Rattle.rs_catalog.specs.Referents.{HeldReferents, referents_on}
+use Rattle.rs_catalog.specs.Definitions.{ViewItem}
 use Rattle.rs_disk.specs.declared.disk.Disk as disk
 use Rattle.rs_dump.specs.Shown.{Many, Shown}
 use Rattle.rs_file.specs.Contents.{Contents}
@@ -39,7 +38,6 @@ module _ {D : Type 0} (d : disk.Ghosts D) where
     oldest = shows.oldest;
     state = shows.state;
     stands = stands_on d shows.oldest old new reads shows.state shows.stands;
-    referents = λ route. shows.referents route ∙ ap (λ (held : Numbered HeldReferents). names.entries (referents_on held route)) (sym reads.keeps.referents);
     spans = λ table kind route.
         shows.spans table kind route
         ∙ ap (λ (file : OpenedFile). spans_in (whole_route kind file.accepted route) (events_of shows.stands.contents table)) (sym reads.keeps.file);
@@ -56,17 +54,13 @@ module _ {D : Type 0} (d : disk.Ghosts D) where
 
   -- what it shows
   abbrev pub shown_of : StoreState D → Contents → Shown
-  shown_of store contents = record {
-    referents = λ route. names.entries (referents_on store.referents route);
-    spans = λ table kind route. spans_in (whole_route kind store.file.accepted route) (events_of contents table);
-  }
+  shown_of store contents = λ table kind route. spans_in (whole_route kind store.file.accepted route) (events_of contents table)
 
   pub shows_its_state : (oldest : ℕ) (store : StoreState D) (state : State) (stands : StandsIn d oldest store state) → ShowsFile d store (shown_of store stands.contents)
   shows_its_state oldest store state stands = record {
     oldest = oldest;
     state = state;
     stands = stands;
-    referents = λ route. refl;
     spans = λ table kind route. refl;
   }
 
@@ -86,7 +80,6 @@ module _ {D : Type 0} (d : disk.Ghosts D) where
       spans_on = spans_seen stands.contents store.file.accepted;
       rest = record { changes = store.file.accepted; cursors = no_cursors };
       is = state_is oldest store state stands;
-      referents = λ name route there. refl;
       spans = λ name table there on route at.
           subst (λ (spans : List Stretch). AreAllRunsOf table.kind (facts_at store.file.accepted route.number (events_of stands.contents table.number)) spans)
           (sym (whole_read d oldest store state stands left rows name table there route.number))

@@ -2,7 +2,7 @@
 use Rattle.std.specs.Prelude.{◌≡◌, ◌⊎◌, ◌-◌, ◌^◌, ℕ, Bool, IfSome, List, Option, None, Some}
 use Rattle.std.specs.FinMap as names
 use Rattle.rs_catalog.specs.Definitions.{Definitions, Numbered}
-use Rattle.rs_catalog.specs.Referents.{HeldReferents, referents_on}
+use Rattle.rs_catalog.specs.Referents.{HeldReferents}
 use Rattle.rs_disk.specs.Content.{Content}
 use Rattle.rs_disk.specs.declared.disk.Disk as disk
 use Rattle.rs_dump.specs.Dumped.{FrontOfAll, FrontOfTable, WroteAll, WroteTable}
@@ -28,14 +28,13 @@ abbrev pub whole_route : Kind → ℕ → ℕ → RouteWindow
 whole_route kind version route = record { kind = kind; version = version; route = route; from = 0; to = 2 ^ 32 - 1 }
 
 module _ {D : Type 0} (d : disk.Ghosts D) where
-  -- The store stands in a state. What is shown are the referents in memory, and the spans that the version accepted last sees.
+  -- The store stands in a state. What is shown are the spans that the version accepted last sees.
   pub record ShowsFile (store : StoreState D) (shown : Shown) : Type 0 where
     pub oldest : ℕ
     pub state : State
     pub stands : StandsIn d oldest store state
-    pub referents : (route : ℕ) → shown.referents route ≡ names.entries (referents_on store.referents route)
     pub spans : (table : ℕ) (kind : Kind) (route : ℕ)
-        → shown.spans table kind route ≡ spans_in (whole_route kind store.file.accepted route) (events_of stands.contents table)
+        → shown table kind route ≡ spans_in (whole_route kind store.file.accepted route) (events_of stands.contents table)
 
 -- The disk stands for a state, whose definitions, referents and spans are these. Of them was written what was wanted: all, with or without
 -- rows, or one table.

@@ -1,4 +1,4 @@
-//! The file that is dumped: its definitions and its referents in memory, and what its pages say of each route.
+//! The file that is dumped: its definitions and its referents in memory, and the spans that its pages say of each route.
 
 ghost use Rattle.std.specs.Prelude.{◌≡◌};
 ghost use Rattle.rs_file_dump.specs.Files.{whole_route};
@@ -7,7 +7,6 @@ use rs_catalog::{Catalog, RouteReferents};
 use rs_disk::Disk;
 use rs_dump::{Held, NamedRoute, NamedTable};
 use rs_facts::Span;
-use rs_methods::Referent;
 use rs_refusal::Refusal;
 use rs_store_source::rs_store::Store;
 use rs_table_reads::RouteWindow;
@@ -42,14 +41,6 @@ impl<D: Disk> Held for HeldFile<D> {
 
     fn referents(&self) -> &RouteReferents {
         self.store.referents()
-    }
-
-    fn listed_referents(
-        &mut self,
-        alloc: Global,
-        route: &NamedRoute,
-    ) -> Result<Vec<Referent>, Refusal> {
-        self.store.listed_referents(alloc, route.number)
     }
 
     fn listed_spans(

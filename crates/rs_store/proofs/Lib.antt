@@ -13,7 +13,6 @@ pub mod Keeping
 pub mod Listed
 pub mod Loaded
 pub mod LookedAt
-pub mod Marks
 pub mod MayGo
 pub mod NoneDead
 pub mod Numbered

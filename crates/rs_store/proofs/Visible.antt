@@ -9,7 +9,7 @@ use Rattle.rs_catalog.specs.Definitions as catalog
 use Rattle.rs_catalog.specs.Names.{entries_by_bytes}
 use Rattle.rs_catalog.specs.Referents.{referents_on}
 use Rattle.rs_catalog.specs.declared.referents.RouteReferents.{RouteReferents}
-use Rattle.rs_catalog.proofs.Names.{entries-from_entries, entries-map_values}
+use Rattle.rs_catalog.proofs.Names.{entries-map_values}
 use Rattle.rs_catalog_meaning.specs.Meaning.{AreInOrder}
 use Rattle.rs_catalog_pages.specs.Items.{RouteItem}
 use Rattle.rs_cell_versions.specs.Versioned.{Standing}
@@ -19,8 +19,6 @@ use Rattle.rs_file.proofs.Loaded.{same_map}
 use Rattle.rs_file_meaning.specs.Seen.{born_by, is_born, referents_seen, routes_at, span_of_route}
 use Rattle.rs_file_meaning.specs.States.{named_route, routes_named}
 use Rattle.rs_machine.specs.State.{State}
-use Rattle.rs_methods.specs.Referents.{mark_of}
-use Rattle.rs_methods.specs.declared.referents.Referent.{Referent}
 use Rattle.rs_pager.specs.Maps.{committed, working}
 use Rattle.rs_pages.specs.PageMap.{PageMap}
 use Rattle.rs_refusal.specs.declared.refusal.Refusal.{Refusal}
@@ -28,7 +26,6 @@ use Rattle.rs_stored_catalog.specs.Referents.{IsSpan, OfThose}
 use Rattle.rs_stored_catalog.specs.RouteReferents.{HasAlone}
 use Rattle.rs_file_meaning.proofs.Named.{order_kept, to_T}
 use Rattle.rs_file_meaning.proofs.Picked.{born_all}
-use Rattle.rs_versioned.proofs.NameOrder.{held_by_name}
 use Rattle.rs_versioned.specs.Meant.{AreReferentsMeant}
 use Rattle.rs_versioned.specs.Records.{HoldsRecords}
 use Rattle.rs_versioned.specs.Referents.{kept_referents, referents_at}
@@ -38,7 +35,6 @@ use Rattle.rs_store.specs.Versions.{AreRoutesAt, entry_of, routes_by}
 use Rattle.rs_store.specs.declared.versions.NamedRoute.{NamedRoute}
 use Rattle.rs_store.proofs.Brought.{are_spans}
 use Rattle.rs_store.proofs.Listed.{seen_passing}
-use Rattle.rs_store.proofs.Marks.{names_rise}
 use Rattle.rs_store.proofs.RouteFacts.{sorted_values}
 
 -- ---- routes that were born by a version
@@ -126,23 +122,6 @@ module _ {D : Type 0} (d : disk.Ghosts D) (oldest : ℕ) (store : StoreState D) 
     referents_there route (Ok made) brings =
         brings stands.contents.referents.referents stands.contents.referents.used stands.contents.directory.accepted referents_lie (routes_at version routes) spans_at_version meant_there
     referents_there route (Err why) brings = tt
-
-    -- those that are listed from the pages are those in memory
-    pub marks_there : {Z : Type 0} → version ≡ store.file.accepted → (route : ℕ) (result : Result (Vec Referent Z) Refusal)
-        → IfOk result (λ found. OfThose (working d store.pager) store.file.referents (λ referents. (spans : List RouteSpan) → AllByRecursion IsSpan spans → AreReferentsMeant spans version referents
-        → map mark_of found.items ≡ referents_at version route referents))
-        → IfOk result (λ found. map mark_of found.items ≡ names.entries (referents_on store.referents route))
-    marks_there last route (Ok found) lists =
-        let contents = stands.contents in
-        let level = contents.directory.accepted in
-        let records = contents.referents.referents in
-        let marks = referents_at version route records in
-        let order = held_by_name (working d store.pager) store.file.referents.working level version route records contents.referents.used referents_lie in
-        lists records contents.referents.used level referents_lie (routes_at version routes) spans_at_version meant_there
-        ∙ sym (entries-from_entries marks (to_T (is_sorted name_cmp marks) (names_rise marks order (meant_there.once route))))
-        ∙ ap (λ (v : ℕ). names.entries (referents_seen contents v route)) (last ∙ sym stands.keeps.opened.accepted)
-        ∙ ap names.entries (sym (stands.keeps.memory.referents route))
-    marks_there last route (Err why) lists = tt
 
     pub not_damaged : (OfThose (working d store.pager) store.file.referents (λ referents. (spans : List RouteSpan) → AllByRecursion IsSpan spans → AreReferentsMeant spans version referents → ⊥)) → ⊥
     not_damaged none =

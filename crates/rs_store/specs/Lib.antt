@@ -5,7 +5,6 @@ pub mod Fitting
 pub mod Indexing
 pub mod Kept
 pub mod Lasting
-pub mod Listing
 pub mod Loading
 pub mod Making
 pub mod Placing

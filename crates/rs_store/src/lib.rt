@@ -10,7 +10,6 @@ mod defining;
 mod fitting;
 mod indexing;
 pub mod laws;
-mod listing;
 mod loading;
 mod opening;
 mod placing;

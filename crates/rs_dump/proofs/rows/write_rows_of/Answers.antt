@@ -37,7 +37,7 @@ loop-route-preserved g c =
       lines = λ shown shows.
           let found = c.in_ok-spans.ensures.lists shown (c.loop-route.invariant.reads.shows shown shows) in
           wrote_chunk (rows_of_table (table_seen table) (map route_seen routes) shown) (rows_of_table (table_seen table) (map route_seen (drop c.loop-route.route-index routes)) shown) (rows_of_table (table_seen table) (map route_seen (drop (c.loop-route.route-index + 1) routes)) shown)
-          (rows_on table.name.bytes one.name.bytes table.kind (shown.spans table.number table.kind one.number)) (g.W.Write.contents c.args.output.now) (g.W.Write.contents c.loop-route.output)
+          (rows_on table.name.bytes one.name.bytes table.kind (shown table.number table.kind one.number)) (g.W.Write.contents c.args.output.now) (g.W.Write.contents c.loop-route.output)
           (g.W.Write.contents c.write_spans.new.output) (ap (λ (l : List NamedRoute). rows_of_table (table_seen table) (map route_seen l) shown) (next_left routes c.loop-route.route-index one c.loop-route-test.true c.route-item.is))
           (c.loop-route.invariant.lines shown shows)
           (all_written_as _ _ _ _ (ap (rows_on table.name.bytes one.name.bytes table.kind) (ap (map seen) c.deref.ensures.value ∙ found)) c.in_ok-write_spans.ensures);
@@ -73,7 +73,7 @@ returns-in_err-write_spans-clause-lines g c = λ shown shows.
     let found = c.in_ok-spans.ensures.lists shown (c.loop-route.invariant.reads.shows shown shows) in
     passed_on c.from_residual-in_err-write_spans.result stop _ _ c.from_residual-in_err-write_spans.ensures.1
     (stops_chunk stop (rows_of_table (table_seen table) (map route_seen routes) shown) (rows_of_table (table_seen table) (map route_seen (drop c.loop-route.route-index routes)) shown) (rows_of_table (table_seen table) (map route_seen (drop (c.loop-route.route-index + 1) routes)) shown)
-    (rows_on table.name.bytes one.name.bytes table.kind (shown.spans table.number table.kind one.number)) (g.W.Write.contents c.args.output.now) (g.W.Write.contents c.loop-route.output) (g.W.Write.contents c.write_spans.new.output)
+    (rows_on table.name.bytes one.name.bytes table.kind (shown table.number table.kind one.number)) (g.W.Write.contents c.args.output.now) (g.W.Write.contents c.loop-route.output) (g.W.Write.contents c.write_spans.new.output)
     (ap (λ (l : List NamedRoute). rows_of_table (table_seen table) (map route_seen l) shown) (next_left routes c.loop-route.route-index one c.loop-route-test.true c.route-item.is))
     (c.loop-route.invariant.lines shown shows)
     (stops_as stop _ _ _ _ (ap (rows_on table.name.bytes one.name.bytes table.kind) (ap (map seen) c.deref.ensures.value ∙ found)) c.in_err-write_spans.ensures.1))
