@@ -83,11 +83,7 @@ fn write_all<H: Held, W: Write, E: Write>(
 }
 
 /// Writes routes, referents and tables.
-fn write_first<H: Held, W: Write>(
-    held: &H,
-    line: &mut String,
-    output: &mut W,
-) -> Result<(), Stop>
+fn write_first<H: Held, W: Write>(held: &H, line: &mut String, output: &mut W) -> Result<(), Stop>
     ensures { WritesAll result (first_commands (H.catalog held.now) (H.referents held.now)) (W.contents output.old) (W.contents output.new) }
 {
     write_routes(held.catalog(), line, output)?;
