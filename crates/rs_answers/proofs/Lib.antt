@@ -14,3 +14,8 @@ mod VisitedRoutes
 mod TotalsVisited
 mod TotalRows
 mod Leavings
+mod ResumedRuns
+mod Marking
+mod WindowRows
+mod PlansWithin
+mod Narrowing

@@ -9,3 +9,5 @@ pub mod TotalColumns
 pub mod Versions
 pub mod Shown
 pub mod Portions
+pub mod Resumed
+pub mod Within

@@ -2,9 +2,10 @@
 //!
 //! It promises those that the version shows, and forms no line that isn't asked for.
 
-ghost use Rattle.std.specs.Prelude.{◌≡◌, ◌≤◌, ◌+◌, ◌-◌, ◌++◌, drop, length, map, min, true, IfOk, OnOk, Some, vec_len};
+ghost use Rattle.std.specs.Prelude.{◌≡◌, ◌≤◌, ◌+◌, ◌-◌, ◌++◌, drop, length, map, min, true, IfOk, IfSome, OnOk, Some, vec_len};
 ghost use Rattle.std.specs.FinMap as names;
 ghost use Rattle.rs_answers.specs.Portions.{lines_printed, portion_of, room_of, GivesPortion, IsStart};
+ghost use Rattle.rs_answers.specs.Resumed.{IsMarked};
 ghost use Rattle.rs_answers.specs.Routes.{entry_of};
 ghost use Rattle.rs_answers.specs.Versions.{SeenVersion, LiesOnRoutes, lines_seen_on};
 ghost use Rattle.rs_exec.specs.Leaving.{EndsWith};
@@ -13,9 +14,9 @@ ghost use Rattle.rs_facts.specs.Spans.{seen};
 ghost use Rattle.rs_serve.specs.ReplyView.{rows_of};
 
 use crate::printer::PositionPrinter;
+use crate::resuming::{Mark, mark_before, runs_after};
 use crate::routes::NamedRoute;
 use crate::row_text::{lines_within, push_lines};
-use crate::runs::runs_on;
 use crate::versions::Versions;
 use rs_exec::kind_of;
 use rs_facts::Span;
@@ -53,42 +54,52 @@ pub struct RouteRest {
     pub all: usize,
     /// The first lines after the portion, as many as were formed ahead.
     pub ahead: Vec<String>,
+    /// A mark at the last line of the portion, from which those after it may be evaluated.
+    pub mark: Mark,
+    /// The same at the last line that was formed ahead.
+    pub next: Mark,
 }
 
 /// Appends a portion of the lines of a plan on one route at a version, and answers how many lines the route has in all, with some of
-/// those after the portion. Where the portion is empty, or there is too little memory for lines after it, none of them is formed. The
-/// source tells why it is refused; then some of the lines may have been appended.
+/// those after the portion. Where the portion is empty, or there is too little memory for lines after it, none of them is formed. A mark
+/// spares the evaluation of what lies before it. The source tells why it is refused; then some of the lines may have been appended.
 pub fn push_route_lines<V: Versions>(
     alloc: Global,
     source: &mut V,
     asked: &PlanAt<'_>,
     named: &NamedRoute,
     portion: Portion,
+    mark: Option<Mark>,
     rows: &mut Vec<String>,
 ) -> Result<RouteRest, Refusal>
     requires formed { is_well_formed asked.now.plan.now ≡ true }
     ensures gives { IfOk result (λ rest. (shown : SeenVersion) → V.shows source.old asked.now.version shown → LiesOnRoutes shown asked.now.plan.now
-        → names.get shown.routes named.now.name.bytes ≡ Some named.now.route
+        → names.get shown.routes named.now.name.bytes ≡ Some named.now.route → IfSome mark (IsMarked shown asked.now.plan.now named.now.route)
         → GivesPortion (lines_seen_on shown asked.now.plan.now asked.now.method (entry_of named.now)) portion (rows_of rows.old.items) (rows_of rows.new.items) rest) }
+    ensures marks { IfOk result (λ rest. (shown : SeenVersion) → V.shows source.old asked.now.version shown → LiesOnRoutes shown asked.now.plan.now
+        → names.get shown.routes named.now.name.bytes ≡ Some named.now.route → IfSome mark (IsMarked shown asked.now.plan.now named.now.route)
+        → IsMarked shown asked.now.plan.now named.now.route rest.mark × IsMarked shown asked.now.plan.now named.now.route rest.next) }
     ensures count { IfOk result (λ rest. vec_len rows.new ≡ vec_len rows.old + min portion.most (rest.all - portion.skip)) }
     ensures room { IfOk result (λ rest. room_of rest.ahead.items ≤ portion.ahead) }
     ensures ends { EndsWith V.Source source.old source.new result }
 {
-    let runs = runs_on(
-        alloc,
-        source,
-        asked.plan,
-        named.route.number(),
-        asked.version,
-    )?;
+    let found = runs_after(alloc, source, asked, named, mark, portion)?;
+    let of_found = Portion {
+        skip: portion.skip.saturating_sub(found.mark.before),
+        most: portion.most,
+        ahead: portion.ahead,
+    };
     let parts = RunParts {
-        wanted: portion_of(runs.as_slice(), portion),
-        after: rest_of(runs.as_slice(), portion),
+        wanted: portion_of(found.runs.as_slice(), of_found),
+        after: rest_of(found.runs.as_slice(), of_found),
         room: portion.ahead,
     };
     let ahead = push_shown(alloc, source, asked, named, &parts, rows)?;
+    let upto = of_found.skip.saturating_add(portion.most);
     Ok(RouteRest {
-        all: runs.len(),
+        all: found.mark.all,
+        mark: mark_before(&found, upto),
+        next: mark_before(&found, upto.saturating_add(ahead.len())),
         ahead,
     })
 }

@@ -2,11 +2,10 @@
 use Rattle.std.proofs.Common.{◌≡◌, ◌+◌, ◌-◌, ◌<◌, ◌≤◌, ℕ, inl, inr, List, Some, ◌++◌, ap, arith, drop, get_or, length, map, refl, subst, sym, take, ◌∙◌}
 use Rattle.std.proofs.lemmas.Option.{get_or_from_slice_get, slice_get_read, slice_get_within}
 use Rattle.std.proofs.lemmas.Bool.{cases_lt}
-use Rattle.std.proofs.lemmas.List.{drop-drop, drop-take, drop_all, take-take}
 use Rattle.std.specs.List.{slice_get}
 use Rattle.std.specs.FinMap as names
 use Rattle.rs_answers.proofs.NamedRoutes.{route-there}
-use Rattle.rs_answers.proofs.Starts.{start-taken}
+use Rattle.rs_answers.proofs.Starts.{start-drop, start-first}
 use Rattle.rs_answers.specs.Portions.{IsStart}
 use Rattle.rs_answers.specs.Routes.{entry_of}
 use Rattle.rs_answers.specs.Versions.{SeenVersion, lines_seen_on}
@@ -19,24 +18,6 @@ use Rattle.rs_facts.specs.Fact.{Name}
 use Rattle.rs_machine.specs.State.{RowText}
 use Rattle.rs_methods.specs.declared.position.Method.{Method}
 use Rattle.rs_plan.specs.declared.plan.Plan.{Plan}
-
--- ---- the first lines of a list
-
--- no more than there are
-start-first : {X : Type 0} (xs ys : List X) (n : ℕ) → n ≤ length xs → IsStart xs ys → take n xs ≡ take n ys
-start-first xs ys n few is = ap (take n) is ∙ take-take n (length xs) ys few
-
--- without the first of them they are the first lines after those
-start-drop : {X : Type 0} (xs ys : List X) (k first : ℕ) → IsStart xs (drop first ys) → IsStart (drop k xs) (drop (first + k) ys)
-start-drop xs ys k first is = elim (cases_lt (length xs) k) [
-  | inl past ↦ subst (λ l. IsStart l (drop (first + k) ys)) (sym (drop_all k xs (omega arith))) refl
-  | inr within ↦
-      let split : k + (length xs - k) ≡ length xs = omega arith in
-      start-taken (drop k xs) (drop (first + k) ys) (length xs - k)
-      (ap (drop k) (is ∙ ap (λ n. take n (drop first ys)) (sym split))
-      ∙ drop-take k (length xs - k) (drop first ys)
-      ∙ ap (take (length xs - k)) (drop-drop k first ys))
-]
 
 -- ---- the route at a place
 

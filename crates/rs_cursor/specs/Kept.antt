@@ -3,6 +3,7 @@ use Rattle.std.specs.Prelude.{◌≡◌, ◌+◌, ◌++◌, ◌<◌, ◌≤◌, 
 use Rattle.std.specs.FinMap as maps
 use Rattle.std.specs.List.{slice_get}
 use Rattle.rs_answers.specs.Portions.{IsStart}
+use Rattle.rs_answers.specs.Resumed.{IsMarked}
 use Rattle.rs_answers.specs.Routes.{entry_of}
 use Rattle.rs_answers.specs.Versions.{LiesOnRoutes, SeenVersion, lines_seen_on}
 use Rattle.rs_answers.specs.declared.routes.NamedRoute.{NamedRoute}
@@ -25,9 +26,12 @@ pub record AreLinesAt (seen : SeenVersion) (plan : Plan) (method : Method) (plac
   pub counts : all ≡ length (lines_seen_on seen plan method route)
   pub starts : IsStart lines (drop place.given (lines_seen_on seen plan method route))
 
--- lines that are kept are so: of a cursor they depend on the plan, the method and the version, and not on the place
-abbrev pub AreFormed : SeenVersion → Plan → Method → KeptLines → Type 0
-AreFormed seen plan method kept = AreLinesAt seen plan method (record { route = kept.route; given = kept.first }) kept.all (rows_of kept.lines.items)
+-- Lines that are kept are so, and the marks are of their route: of a cursor they depend on the plan, the method and the version, and not on
+-- the place.
+pub record AreFormed (seen : SeenVersion) (plan : Plan) (method : Method) (kept : KeptLines) : Type 0 where
+  pub at : AreLinesAt seen plan method (record { route = kept.route; given = kept.first }) kept.all (rows_of kept.lines.items)
+  pub marked : (on : Name × RouteItem) → slice_get (maps.entries seen.routes) kept.route ≡ Some on → IsMarked seen plan on.1 kept.mark
+  pub next : (on : Name × RouteItem) → slice_get (maps.entries seen.routes) kept.route ≡ Some on → IsMarked seen plan on.1 kept.next
 
 -- these are the routes of the version, and the lines are lines of one of them
 pub record AreListed (seen : SeenVersion) (plan : Plan) (method : Method) (routes : List NamedRoute) (lines : Option KeptLines) : Type 0 where
@@ -35,8 +39,9 @@ pub record AreListed (seen : SeenVersion) (plan : Plan) (method : Method) (route
   pub formed : IfSome lines (AreFormed seen plan method)
 
 -- what is kept is so, wherever the cursor is
-abbrev pub AreKept : SeenVersion → Plan → Method → KeptAhead → Type 0
-AreKept seen plan method kept = AreListed seen plan method kept.routes.items kept.lines
+pub record AreKept (seen : SeenVersion) (plan : Plan) (method : Method) (kept : KeptAhead) : Type 0 where
+  pub listed : IfSome kept.routes (λ routes. map entry_of routes.items ≡ maps.entries seen.routes)
+  pub formed : IfSome kept.lines (AreFormed seen plan method)
 
 -- the version shows this route, and in the order of names it is the one of this number
 pub record IsRouteAt (seen : SeenVersion) (number : ℕ) (named : NamedRoute) : Type 0 where

@@ -2,16 +2,18 @@
 //!
 //! They are found where they are kept, and copied.
 
-ghost use Rattle.std.specs.Prelude.{◌≡◌, ◌<◌, ◌≤◌, ◌+◌, ◌-◌, ◌++◌, drop, length, IfSome, OnOk, vec_len};
+ghost use Rattle.std.specs.Prelude.{◌≡◌, ◌<◌, ◌≤◌, ◌⊎◌, ◌+◌, ◌-◌, ◌++◌, [], drop, length, IfSome, OnOk, vec_len};
 ghost use Rattle.rs_answers.specs.Versions.{SeenVersion};
-ghost use Rattle.rs_cursor.specs.Kept.{AreFormed, AreLinesAt};
+ghost use Rattle.rs_cursor.specs.Ahead.{lines_in, lines_of};
+ghost use Rattle.rs_cursor.specs.Kept.{AreFormed, AreKept, AreLinesAt};
 ghost use Rattle.rs_methods.specs.declared.position.Method.{Method};
 ghost use Rattle.rs_plan.specs.declared.plan.Plan.{Plan};
 ghost use Rattle.rs_serve.specs.ReplyView.{rows_of};
 
-use crate::kept::KeptLines;
+use crate::kept::{KeptAhead, KeptLines};
 use crate::place::Place;
-use std::alloc::AllocError;
+use rs_answers::Mark;
+use std::alloc::{AllocError, Global};
 
 /// Lines that are kept of a route, from a place on.
 #[derive(Clone, Copy)]
@@ -56,6 +58,60 @@ impl KeptLines {
             all: self.all,
         })
     }
+}
+
+impl KeptLines {
+    /// The mark from which the lines from the place on may be evaluated, where it is on their route: the later of both, if it isn't past it.
+    pub(crate) fn mark_at(&self, place: Place) -> Option<Mark>
+        ensures route { IfSome result (λ mark. place.route ≡ self.now.route) }
+        ensures mark { IfSome result (λ mark. (mark ≡ self.now.mark) ⊎ (mark ≡ self.now.next)) }
+    {
+        if self.route != place.route {
+            return None;
+        }
+        if self.next.before as u64 <= place.given {
+            return Some(self.next);
+        }
+        Some(self.mark)
+    }
+}
+
+impl KeptAhead {
+    /// The same without routes and lines. The marks stay, so that lines are evaluated again from there.
+    pub fn bare(self, alloc: Global) -> KeptAhead
+        ensures bare { lines_of result ≡ [] }
+        ensures kept { (shown : SeenVersion) (plan : Plan) (method : Method) → AreKept shown plan method self → AreKept shown plan method result }
+    {
+        let KeptAhead { lines, .. } = self;
+        KeptAhead {
+            routes: None,
+            lines: bare_lines(alloc, lines),
+        }
+    }
+}
+
+/// None of the lines, and their marks.
+fn bare_lines(alloc: Global, lines: Option<KeptLines>) -> Option<KeptLines>
+    ensures bare { lines_in result ≡ [] }
+    ensures formed { (shown : SeenVersion) (plan : Plan) (method : Method) → IfSome lines (AreFormed shown plan method)
+        → IfSome result (AreFormed shown plan method) }
+{
+    let KeptLines {
+        route,
+        first,
+        all,
+        mark,
+        next,
+        ..
+    } = lines?;
+    Some(KeptLines {
+        route,
+        first,
+        all,
+        lines: Vec::new(alloc),
+        mark,
+        next,
+    })
 }
 
 /// Appends copies of lines. For want of memory some of them may have been appended.

@@ -3,10 +3,12 @@
 //! The plan is evaluated on one route after another, from the place on, until there are as many lines as are asked for. Routes that are
 //! kept spare their listing, and lines that are kept of a route its evaluation.
 
-ghost use Rattle.std.specs.Prelude.{◌≡◌, ◌+◌, ◌-◌, ◌<◌, ◌≤◌, ◌^◌, ℕ, drop, length, min, take, IfOk, IfSome, vec_len};
+ghost use Rattle.std.specs.Prelude.{◌≡◌, ◌+◌, ◌-◌, ◌<◌, ◌≤◌, ◌^◌, ℕ, drop, length, min, take, IfOk, IfSome, Some, vec_len};
+ghost use Rattle.rs_answers.specs.Resumed.{IsMarked};
 ghost use Rattle.rs_answers.specs.Versions.{LiesOnRoutes, SeenVersion};
+ghost use Rattle.rs_answers.specs.declared.routes.NamedRoute.{NamedRoute};
 ghost use Rattle.rs_cursor.specs.Held.{lines_left};
-ghost use Rattle.rs_cursor.specs.Kept.{AreFormed, AreKept, AreLinesAt, AreListed, GivesFrom, GivesLines, GivesWanted, GoesOn, IsStopOf};
+ghost use Rattle.rs_cursor.specs.Kept.{AreFormed, AreKept, AreLinesAt, AreListed, GivesFrom, GivesLines, GivesWanted, GoesOn, IsRouteAt, IsStopOf};
 ghost use Rattle.rs_cursor.specs.declared.cursor.Cursor.{Cursor};
 ghost use Rattle.rs_exec.specs.Leaving.{EndsWith};
 ghost use Rattle.rs_methods.specs.declared.position.Method.{Method};
@@ -17,7 +19,7 @@ use crate::cursor::Cursor;
 use crate::kept::{KEPT_BYTES, KeptAhead, KeptLines};
 use crate::kept_from::{KeptFrom, kept_at, push_copies};
 use crate::place::Place;
-use rs_answers::{NamedRoute, PlanAt, Portion, Versions, push_route_lines};
+use rs_answers::{Mark, NamedRoute, PlanAt, Portion, Versions, push_route_lines};
 use rs_machine::limits::ROUTES;
 use rs_refusal::Refusal;
 use std::alloc::{AllocError, Global};
@@ -76,24 +78,31 @@ fn listed<V: Versions>(
         → IfSome kept (AreKept shown plan method) → AreListed shown plan method both.0.items both.1) }
     ensures ends { EndsWith V.Source store.old store.new result }
 {
-    match kept {
-        Some(KeptAhead { routes, lines }) => Ok((routes, lines)),
+    let (routes, lines) = match kept {
+        Some(KeptAhead { routes, lines }) => (routes, lines),
+        None => (None, None),
+    };
+    match routes {
+        Some(routes) => Ok((routes, lines)),
         None => {
             let routes = store.routes_at(alloc, version)?;
-            Ok((routes, None))
+            Ok((routes, lines))
         }
     }
 }
 
 /// These routes and lines, to be kept; none where there are more routes than there may be.
 fn kept_ahead(routes: Vec<NamedRoute>, lines: Option<KeptLines>) -> Option<KeptAhead>
-    ensures routes { IfSome result (λ kept. kept.routes ≡ routes) }
+    ensures routes { IfSome result (λ kept. kept.routes ≡ Some routes) }
     ensures lines { IfSome result (λ kept. kept.lines ≡ lines) }
 {
     if routes.len() > ROUTES {
         return None;
     }
-    Some(KeptAhead { routes, lines })
+    Some(KeptAhead {
+        routes: Some(routes),
+        lines,
+    })
 }
 
 /// The next lines of a cursor, so many or as many as are left, on the routes of its version. The store tells why they are refused.
@@ -206,8 +215,8 @@ fn push_kept(
     Ok(place_after(place, part.len(), from.all))
 }
 
-/// Evaluates a route and appends its lines from a place on, no more than are wanted. Lines after them are kept in place of others.
-/// Answers the place after those that were appended.
+/// Evaluates a route, from a mark on where one of it is kept, and appends its lines from a place on, no more than are wanted. Lines after
+/// them are kept in place of others. Answers the place after those that were appended.
 fn push_formed<V: Versions>(
     alloc: Global,
     store: &mut V,
@@ -218,13 +227,14 @@ fn push_formed<V: Versions>(
 ) -> Result<Place, Refusal>
     requires next { stop.now.place.route + 1 < 2 ^ 32 }
     requires some { 0 < stop.now.most }
-    ensures gives { IfOk result (λ to. GivesLines (IsStopOf (V.shows store.old) cursor.now stop.now.place stop.now.named.now)
-        cursor.now stop.now.place to (rows_of lines.old.items) (rows_of lines.new.items)) }
+    ensures gives { IfOk result (λ to. GivesLines (λ shown. IsStopOf (V.shows store.old) cursor.now stop.now.place stop.now.named.now shown
+        × IfSome kept.old (AreFormed shown cursor.now.plan cursor.now.method)) cursor.now stop.now.place to (rows_of lines.old.items) (rows_of lines.new.items)) }
     ensures keeps { (shown : SeenVersion) → IsStopOf (V.shows store.old) cursor.now stop.now.place stop.now.named.now shown
-        → IfSome kept.new (AreFormed shown cursor.now.plan cursor.now.method) }
+        → IfSome kept.old (AreFormed shown cursor.now.plan cursor.now.method) → IfSome kept.new (AreFormed shown cursor.now.plan cursor.now.method) }
     ensures goes_on { IfOk result (λ to. GoesOn stop.now.place to stop.now.most (vec_len lines.old) (vec_len lines.new)) }
     ensures ends { EndsWith V.Source store.old store.new result }
 {
+    let mark = mark_on(kept, stop.place);
     *kept = None;
     let asked = PlanAt {
         plan: &cursor.plan,
@@ -236,7 +246,7 @@ fn push_formed<V: Versions>(
         most: stop.most,
         ahead: KEPT_BYTES,
     };
-    let rest = push_route_lines(alloc, store, &asked, stop.named, portion, lines)?;
+    let rest = push_route_lines(alloc, store, &asked, stop.named, portion, mark, lines)?;
     let all = rest.all as u64;
     let to = place_after(stop.place, stop.most, all);
     if to.route == stop.place.route {
@@ -245,9 +255,22 @@ fn push_formed<V: Versions>(
             first: to.given,
             all,
             lines: rest.ahead,
+            mark: rest.mark,
+            next: rest.next,
         });
     }
     Ok(to)
+}
+
+/// The mark that is kept of the route at this place, if one is.
+fn mark_on(kept: &Option<KeptLines>, place: Place) -> Option<Mark>
+    ensures { IfSome result (λ mark. (shown : SeenVersion) (plan : Plan) (method : Method) (named : NamedRoute) → IsRouteAt shown place.route named
+        → IfSome kept.now (AreFormed shown plan method) → IsMarked shown plan named.route mark) }
+{
+    match kept {
+        Some(one) => one.mark_at(place),
+        None => None,
+    }
 }
 
 /// How many routes there are, or 4,294,967,295 where there are more: a store shows far fewer.

@@ -18,7 +18,7 @@ use Rattle.rs_engine.specs.Clearing.{ByClose, IsServedClearing}
 use Rattle.rs_engine.specs.Giving.{GivesNext}
 use Rattle.rs_engine.specs.Kept.{AreLive, EngineState, IsLive, IsMachine, seen_at, with_cursors}
 use Rattle.rs_engine.specs.Reads.{ReadsCursor, WantsRead}
-use Rattle.rs_engine.specs.Ahead.{AreAhead, IsOf}
+use Rattle.rs_engine.specs.Ahead.{AreAhead, IsAmong, IsOf}
 use Rattle.rs_engine.specs.declared.engine.ahead.Ahead.{Ahead}
 use Rattle.rs_engine.specs.declared.engine.ahead.LinesAhead.{LinesAhead}
 use Rattle.rs_engine.specs.declared.engine.open.OpenCursors.{OpenCursors}
@@ -168,7 +168,7 @@ module _ {D : Type 0} (d : disk.Ghosts D) where
           → lines_left (seen_at is.stands.contents) cursor ≡ all
           → cursor_opened machine.state session name query method ≡ Ok (counted 0 (with_cursor machine.state session name all))
           → held_of now ≡ held_at session (names.insert (held_of old.cursors.held session) name cursor) (held_of old.cursors.held)
-          → ((one : Ahead) → Contains left.slots.items one → Contains old.cursors.ahead.slots.items one) → ((one : Ahead) → Contains left.slots.items one → IsOf session name one → ⊥)
+          → ((one : Ahead) → IsAmong left one → IsAmong old.cursors.ahead one) → ((one : Ahead) → IsAmong left one → IsOf session name one → ⊥)
           → IsServed d (cursor_opened machine.state session name query method) machine (done [] 0) (record { store = old.store; oldest = old.oldest; cursors = record { held = now; ahead = left } })
       opened now left cursor all version lies are accepted put others none =
           let cursors : OpenCursors = record { held = now; ahead = left } in
@@ -213,7 +213,7 @@ module _ {D : Type 0} (d : disk.Ghosts D) where
             moves gives.cursor (at_read session name ∙ gives.there)
             ∙ ap (λ (held : HeldCursors). held_at session (names.insert (held_of held session) name moved) (held_of held)) reads.held in
             let it = is.live.each session name gives.cursor gives.there in
-            let still_kept = λ (ahead : Ahead) (there : Contains new.cursors.ahead.slots.items ahead). subst (λ (a : LinesAhead). Contains a.slots.items ahead) beside there in
+            let still_kept = λ (ahead : Ahead) (there : IsAmong new.cursors.ahead ahead). subst (λ (a : LinesAhead). IsAmong a ahead) beside there in
             let cases = λ (other : ℕ) (called : Name) (found : Cursor) (there : names.get (held_of new.cursors.held other) called ≡ Some found).
             cases_put (held_of old.cursors.held) session name moved other called found (ap (λ (held : ℕ → Names Cursor). names.get (held other) called) (sym put) ∙ there) in
             let live : AreLive old.oldest old.store.file.accepted versions new.cursors = record {
@@ -259,7 +259,7 @@ module _ {D : Type 0} (d : disk.Ghosts D) where
       pub closed : has (cursors_by (lines_left (seen_at is.stands.contents)) old.cursors.held session) name ≡ true → (oldest gone : ℕ)
           → IsOldest (held_at session (names.remove (held_of old.cursors.held session) name) (held_of old.cursors.held)) old.store.file.accepted oldest
           → (old.oldest ≤ oldest → oldest ≤ old.store.file.accepted → HasReleased d oldest gone is.stands.contents new.store is.state) → LeavesReleased d {T = ℕ} (Ok gone) old.store new.store
-          → new.oldest ≡ oldest → ((one : Ahead) → Contains new.cursors.ahead.slots.items one → Contains old.cursors.ahead.slots.items one) → held_of new.cursors.held ≡ held_at session (names.remove (held_of old.cursors.held session) name) (held_of old.cursors.held)
+          → new.oldest ≡ oldest → ((one : Ahead) → IsAmong new.cursors.ahead one → IsAmong old.cursors.ahead one) → held_of new.cursors.held ≡ held_at session (names.remove (held_of old.cursors.held session) name) (held_of old.cursors.held)
           → IsServedClearing d ByClose (cursor_closed machine.state session name) machine is.stands.contents (done [] 0) new
       closed there oldest gone least releases leaves lowest others left =
           let held : ℕ → Names Cursor = held_of old.cursors.held in

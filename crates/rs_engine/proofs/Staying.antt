@@ -9,6 +9,7 @@ use Rattle.rs_cursor.specs.Held.{HeldCursors, held_at, held_of}
 use Rattle.rs_cursor.specs.declared.cursor.Cursor.{Cursor}
 use Rattle.rs_cursor.specs.declared.place.Place.{Place}
 use Rattle.rs_disk.specs.declared.disk.Disk as disk
+use Rattle.rs_engine.specs.Ahead.{IsEmpty}
 use Rattle.rs_engine.specs.Clearing.{WhereDone}
 use Rattle.rs_engine.specs.Kept.{EngineState}
 use Rattle.rs_engine.specs.Reads.{ReadsCursor, ReadsEngine}
@@ -237,7 +238,7 @@ module _ {D : Type 0} (d : disk.Ghosts D) where
 
     -- the cursor has come
     pub open_opens : (engine : EngineState D) (held : HeldCursors) (ahead : LinesAhead) (cursor : Cursor) → cursor.method ≡ method → cursor.version ≡ engine.store.file.accepted
-        → (cursor.place.route ≡ 0) × (cursor.place.given ≡ 0) → ahead.slots.items ≡ []
+        → (cursor.place.route ≡ 0) × (cursor.place.given ≡ 0) → IsEmpty ahead
         → held_of held ≡ held_at session (names.insert (held_of engine.cursors.held session) name cursor) (held_of engine.cursors.held)
         → StaysOnAnyDisk d session (tree.open_cursor name query method) (done [] 0) engine (record { store = engine.store; oldest = engine.oldest; cursors = record { held = held; ahead = ahead } })
     open_opens engine held ahead cursor printed version start none put = record {

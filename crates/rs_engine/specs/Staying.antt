@@ -1,11 +1,12 @@
 -- What a step leaves as it was, whatever its disk gives back: no premise on the disk stands here.
-use Rattle.std.specs.Prelude.{◌≡◌, ℕ, [], OnErr, Result, Some}
+use Rattle.std.specs.Prelude.{◌≡◌, ℕ, OnErr, Result, Some}
 use Rattle.std.specs.FinMap as names
 use Rattle.rs_catalog.specs.Referents.{referents_on}
 use Rattle.rs_cursor.specs.Held.{held_at, held_of}
 use Rattle.rs_cursor.specs.declared.cursor.Cursor.{Cursor}
 use Rattle.rs_cursor.specs.declared.place.Place.{Place}
 use Rattle.rs_disk.specs.declared.disk.Disk as disk
+use Rattle.rs_engine.specs.Ahead.{IsEmpty}
 use Rattle.rs_engine.specs.Clearing.{WhereDone}
 use Rattle.rs_engine.specs.Kept.{EngineState}
 use Rattle.rs_facts.specs.Fact.{Name}
@@ -25,8 +26,8 @@ pub record HasCursor {D : Type 0} (session : ℕ) (name : Name) (engine : Engine
   pub cursor : Cursor
   pub there : names.get (held_of engine.cursors.held session) name ≡ Some cursor
 
--- one cursor has come, of this session and name: it looks at the version that was accepted last, and has given nothing. No lines are
--- kept ahead, of it or of others
+-- one cursor has come, of this session and name: it looks at the version that was accepted last, and has given nothing. Nothing is kept
+-- ahead, of it or of others
 pub record HasOpened {D : Type 0} (session : ℕ) (name : Name) (method : Method) (old new : EngineState D) : Type 0 where
   pub cursor : Cursor
   pub method_is : cursor.method ≡ method
@@ -34,7 +35,7 @@ pub record HasOpened {D : Type 0} (session : ℕ) (name : Name) (method : Method
   pub route : cursor.place.route ≡ 0
   pub given : cursor.place.given ≡ 0
   pub held : held_of new.cursors.held ≡ held_at session (names.insert (held_of old.cursors.held session) name cursor) (held_of old.cursors.held)
-  pub none_ahead : new.cursors.ahead.slots.items ≡ []
+  pub none_ahead : IsEmpty new.cursors.ahead
 
 -- one cursor, of this session and name, is at a place; its plan, its method and its version are what they were
 pub record HasMoved {D : Type 0} (session : ℕ) (name : Name) (old new : EngineState D) : Type 0 where

@@ -2,7 +2,8 @@
 //!
 //! Nothing rests on it: without it routes are listed and the cursor's route is evaluated again.
 
-ghost use Rattle.std.specs.Prelude.{◌≤◌, ◌+◌, ◌^◌, string_capacity, sum_by, vec_len};
+ghost use Rattle.std.specs.Prelude.{◌≡◌, ◌≤◌, ◌+◌, ◌^◌, [], string_capacity, sum_by, vec_len};
+ghost use Rattle.std.specs.List.{AllByRecursion};
 ghost use Rattle.rs_cursor.specs.Ahead.{lines_of};
 ghost use Rattle.rs_engine.specs.declared.engine.ahead.TheConstants.{SLOTS};
 
@@ -14,11 +15,13 @@ use rs_serve::Session;
 /// them the routes of each one's version are kept.
 pub(crate) const SLOTS: usize = 4;
 
-/// Lines that some cursors give next, those that were put last at the end.
+/// Lines that some cursors give next, and of others a mark from which their lines may be evaluated; those that were put last at the end.
 #[derive(Drop)]
 pub struct LinesAhead {
     pub(crate) slots: Vec<Ahead>,
+    pub(crate) marks: Vec<Ahead>,
     ghost few: { vec_len slots ≤ SLOTS },
+    ghost bare: { AllByRecursion (λ one. lines_of one.kept ≡ []) marks.items },
 }
 
 /// What is kept of the cursor of this name of this session, the lines among it that it gives next.
@@ -29,7 +32,9 @@ pub struct Ahead {
     pub(crate) kept: KeptAhead,
 }
 
-/// Lines that are kept ahead take no more than 16 megabytes in all: the room of each text, and 48 bytes beside it.
+/// Lines that are kept ahead take no more than 16 megabytes in all: the room of each text, and 48 bytes beside it. Of the cursors of which a
+/// mark alone is kept there are none.
 pub fn lines_ahead_take_at_most_16_megabytes(ahead: &LinesAhead)
-    ensures { sum_by (λ one. sum_by (λ line. string_capacity line + 48) (lines_of one.kept)) ahead.now.slots.items ≤ 2 ^ 24 }
+    ensures lines { sum_by (λ one. sum_by (λ line. string_capacity line + 48) (lines_of one.kept)) ahead.now.slots.items ≤ 2 ^ 24 }
+    ensures none { AllByRecursion (λ one. lines_of one.kept ≡ []) ahead.now.marks.items }
 {}

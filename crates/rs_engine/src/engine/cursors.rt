@@ -172,7 +172,7 @@ impl<D: Disk> Engine<D> {
         };
         let mut kept = self.cursors.ahead.take(session, name);
         let next = next_lines(self.alloc, &mut self.live, cursor, rows, &mut kept);
-        self.cursors.ahead.put(session, name, kept);
+        self.cursors.ahead.put(self.alloc, session, name, kept);
         next
     }
 }

@@ -1,11 +1,16 @@
-//! Of which cursors routes and lines are kept ahead.
+//! Of which cursors routes and lines are kept ahead, and of which a mark alone.
 //!
-//! It promises that what is taken is what was put for the cursor.
+//! It promises that what is taken is what was put for the cursor, or its mark.
 
 ghost use Rattle.std.specs.Prelude.{◌≡◌, ◌<◌, ◌⊎◌, [], Contains, IfSome, length, slice_index_or};
 ghost use Rattle.std.specs.Bool.{Decides};
-ghost use Rattle.rs_engine.specs.Ahead.{IsAheadOf, IsNewest, IsOf};
+ghost use Rattle.rs_engine.specs.Ahead.{IsAheadOf, IsAmong, IsEmpty, IsLessOf, IsNewest, IsOf};
 ghost use Rattle.rs_engine.specs.declared.engine.ahead.Ahead.{Ahead};
+ghost use Rattle.rs_answers.specs.Versions.{SeenVersion};
+ghost use Rattle.rs_cursor.specs.Ahead.{lines_of};
+ghost use Rattle.rs_cursor.specs.Kept.{AreKept};
+ghost use Rattle.rs_methods.specs.declared.position.Method.{Method};
+ghost use Rattle.rs_plan.specs.declared.plan.Plan.{Plan};
 
 use crate::engine::ahead::{Ahead, LinesAhead, SLOTS};
 use rs_cursor::kept::KeptAhead;
@@ -16,33 +21,46 @@ use std::alloc::Global;
 impl LinesAhead {
     /// Nothing. It takes no memory.
     pub(crate) fn new(alloc: Global) -> LinesAhead
-        ensures { result.slots.items ≡ [] }
+        ensures { IsEmpty result }
     {
         LinesAhead {
             slots: Vec::new(alloc),
+            marks: Vec::new(alloc),
         }
     }
 
     /// Takes what is kept of this cursor, if anything is.
     pub(crate) fn take(&mut self, session: Session, name: &Name) -> Option<KeptAhead>
-        ensures kept { IfSome result (IsAheadOf session name.now.bytes self.old.slots.items) }
-        ensures others { (one : Ahead) → Contains self.new.slots.items one → Contains self.old.slots.items one }
+        ensures kept { IfSome result (IsAheadOf session name.now.bytes self.old) }
+        ensures others { (one : Ahead) → IsAmong self.new one → IsAmong self.old one }
     {
-        let place = place_of(&self.slots, session, name)?;
-        let one = self.slots.remove(place);
+        if let Some(place) = place_of(&self.slots, session, name) {
+            let one = self.slots.remove(place);
+            return Some(one.kept);
+        }
+        let place = place_of(&self.marks, session, name)?;
+        let one = self.marks.remove(place);
         Some(one.kept)
     }
 
-    /// Keeps this of the cursor, if there is anything. Where something of four cursors is kept, what was put first goes. Where memory is
-    /// wanting, nothing of this cursor is kept.
-    pub(crate) fn put(&mut self, session: Session, name: &Name, kept: Option<KeptAhead>)
-        ensures { (one : Ahead) → Contains self.new.slots.items one → Contains self.old.slots.items one ⊎ IsNewest session name.now.bytes kept one }
+    /// Keeps this of the cursor, if there is anything. Where lines of four cursors are kept, those that were put first go, and their mark
+    /// alone stays. Where memory is wanting, nothing of this cursor is kept.
+    pub(crate) fn put(
+        &mut self,
+        alloc: Global,
+        session: Session,
+        name: &Name,
+        kept: Option<KeptAhead>,
+    )
+        ensures { (one : Ahead) → IsAmong self.new one
+            → IsAmong self.old one ⊎ IsLessOf self.old one ⊎ IsNewest session name.now.bytes kept one }
     {
         let Some(kept) = kept else {
             return;
         };
         if self.slots.len() == SLOTS {
-            let _oldest = self.slots.remove(0);
+            let oldest = self.slots.remove(0);
+            let _is_kept = self.marks.push(oldest.bare(alloc));
         }
         let _is_kept = self.slots.push(Ahead {
             session,
@@ -53,20 +71,34 @@ impl LinesAhead {
 
     /// Drops what is kept of this cursor.
     pub(crate) fn forget(&mut self, session: Session, name: &Name)
-        ensures { (one : Ahead) → Contains self.new.slots.items one → Contains self.old.slots.items one }
+        ensures { (one : Ahead) → IsAmong self.new one → IsAmong self.old one }
     {
         let _kept = self.take(session, name);
     }
 
     /// Drops all.
     pub(crate) fn clear(&mut self)
-        ensures { self.new.slots.items ≡ [] }
+        ensures { IsEmpty self.new }
     {
         self.slots.clear();
+        self.marks.clear();
     }
 }
 
 impl Ahead {
+    /// The same without routes and lines.
+    fn bare(self, alloc: Global) -> Ahead
+        ensures of { IsOf self.session self.name.bytes result }
+        ensures bare { lines_of result.kept ≡ [] }
+        ensures kept { (seen : SeenVersion) (plan : Plan) (method : Method) → AreKept seen plan method self.kept → AreKept seen plan method result.kept }
+    {
+        Ahead {
+            session: self.session,
+            name: self.name,
+            kept: self.kept.bare(alloc),
+        }
+    }
+
     /// Whether this is kept of this cursor.
     fn is_of(&self, session: Session, name: &Name) -> bool
         ensures { Decides result (IsOf session name.now.bytes self.now) }

@@ -23,7 +23,7 @@ found-at kept one is place (Some from) same past all lines = λ shown plan metho
     subst (λ n. AreLinesAt shown plan method place n (rows_of from.lines.now)) (sym all)
     (subst (λ (l : List RowText). AreLinesAt shown plan method place one.all l) left
     (kept-later shown plan method (record { route = one.route; given = one.first }) place one.all (rows_of one.lines.items) same past
-    (subst (λ (o : Option KeptLines). IfSome o (AreFormed shown plan method)) is are)))
+    (subst (λ (o : Option KeptLines). IfSome o (AreFormed shown plan method)) is are).at))
 
 pub returns-in-Some-clause-lines : goal.returns-in-Some-clause-lines
 returns-in-Some-clause-lines c =

@@ -69,7 +69,7 @@ returns g c =
           (opened d c.accepted_step_leaves_the_state_lawful.ensures c.args.self.now machine is c.args.session c.session_is_in_range.ensures name query c.args.method c.requires.sound now c.clear.new.self cursor
           (lines_of machine.state (query_of c.in_ok-checked.checked.query) c.args.method) c.in_ok-cursor.ensures.version (c.in_ok-cursor.ensures.lies machine is) (c.in_ok-cursor.ensures.lines machine is)
           (c.in_ok-checked.ensures.accepted machine is) put
-          (λ one kept. absurd (none_kept c.clear.new.self.slots.items c.clear.ensures one kept)) (λ one kept of. none_kept c.clear.new.self.slots.items c.clear.ensures one kept));
+          (λ one kept. absurd (none_kept c.clear.new.self c.clear.ensures one kept)) (λ one kept of. none_kept c.clear.new.self c.clear.ensures one kept));
       stays = subst (λ (e : EngineState g.row.D.Denot).
           StaysOnAnyDisk d c.args.session (tree.open_cursor name query c.args.method) (done [] 0) c.args.self.now (engine_with e.store e.oldest (record { held = now; ahead = c.clear.new.self }))) (sym c.self.view_is)
           (open_opens d c.args.session name query c.args.method c.args.self.now now c.clear.new.self cursor c.in_ok-cursor.ensures.method c.in_ok-cursor.ensures.version c.in_ok-cursor.ensures.start c.clear.ensures put);
