@@ -1,5 +1,5 @@
 -- Marks at runs that were found.
-use Rattle.std.proofs.Common.{◌≡◌, ℕ, zero, suc, ◌+◌, ◌-◌, ◌<◌, ◌≤◌, Less, List, [], ◌∷◌, ◌++◌, length, get_or, map, nat_lt, true, false, take, drop, sym, ap, ◌∙◌, subst, arith}
+use Rattle.std.proofs.Common.{◌≡◌, ℕ, zero, suc, ◌+◌, ◌-◌, ◌<◌, ◌≤◌, Less, List, [], ◌∷◌, length, get_or, map, nat_lt, true, false, take, drop, sym, ap, ◌∙◌, subst, arith}
 use Rattle.std.proofs.lemmas.List.{take-append-drop, get_or-take, get_or-map, length-take, length-map, drop-map, take-map, take_all, take_more, drop-take}
 use Rattle.std.proofs.lemmas.List.Elements.{All-from_recursion}
 use Rattle.std.specs.List.{AllByRecursion}

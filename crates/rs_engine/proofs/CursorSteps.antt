@@ -3,7 +3,7 @@ use Rattle.std.proofs.Common.{◌≡◌, ◌∙◌, ◌⊎◌, ◌≤◌, ◌<�
 use Rattle.std.proofs.lemmas.List.{length-map}
 use Rattle.std.specs.FinMap as names
 use Rattle.std.specs.Option.{option_map}
-use Rattle.std.specs.Prelude.{Contains, IfOk, is_some, string_bytes}
+use Rattle.std.specs.Prelude.{IfOk, is_some, string_bytes}
 use Rattle.rs_answers.specs.Versions.{LiesOnRoutes, SeenVersion}
 use Rattle.rs_cursor.specs.Held.{HeldCursors, IsOldest, cursors_by, held_at, held_of, lines_left}
 use Rattle.rs_cursor.specs.Kept.{AreKept}

@@ -2,9 +2,9 @@
 //!
 //! Nothing rests on it: without it routes are listed and the cursor's route is evaluated again.
 
-ghost use Rattle.std.specs.Prelude.{◌≡◌, ◌≤◌, ◌+◌, ◌^◌, [], string_capacity, sum_by, vec_len};
-ghost use Rattle.std.specs.List.{AllByRecursion};
+ghost use Rattle.std.specs.Prelude.{◌≡◌, ◌≤◌, ◌+◌, ◌^◌, Contains, length, string_capacity, sum_by, vec_len};
 ghost use Rattle.rs_cursor.specs.Ahead.{lines_of};
+ghost use Rattle.rs_engine.specs.declared.engine.ahead.Ahead.{Ahead};
 ghost use Rattle.rs_engine.specs.declared.engine.ahead.TheConstants.{SLOTS};
 
 use rs_cursor::kept::KeptAhead;
@@ -21,7 +21,7 @@ pub struct LinesAhead {
     pub(crate) slots: Vec<Ahead>,
     pub(crate) marks: Vec<Ahead>,
     ghost few: { vec_len slots ≤ SLOTS },
-    ghost bare: { AllByRecursion (λ one. lines_of one.kept ≡ []) marks.items },
+    ghost bare: { (one : Ahead) → Contains marks.items one → length (lines_of one.kept) ≡ 0 },
 }
 
 /// What is kept of the cursor of this name of this session, the lines among it that it gives next.
@@ -36,5 +36,5 @@ pub struct Ahead {
 /// mark alone is kept there are none.
 pub fn lines_ahead_take_at_most_16_megabytes(ahead: &LinesAhead)
     ensures lines { sum_by (λ one. sum_by (λ line. string_capacity line + 48) (lines_of one.kept)) ahead.now.slots.items ≤ 2 ^ 24 }
-    ensures none { AllByRecursion (λ one. lines_of one.kept ≡ []) ahead.now.marks.items }
+    ensures none { (one : Ahead) → Contains ahead.now.marks.items one → length (lines_of one.kept) ≡ 0 }
 {}

@@ -2,7 +2,7 @@
 //!
 //! It promises that what is taken is what was put for the cursor, or its mark.
 
-ghost use Rattle.std.specs.Prelude.{◌≡◌, ◌<◌, ◌⊎◌, [], Contains, IfSome, length, slice_index_or};
+ghost use Rattle.std.specs.Prelude.{◌≡◌, ◌<◌, ◌≤◌, ◌+◌, ◌⊎◌, Contains, IfSome, length, slice_index_or, vec_len};
 ghost use Rattle.std.specs.Bool.{Decides};
 ghost use Rattle.rs_engine.specs.Ahead.{IsAheadOf, IsAmong, IsEmpty, IsLessOf, IsNewest, IsOf};
 ghost use Rattle.rs_engine.specs.declared.engine.ahead.Ahead.{Ahead};
@@ -58,15 +58,27 @@ impl LinesAhead {
         let Some(kept) = kept else {
             return;
         };
-        if self.slots.len() == SLOTS {
-            let oldest = self.slots.remove(0);
-            let _is_kept = self.marks.push(oldest.bare(alloc));
+        self.make_room(alloc);
+        push_one(
+            &mut self.slots,
+            Ahead {
+                session,
+                name: *name,
+                kept,
+            },
+        );
+    }
+
+    /// Where lines of four cursors are kept, those that were put first go, and their mark stays.
+    fn make_room(&mut self, alloc: Global)
+        ensures room { vec_len self.new.slots < SLOTS }
+        ensures kept { (one : Ahead) → IsAmong self.new one → IsAmong self.old one ⊎ IsLessOf self.old one }
+    {
+        if self.slots.len() < SLOTS {
+            return;
         }
-        let _is_kept = self.slots.push(Ahead {
-            session,
-            name: *name,
-            kept,
-        });
+        let oldest = take_first(&mut self.slots);
+        push_one(&mut self.marks, oldest.bare(alloc));
     }
 
     /// Drops what is kept of this cursor.
@@ -89,7 +101,7 @@ impl Ahead {
     /// The same without routes and lines.
     fn bare(self, alloc: Global) -> Ahead
         ensures of { IsOf self.session self.name.bytes result }
-        ensures bare { lines_of result.kept ≡ [] }
+        ensures bare { length (lines_of result.kept) ≡ 0 }
         ensures kept { (seen : SeenVersion) (plan : Plan) (method : Method) → AreKept seen plan method self.kept → AreKept seen plan method result.kept }
     {
         Ahead {
@@ -105,6 +117,24 @@ impl Ahead {
     {
         self.session == session && self.name.as_str() == name.as_str()
     }
+}
+
+/// Takes the first of a list.
+fn take_first(list: &mut Vec<Ahead>) -> Ahead
+    requires { 0 < vec_len list.old }
+    ensures was { Contains list.old.items result }
+    ensures others { (other : Ahead) → Contains list.new.items other → Contains list.old.items other }
+    ensures len { vec_len list.new + 1 ≡ vec_len list.old }
+{
+    list.remove(0)
+}
+
+/// Puts one at the end of a list. Where memory is wanting, the list stays as it was.
+fn push_one(list: &mut Vec<Ahead>, one: Ahead)
+    ensures others { (other : Ahead) → Contains list.new.items other → Contains list.old.items other ⊎ (other ≡ one) }
+    ensures len { vec_len list.new ≤ vec_len list.old + 1 }
+{
+    let _is_kept = list.push(one);
 }
 
 /// Where something of this cursor is kept, if anything is.

@@ -21,8 +21,8 @@ all_below slots = sum_by-le room 4194304 slots (λ k one within. room_below (sli
 of_four : (total count : ℕ) → total ≤ count * 4194304 → count ≤ 4 → total ≤ 2 ^ 24
 of_four total count most few = omega (arith, most, few)
 
-pub returns : goal.returns
-returns c =
+pub returns-clause-lines : goal.returns-clause-lines
+returns-clause-lines c =
     let slots = c.args.ahead.now.slots in
     let few : length slots.items ≤ 4 = omega (arith, slots.ok.0, c.args.ahead.now.few) in
     of_four _ (length slots.items) (all_below slots.items) few
