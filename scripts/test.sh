@@ -1,11 +1,11 @@
 #!/usr/bin/env bash
 # The gate: the kit's `rt ci` proves every crate, tries the must-fail edits and runs the tests and the programs. The lists
 # of docs/MODEL.md are compared with the specs. Then the programs that it built hold the conversations, answer
-# pseudo-random lines beside the slow machine, are run on files of all sorts, for peers over TCP and by the client in
-# Python, say what they hold in memory, make CSV into lines, dump files as lines, open files beside the slow reader of
-# files, and have their growths and the calls of their file refused in turn. Last they meet damaged files, disks that lie,
-# lines of all forms, many peers, little room and crashes: power cuts at each moment of a log, stops, faults and kills.
-# The judge of what a crash leaves is tried before on faults that are planted in a checkpoint in Python.
+# pseudo-random lines beside the slow machine, give long reports in parts, are run on files of all sorts, for peers over TCP
+# and by the client in Python, say what they hold in memory, make CSV into lines, dump files as lines, open files beside the
+# slow reader of files, and have their growths and the calls of their file refused in turn. Last they meet damaged files,
+# disks that lie, lines of all forms, many peers, little room and crashes: power cuts at each moment of a log, stops, faults
+# and kills. The judge of what a crash leaves is tried before on faults that are planted in a checkpoint in Python.
 set -eu
 cd "$(dirname "$0")/.."
 # each check by one process: several for one check take a fifth more of the processors
@@ -20,6 +20,7 @@ python3 scripts/model_lists.py
 python3 tests/conversations.py
 python3 tests/compare.py
 python3 tests/compare_cursors.py
+python3 tests/cursors_in_turn.py
 python3 tests/files_and_peers.py
 python3 tests/room.py
 python3 tests/clients.py
