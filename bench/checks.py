@@ -13,6 +13,9 @@ from operators import Live
 from records import ROUTES, beside_sqlite
 
 
+INDEXES = ["0 DEFINE INDEX by_one ON event (one)", "0 DEFINE INDEX by_two ON event (two)"]
+
+
 def lines_of(size):
     """The lines that make the spans."""
     on_route = max(size // ROUTES, 1)
@@ -39,7 +42,7 @@ def main():
         live = Live(words.program)
         told(live, lines_of(size))
         plain = checked(live, words.rounds)
-        told(live, ["0 DEFINE INDEX by_one ON event (one)", "0 DEFINE INDEX by_two ON event (two)"])
+        told(live, INDEXES)
         indexed = checked(live, words.rounds)
         live.end()
         for name, ours, theirs in zip(("without indexes", "with two indexes"), (plain, indexed), beside_sqlite(size, words.rounds)):

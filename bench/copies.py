@@ -10,10 +10,9 @@ import tempfile
 from contextlib import contextmanager
 from typing import NamedTuple
 
-from measuring import ROOT, parser_of
+from measuring import COLLECTED, ROOT, parser_of
 
 FIELD = re.compile(r"(\w+)=(\d+)")
-COLLECTED = re.compile(r"Collected : (\d+)")
 
 
 class Bench(NamedTuple):

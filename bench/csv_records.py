@@ -16,11 +16,11 @@ DEFINE = "DEFINE LINE TABLE pavement (surface TEXT(12), year INT)"
 ROUTES, STRETCHES, ROUNDS = 400, 250, 5
 
 
-def csv_text():
-    """The records, with their header."""
+def csv_text(stretches=STRETCHES):
+    """The records, so many stretches on each route, with their header."""
     lines = ["route,from,to,surface,year"]
     for route in range(1, ROUTES + 1):
-        for place in range(STRETCHES):
+        for place in range(stretches):
             surface = ("asphalt", "concrete", "", '"chip, seal"')[place % 4]
             lines.append("SR%d,%d.125,%d.125,%s,%d" % (route, place, place + 1, surface, 1990 + place % 30))
     return "\n".join(lines) + "\n"

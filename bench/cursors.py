@@ -29,11 +29,11 @@ def ask(live, lines):
 
 
 def report_of(spans, rows, cursors):
-    """The lines that fetch all rows by each of the cursors, in turn."""
+    """The lines that fetch all rows by each of the cursors, which are a session and a name, in turn."""
     fetches = -(-spans // rows)
-    lines = ["0 OPEN %s FOR sections" % cursor for cursor in cursors]
-    lines += ["0 FETCH %s %d" % (cursor, rows) for _ in range(fetches) for cursor in cursors]
-    return lines + ["0 CLOSE %s" % cursor for cursor in cursors]
+    lines = ["%d OPEN %s FOR sections" % cursor for cursor in cursors]
+    lines += ["%d FETCH %s %d" % (*cursor, rows) for _ in range(fetches) for cursor in cursors]
+    return lines + ["%d CLOSE %s" % cursor for cursor in cursors]
 
 
 def main():
@@ -44,8 +44,8 @@ def main():
     ask(live, lines_of(words.spans))
     asked = {
         "SELECT of all": ["0 SELECT sections"],
-        "one cursor": report_of(words.spans, words.fetch, ["c"]),
-        "two cursors in turn": report_of(words.spans, words.fetch, ["c", "d"]),
+        "one cursor": report_of(words.spans, words.fetch, [(0, "c")]),
+        "two cursors in turn": report_of(words.spans, words.fetch, [(0, "c"), (0, "d")]),
     }
     if words.alone:
         del asked["two cursors in turn"]

@@ -26,6 +26,7 @@ from measuring import PROGRAM, exponent_of, parser_of
 SAVED = 200
 WINDOW = "a new process, one window"
 ASKED = "R%d" % 7  # a route of the load
+WINDOW_LINE = "0 SELECT WINDOW(pave, %s FROM 0.100 TO 0.200)" % ASKED
 SCHEMA = "PRAGMA synchronous=FULL; CREATE TABLE pave (route TEXT, lo INT, hi INT, surf TEXT, lanes INT, PRIMARY KEY (route, lo, hi, surf, lanes)) WITHOUT ROWID;"
 INDEX = "CREATE INDEX ps ON pave (surf);"
 
@@ -39,6 +40,11 @@ def timed(command, data, output=subprocess.DEVNULL):
     begun = time.perf_counter()
     done = subprocess.run(command, input=data.encode(), stdout=output, check=True)
     return time.perf_counter() - begun, done.stdout
+
+
+def loading(rows, is_indexed):
+    """The statements that load these rows in one transaction."""
+    return SCHEMA + (INDEX if is_indexed else "") + "BEGIN;\n" + "\n".join(map(statement, rows)) + "\nCOMMIT;"
 
 
 class Files:
@@ -65,7 +71,7 @@ def load(files, routes, rows, is_indexed):
     files.clear()
     index = ["0 DEFINE INDEX ps ON pave (surf)"] if is_indexed else []
     ours, _ = files.run(setup_for(len(rows), routes) + index + rows + ["0 SAVE"])
-    theirs, _ = files.shell(SCHEMA + (INDEX if is_indexed else "") + "BEGIN;\n" + "\n".join(map(statement, rows)) + "\nCOMMIT;")
+    theirs, _ = files.shell(loading(rows, is_indexed))
     return ours, theirs
 
 
@@ -75,15 +81,20 @@ def bed(line):
     return "\t".join([route, str(low), str(high), *values.split(", ")]) + "\n"
 
 
+def cutting(folder, rows):
+    """The command that cuts the window out of the rows as text, which are written into a folder."""
+    texts = {"pave.bed": "".join(map(bed, rows)), "one.bed": "%s\t100\t200\n" % ASKED}
+    paths = [os.path.join(folder, name) for name in texts]
+    for path, text in zip(paths, texts.values()):
+        with open(path, "w", encoding="ascii") as file:
+            file.write(text)
+    return ["bedtools", "intersect", "-a", paths[0], "-b", paths[1]]
+
+
 def window(files, folder, rows):
     """The times of one window, each asked by a new process."""
-    texts = {"pave.bed": "".join(map(bed, rows)), "one.bed": "%s\t100\t200\n" % ASKED}
-    for name, text in texts.items():
-        with open(os.path.join(folder, name), "w", encoding="ascii") as file:
-            file.write(text)
-    ours, found = files.run(["0 SELECT WINDOW(pave, %s FROM 0.100 TO 0.200)" % ASKED], subprocess.PIPE)
-    paths = [os.path.join(folder, name) for name in texts]
-    theirs, cut = timed(["bedtools", "intersect", "-a", paths[0], "-b", paths[1]], "", subprocess.PIPE)
+    ours, found = files.run([WINDOW_LINE], subprocess.PIPE)
+    theirs, cut = timed(cutting(folder, rows), "", subprocess.PIPE)
     assert found.count(b"ROW") == cut.count(b"\n"), (found, cut)
     return ours, theirs
 

@@ -7,10 +7,12 @@ import os
 import re
 import subprocess
 import sys
+import tempfile
 
 ROOT = os.path.dirname(os.path.dirname(os.path.abspath(__file__)))
 PROGRAM = os.path.join("crates", "roadseg", "out", "roadseg")
 RUN = PROGRAM + " run"
+COLLECTED = re.compile(r"Collected : (\d+)")
 
 
 def numbers_of(text):
@@ -33,6 +35,18 @@ def built_in_c(bench, name, folder):
     if subprocess.run(["cc", "-O2", "-o", program, source, "-lsqlite3"], check=False).returncode != 0:
         sys.exit("%s could not be built" % source)
     return program
+
+
+def counted(command, data=b"", folder=None):
+    """How many instructions a command takes, with the processes that it starts (`valgrind --tool=callgrind`), and what it prints."""
+    with tempfile.TemporaryDirectory() as logs:
+        counting = ["valgrind", "--tool=callgrind", "--trace-children=yes", "--callgrind-out-file=/dev/null", "--log-file=%s/%%p" % logs]
+        answer = subprocess.run(counting + command, input=data, stdout=subprocess.PIPE, cwd=folder, check=True).stdout
+        count = 0
+        for name in os.listdir(logs):
+            with open(os.path.join(logs, name), encoding="utf-8", errors="replace") as log:
+                count += sum(map(int, COLLECTED.findall(log.read())))
+    return count, answer
 
 
 def kilobytes_of(process, name):

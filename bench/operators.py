@@ -328,27 +328,37 @@ def run_tool(tool, folder):
             for row in rows], spent
 
 
+def rtree_statements(load):
+    """The statements that make an rtree of the spans of pavement; routes are numbers in their order."""
+    numbers = {route: number for number, route in enumerate(load.routes)}
+    spans = ["(%d,%d,%d,%d,%d,%s)" % (place, start, finish, numbers[route], numbers[route], values[0])
+             for place, (route, start, finish, values) in enumerate(load.tables["pave"])]
+    statements = ["CREATE VIRTUAL TABLE pave USING rtree_i32(id, lo, hi, first, last, +n);", "BEGIN;"]
+    for place in range(0, len(spans), 200):
+        statements.append("INSERT INTO pave VALUES %s;" % ",".join(spans[place : place + 200]))
+    return statements + ["COMMIT;"]
+
+
+def window_statements(load, found):
+    """The statements that ask an rtree for windows; it answers in the form of the program's rows."""
+    numbers = {route: number for number, route in enumerate(load.routes)}
+    return ["SELECT '0 ROW %s ' || max(lo, %d) || ' ' || min(hi, %d) || ' ' || n FROM pave"
+            " WHERE lo < %d AND hi > %d AND first <= %d AND last >= %d ORDER BY lo;"
+            % (route, start, finish, finish, start, numbers[route], numbers[route])
+            for route, start, finish in found]
+
+
 class Rtree:
     """sqlite3 with the spans of pavement in an rtree in memory. It writes rows to a file, and then one line to say so."""
 
     def __init__(self, load, folder):
-        self.rows = os.path.join(folder, "rows")
-        self.numbers = {route: number for number, route in enumerate(load.routes)}
+        self.rows, self.load = os.path.join(folder, "rows"), load
         self.live = Live("stdbuf -oL sqlite3 :memory:")
-        spans = ["(%d,%d,%d,%d,%d,%s)" % (place, start, finish, self.numbers[route], self.numbers[route], values[0])
-                 for place, (route, start, finish, values) in enumerate(load.tables["pave"])]
-        sql = ["CREATE VIRTUAL TABLE pave USING rtree_i32(id, lo, hi, first, last, +n);", "BEGIN;"]
-        for place in range(0, len(spans), 200):
-            sql.append("INSERT INTO pave VALUES %s;" % ",".join(spans[place : place + 200]))
-        self.live.answer("\n".join(sql + ["COMMIT;", "SELECT '0 OK 0';", ""]).encode(), 1)
+        self.live.answer("\n".join(rtree_statements(load) + ["SELECT '0 OK 0';", ""]).encode(), 1)
 
     def answer(self, found):
         """The rows of the windows, in the form of the program's, and the seconds."""
-        sql = ["SELECT '0 ROW %s ' || max(lo, %d) || ' ' || min(hi, %d) || ' ' || n FROM pave"
-               " WHERE lo < %d AND hi > %d AND first <= %d AND last >= %d ORDER BY lo;"
-               % (route, start, finish, finish, start, self.numbers[route], self.numbers[route])
-               for route, start, finish in found]
-        script = [".output " + self.rows, *sql, ".output stdout", "SELECT '0 OK 0';", ""]
+        script = [".output " + self.rows, *window_statements(self.load, found), ".output stdout", "SELECT '0 OK 0';", ""]
         _, spent = self.live.answer("\n".join(script).encode(), 1)
         with open(self.rows, "rb") as file:
             return rows_of(file.read()), spent

@@ -94,14 +94,25 @@ def tell(found, sizes, unit):
         print("a check of %d spans takes %.2f passes, with two indexes %.1f" % (size, *passes), flush=True)
 
 
-def beside_sqlite(size, rounds):
-    """The least milliseconds of sqlite3's check of as many records in memory, and of those with two indexes."""
-    base = sqlite3.connect(":memory:")
+def events_in(base, size):
+    """Makes sqlite3's table of as many records."""
     base.execute("create table event (route int, low int, one int, two int, born int, high int, died int,"
                  " primary key (route, low, one, two, born, high, died)) without rowid")
     on_route = max(size // ROUTES, 1)
     rows = ((n // on_route, n % on_route * 1000, n // on_route, n % on_route * 1000, 1, n % on_route * 1000 + 1000, -1) for n in range(size))
     base.executemany("insert into event values (?, ?, ?, ?, ?, ?, ?)", rows)
+
+
+def index_events(base):
+    """Makes the two indexes of sqlite3's table."""
+    base.execute("create index by_one on event (one)")
+    base.execute("create index by_two on event (two)")
+
+
+def beside_sqlite(size, rounds):
+    """The least milliseconds of sqlite3's check of as many records in memory, and of those with two indexes."""
+    base = sqlite3.connect(":memory:")
+    events_in(base, size)
 
     def check():
         start = time.perf_counter()
@@ -110,8 +121,7 @@ def beside_sqlite(size, rounds):
         return (time.perf_counter() - start) * 1e3
 
     plain = min(check() for _round in range(rounds))
-    base.execute("create index by_one on event (one)")
-    base.execute("create index by_two on event (two)")
+    index_events(base)
     return plain, min(check() for _round in range(rounds))
 
 

@@ -11,13 +11,13 @@ the ratio.
 
 import os
 import random
-import re
 import signal
 import subprocess
 import sys
 import tempfile
 
 import load as rows
+import measuring
 import operators
 import totals
 from measuring import ROOT, parser_of
@@ -89,11 +89,10 @@ def lines_of(questions):
 
 def counted(program, words, lines):
     """How many instructions a run takes, and what it answers."""
-    command = ["valgrind", "--tool=callgrind", "--callgrind-out-file=/dev/null", program, "run", *words]
-    run = subprocess.run(command, input=lines, capture_output=True, check=True)
-    if b" ERR " in run.stdout:
-        sys.exit("refused: %r" % run.stdout[run.stdout.index(b" ERR ") :][:100])
-    return int(re.search(rb"Collected : (\d+)", run.stderr)[1]), run.stdout
+    count, answer = measuring.counted([program, "run", *words], lines)
+    if b" ERR " in answer:
+        sys.exit("refused: %r" % answer[answer.index(b" ERR ") :][:100])
+    return count, answer
 
 
 def made(program, folder, lines):
