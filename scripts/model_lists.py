@@ -24,7 +24,7 @@ from typing import NamedTuple
 from code_words import Code
 from spec_words import CRATES, ROOT, Specs, Word
 
-sys.path.insert(1, os.path.join(ROOT, "tests"))
+sys.path.insert(1, os.path.join(ROOT, "tests", "run"))
 
 from harness import summary  # noqa: E402
 
