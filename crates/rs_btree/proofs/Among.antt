@@ -19,7 +19,7 @@ all_one P (c ∷ cs) x all (zero, inside, is) = subst P is all.0
 all_one P (c ∷ cs) x all (suc k, inside, is) = all_one P cs x all.1 (k, omega arith, is)
 
 -- a cell with a place among them is one of them
-there_contains : (cs : List (List ℕ)) (k : ℕ) (x : List ℕ) → slice_get cs k ≡ Some x → Contains cs x
+pub there_contains : (cs : List (List ℕ)) (k : ℕ) (x : List ℕ) → slice_get cs k ≡ Some x → Contains cs x
 there_contains [] k x e = absurd (cc)
 there_contains (c ∷ cs) zero x e = let same : c ≡ x = cc in (0, omega arith, same)
 there_contains (c ∷ cs) (suc k) x e = let rest = there_contains cs k x e in (suc rest.0, omega (arith, rest.1), rest.2)

@@ -1,5 +1,6 @@
 -- What the calls of a tree answer, and what they do with the pages and the tree.
 use Rattle.std.specs.Prelude.{◌≡◌, ◌↔◌, ℕ, Bool, List, [], Result, Contains, IfOk, IsTrue, OnOk, OnErr}
+use Rattle.std.specs.List.{AllByRecursion}
 use Rattle.rs_refusal.specs.declared.refusal.Refusal.{Refusal}
 use Rattle.rs_pages.specs.PageMap.{PageMap}
 use Rattle.rs_pages.specs.declared.pages.Pages.{Ghosts}
@@ -26,9 +27,10 @@ pub record KeepsTree {T : Type 0} (result : Result T Refusal) (old new : Rooted)
   pub width : new.width ≡ old.width
   pub stays : OnErr result (new ≡ old)
 
--- whichever tree stands there, it is told whether it has the cell
-abbrev pub TellsIfHeld : Form → PageMap → ℕ → List ℕ → Bool → Type 0
-TellsIfHeld form map root cell found = (cells : List (List ℕ)) (used : ℕ → ℕ) → IsTree form map root cells used → (IsTrue found ↔ Contains cells cell)
+-- whichever tree stands there, it is told whether it has each of these cells
+abbrev pub TellsIfHeld : Form → PageMap → ℕ → List (List ℕ) → Bool → Type 0
+TellsIfHeld form map root cells found = (all : List (List ℕ)) (used : ℕ → ℕ) → IsTree form map root all used
+    → (IsTrue found ↔ AllByRecursion (Contains all) cells)
 
 module _ {P S : Type 0} (pages : Ghosts P) (summaries : Summaries S) (at : Rooted) where
   -- what a call that changes the tree leaves on any disk: 94 comes only where no tree stands there with pages of its own
@@ -46,8 +48,8 @@ module _ {P S : Type 0} (pages : Ghosts P) (summaries : Summaries S) (at : Roote
   abbrev pub Descends : List ℕ → List ℕ → (S → Bool → Type 0) → Result (Cells × ℕ) Refusal → P → Type 0
   Descends low high answers result old = tree.Descends pages summaries (form summaries at.width) at.root low high answers result old
 
-  abbrev pub Holds : List ℕ → Result Bool Refusal → P → Type 0
-  Holds cell result old = pages.is_tied old → IfOk result (TellsIfHeld (form summaries at.width) (pages.store old).map at.root cell)
+  abbrev pub HoldsEach : List (List ℕ) → Result Bool Refusal → P → Type 0
+  HoldsEach cells result old = pages.is_tied old → IfOk result (TellsIfHeld (form summaries at.width) (pages.store old).map at.root cells)
 
   abbrev pub Checks : (ℕ → ℕ) → (ℕ → ℕ) → Result ℕ Refusal → P → Type 0
   Checks before after result old = whole.Checks pages (form summaries at.width) at.root before after result old

@@ -9,14 +9,14 @@ ghost use Rattle.rs_page_owners.specs.Counts.{no_pages};
 ghost use Rattle.rs_pages.specs.Calls.{OnlyReads};
 ghost use Rattle.rs_pages.specs.PageMap.{PageMap};
 ghost use Rattle.rs_page_marks.specs.Marks.{taken};
-ghost use Rattle.rs_records.specs.Listed.{record_width};
+ghost use Rattle.rs_records.specs.Listed.{listed, record_width};
 ghost use Rattle.rs_tree.specs.Forms.{form};
 ghost use Rattle.rs_tree.specs.Tree.{IsTree};
 ghost use Rattle.rs_tree_whole.specs.Calls.{RefusesToCheck};
-ghost use Rattle.rs_btree.specs.Calls.{Checks, Clears, Descends, Holds, Inserts, KeepsTree, Leaves, Ranges, RefusesReading, Removes, ReplacesOne};
+ghost use Rattle.rs_btree.specs.Calls.{Checks, Clears, Descends, HoldsEach, Inserts, KeepsTree, Leaves, Ranges, RefusesReading, Removes, ReplacesOne};
 ghost use Rattle.rs_btree.specs.Rooted.{Rooted};
 
-use crate::lookup::contains;
+use crate::lookup::has_each;
 use crate::replacing::replace;
 use rs_page::PageNumber;
 use rs_page_marks::Reached;
@@ -115,22 +115,16 @@ impl<S: Summary> Tree<S> {
         descend::<P, S, F>(alloc, pages, self.layout, self.root, low, high, keep)
     }
 
-    /// Whether the tree has the cell. What follows the cell, the cell with a zero after it, is told too. It is refused with 91, and
-    /// with 94 only where no tree stands there. No page changes, and no memory is taken.
-    pub fn contains<P: Pages>(
-        &self,
-        pages: &mut P,
-        cell: &[u8],
-        after: &[u8],
-    ) -> Result<bool, Refusal>
-        requires width { length cell.now ≡ self.now.width }
-        requires after { after.now ≡ cell.now ++ 0 ∷ [] }
+    /// Whether the tree has each of the cells. It is refused with 91, and with 94 only where no tree stands there. No page changes, and
+    /// no memory is taken. With cells in ascending order each page is read once.
+    pub fn has_each<P: Pages>(&self, pages: &mut P, cells: &Cells) -> Result<bool, Refusal>
+        requires width { record_width cells.now ≡ self.now.width }
         ensures rests { OnlyReads P.Pages result pages.old pages.new }
-        ensures found { Holds P.Pages S.Summary self.now cell.now result pages.old }
+        ensures found { HoldsEach P.Pages S.Summary self.now (listed cells.now) result pages.old }
         ensures refused { RefusesReading P.Pages S.Summary self.now result pages.old pages.new }
         ensures memory { result ≢ Err Refusal.OutOfMemory }
     {
-        contains::<P, S>(pages, self.layout, self.root, cell, after)
+        has_each::<P, S>(pages, self.layout, self.root, cells)
     }
 
     /// Marks the tree's pages, and answers how many cells it has, exactly where a well formed tree stands there none of whose

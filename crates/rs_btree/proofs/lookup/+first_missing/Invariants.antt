@@ -1,0 +1,21 @@
+-- Each page is one level further down. The cells so far are there.
+use Rattle.std.proofs.Common.{◌≤◌, ◌-◌, Ok}
+use Rattle.rs_pages.specs.Lending.{RestsAfter}
+use Rattle.rs_records.specs.Listed.{listed}
+use Rattle.rs_tree.specs.Forms.{form_in}
+use Rattle.rs_btree.proofs.Parts.{TellsSome}
+use Rattle.rs_btree.proofs.lookup.+first_missing.Given as goal
+
+abbrev pub decreases-first_missing : goal.decreases-first_missing
+decreases-first_missing g l = l.levels
+
+abbrev pub invariant-loop-at : goal.invariant-loop-at
+invariant-loop-at g l = record {
+  rests : RestsAfter {T = Unit {0}} g.P.Pages.is_tied g.P.Pages.store g.P.Pages.keeps (Ok tt) l.fn.pages l.pages;
+  after : l.from ≤ l.at;
+  upto : l.from ≤ l.to → l.at ≤ l.to;
+  some : g.P.Pages.is_tied l.fn.pages → TellsSome (form_in g.S.Summary l.layout) (g.P.Pages.store l.fn.pages).map l.number (listed l.cells) l.from l.at;
+}
+
+abbrev pub decreases-loop-at : goal.decreases-loop-at
+decreases-loop-at g l = l.to - l.at
