@@ -1,22 +1,19 @@
 -- The entries of a tree, beside the cells that have them.
-use Rattle.std.proofs.Common.{◌≡◌, ℕ, suc, Bool, true, false, Some, List, [], ◌∷◌, IsTrue, length, map, slice_get, take, refl, sym, ◌∙◌, subst, inl, inr, arith}
+use Rattle.std.proofs.Common.{◌≡◌, ℕ, suc, true, List, [], ◌∷◌, IsTrue, length, map, refl, sym, ◌∙◌, subst, inl, inr, arith}
 use Rattle.std.proofs.lemmas.Bool.{false≢true}
 use Rattle.std.proofs.lemmas.List.{length-map}
 use Rattle.std.proofs.lemmas.List.Sorted.{Contains-permutation, IsPermutation-cons, IsPermutation-refl, IsPermutation-sym, IsPermutation-trans, IsPermutation-middle, length_permutation}
 use Rattle.std.specs.List.{AllByRecursion, Contains}
 use Rattle.std.specs.List.Sorted.{IsPermutation}
 use Rattle.rs_attr.specs.Entries.{AreCells, Field, HoldsIndex, entry_of, index_form}
-use Rattle.rs_attr.specs.Opening.{HasEntries, HasSoMany, HaveEntries, LacksEntries}
+use Rattle.rs_attr.specs.Opening.{HasEntries, HasSoMany, LacksEntries}
 use Rattle.rs_attr.proofs.Entering.{TellsApart}
 use Rattle.rs_attr.proofs.Indexes.{entries_apart}
-use Rattle.rs_pages.specs.PageMap.{PageMap, SamePages}
+use Rattle.rs_pages.specs.PageMap.{PageMap}
 use Rattle.rs_records.specs.Order.{is_below, Ascends}
 use Rattle.rs_records.proofs.Orders.{is_below-self}
 use Rattle.rs_tree.specs.Tree.{IsNoTree, IsTree}
-use Rattle.rs_tree.proofs.Lists.{all_at, take_next}
-use Rattle.rs_tree_whole.proofs.Joins.{all_push}
 use Rattle.rs_cell_versions.proofs.Among.{first_or_rest}
-use Rattle.rs_cell_versions.proofs.Staying.{tree_same}
 
 -- one of some is first, and then the others
 moved_out : (xs : List (List ℕ)) (x : List ℕ) → Contains xs x → (others : List (List ℕ)) × IsPermutation xs (x ∷ others)
@@ -84,34 +81,6 @@ index_entries field pages root cells used index lacks =
     lacks.none index.entries used index.tree (have_images (entry_of field) index.entries cells
     (λ x. Contains-permutation (map (entry_of field) cells) index.entries x (IsPermutation-sym index.entries (map (entry_of field) cells) index.are)))
 
--- whatever tree stands there, it was asked whether the entry is there
-abbrev pub Tells : Field → PageMap → ℕ → List ℕ → Bool → Type 0
-Tells field pages root cell found = (entries : List (List ℕ)) (used : ℕ → ℕ) → IsTree (index_form field) pages root entries used
-    → (IsTrue found → Contains entries (entry_of field cell)) × (Contains entries (entry_of field cell) → IsTrue found)
-
-module _ (field : Field) (old mid : PageMap) (root : ℕ) (same : SamePages mid old) where
-  -- no cells have entries of their own as yet
-  pub entries_none : HasEntries field old root []
-  entries_none = record { each = λ entries used tree. tt }
-
-  -- one more of the cells has its entry
-  pub entries_next : (cells : List (List ℕ)) (k : ℕ) (cell : List ℕ) → slice_get cells k ≡ Some cell → HasEntries field old root (take k cells) → Tells field mid root cell true
-      → HasEntries field old root (take (suc k) cells)
-  entries_next cells k cell there have tells = record {
-    each = λ entries used tree.
-        subst (HaveEntries field entries) (sym (take_next cells k cell there))
-        (all_push (λ (c : List ℕ). Contains entries (entry_of field c)) (take k cells) cell (have.each entries used tree)
-        ((tells entries used (tree_same (index_form field) old mid same root entries used tree)).0 refl));
-  }
-
-  -- one has none
-  pub entries_lack : (cells : List (List ℕ)) (k : ℕ) (cell : List ℕ) → slice_get cells k ≡ Some cell → Tells field mid root cell false → LacksEntries field old root cells
-  entries_lack cells k cell there tells = record {
-    none = λ entries used tree have.
-        false≢true ((tells entries used (tree_same (index_form field) old mid same root entries used tree)).1
-        (all_at (λ (c : List ℕ). Contains entries (entry_of field c)) cells k cell have there));
-  }
-
-  -- where no tree stands, none has
-  pub no_tree_lacks : (cells : List (List ℕ)) → IsNoTree (index_form field) mid root → LacksEntries field old root cells
-  no_tree_lacks cells none = record { none = λ entries used tree have. none.none entries used (tree_same (index_form field) old mid same root entries used tree) }
+-- where no tree stands, no cells have entries
+pub no_tree_lacks : (field : Field) (pages : PageMap) (root : ℕ) (cells : List (List ℕ)) → IsNoTree (index_form field) pages root → LacksEntries field pages root cells
+no_tree_lacks field pages root cells none = record { none = λ entries used tree have. none.none entries used tree }

@@ -3,7 +3,8 @@
 //! Changes are made together or not at all: `commit` keeps them, `abandon` takes them back, and neither takes memory. The
 //! pages are to be committed or abandoned with them.
 
-ghost use Rattle.std.specs.Prelude.{◌≡◌, ◌≢◌, ◌↔◌, ◌<◌, ◌≤◌, ℕ, List, [], Contains, Err, IfOk, IsPermutation, IsTrue, OnOk, length, true};
+ghost use Rattle.std.specs.Prelude.{◌≡◌, ◌≢◌, ◌↔◌, ◌<◌, ◌≤◌, ℕ, List, [], Contains, Err, IfOk, IsPermutation, IsTrue, OnOk, length, map, true};
+ghost use Rattle.std.specs.List.{AllByRecursion};
 ghost use Rattle.rs_attr.specs.Entries.{FitsPages, IsColumn, entry_bytes, entry_of, index_form};
 ghost use Rattle.rs_attr.specs.Inner.{changed};
 ghost use Rattle.rs_attr.specs.IndexCalls.{Checks, Edits, FindsWith, KeepsIndex, Leaves, RefusesReading};
@@ -18,8 +19,8 @@ ghost use Rattle.rs_value.specs.Encoding.{row_width};
 ghost use Rattle.rs_value.specs.Values.{IsOfType};
 ghost use Rattle.rs_value.specs.View.{datum_of};
 
-use crate::entry::{entry_of, followed_by, value_bytes, write_entry_and_zero};
-use crate::ordered::by_value;
+use crate::entry::{entry_of, followed_by, value_bytes};
+use crate::ordered::entries_by_value;
 use rs_cell_versions::rs_btree::Tree;
 use rs_page::PageNumber;
 use rs_page_marks::Reached;
@@ -103,6 +104,7 @@ impl AttrIndex {
         self.tree.root()
     }
 
+    // decision: index-of-cells
     /// The entries of the cells with this value that are not below `from` and below `to`, in their order, and how many pages were
     /// read: those that lead to these entries, and two for each level of the index and as many more for each of the entries at the
     /// most. It is refused with 90, with 91, and with 94 only where no tree stands there. No page changes.
@@ -139,35 +141,26 @@ impl AttrIndex {
         self.tree.validate(pages, reached)
     }
 
-    /// The cells in the order of their entries.
-    pub(crate) fn in_order(&self, alloc: Global, cells: &Cells) -> Result<Cells, AllocError>
+    /// The entries of the cells, about in their order.
+    pub(crate) fn entries_of(&self, alloc: Global, cells: &Cells) -> Result<Cells, AllocError>
         requires width { record_width cells.now ≡ self.now.field.cell_width }
-        ensures moved { IfOk result (λ ordered. IsPermutation (listed cells.now) (listed ordered)) }
-        ensures width { IfOk result (λ ordered. record_width ordered ≡ record_width cells.now) }
+        ensures moved { IfOk result (λ entries. IsPermutation (map (entry_of self.now.field) (listed cells.now)) (listed entries)) }
+        ensures width { IfOk result (λ entries. record_width entries ≡ entry_bytes self.now.field) }
     {
-        by_value(alloc, cells, self.start, column_width(self.column))
+        entries_by_value(alloc, cells, self.start, column_width(self.column))
     }
 
-    /// Whether the entry of a cell is in the index. It is refused with 90, with 91, and with 94 only where no tree stands there.
-    /// No page changes. The buffer is for the bytes of the entry; what it holds is unspecified.
-    pub(crate) fn has_entry<P: Pages>(
-        &self,
-        pages: &mut P,
-        buffer: &mut Vec<u8>,
-        cell: &[u8],
-    ) -> Result<bool, Refusal>
-        requires width { length cell.now ≡ self.now.field.cell_width }
+    /// Whether the entries are each in the index. It is refused with 91, and with 94 only where no tree stands there. No page
+    /// changes.
+    pub(crate) fn has_each<P: Pages>(&self, pages: &mut P, entries: &Cells) -> Result<bool, Refusal>
+        requires width { record_width entries.now ≡ entry_bytes self.now.field }
         ensures rests { OnlyReads P.Pages result pages.old pages.new }
-        ensures found { Reads P.Pages (λ map found. (entries : List (List ℕ)) (used : ℕ → ℕ)
-            → IsTree (index_form self.now.field) map self.now.working entries used
-            → (IsTrue found ↔ Contains entries (entry_of self.now.field cell.now))) result pages.old }
+        ensures found { Reads P.Pages (λ map found. (all : List (List ℕ)) (used : ℕ → ℕ)
+            → IsTree (index_form self.now.field) map self.now.working all used
+            → (IsTrue found ↔ AllByRecursion (Contains all) (listed entries.now))) result pages.old }
         ensures refused { RefusesReading P.Pages self.now result pages.old pages.new }
     {
-        let wide = column_width(self.column);
-        write_entry_and_zero(buffer, cell, self.start, wide).map_err(|_| Refusal::OutOfMemory)?;
-        let after = buffer.as_slice();
-        let entry = &after[..after.len() - 1];
-        self.tree.contains(pages, entry, after)
+        self.tree.has_each(pages, entries)
     }
 
     /// Puts the entry of a cell into the index, or takes it out. It is refused as `put` and `take` are.

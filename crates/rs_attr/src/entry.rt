@@ -1,6 +1,6 @@
 //! This module writes the bytes of an index's entries: those of a value, and then those of a cell.
 
-ghost use Rattle.std.specs.Prelude.{◌≡◌, ◌≤◌, ◌+◌, ◌++◌, ◌∷◌, [], IfOk, OnOk, drop, length, take};
+ghost use Rattle.std.specs.Prelude.{◌≡◌, ◌≤◌, ◌+◌, ◌++◌, IfOk, drop, length, take};
 ghost use Rattle.rs_value.specs.Encoding.{SaysDatum, width};
 ghost use Rattle.rs_value.specs.Values.{IsOfType};
 ghost use Rattle.rs_value.specs.View.{datum_of};
@@ -25,21 +25,15 @@ pub(crate) fn entry_of(
     Ok(entry)
 }
 
-/// Writes the entry that `entry_of` makes, and a zero after it, in place of what the buffer holds.
-pub(crate) fn write_entry_and_zero(
-    buffer: &mut Vec<u8>,
-    cell: &[u8],
-    start: usize,
-    wide: usize,
-) -> Result<(), AllocError>
+/// Writes the entry that `entry_of` makes over as many bytes.
+pub(crate) fn write_entry(bytes: &mut [u8], cell: &[u8], start: usize, wide: usize)
     requires within { start + wide ≤ length cell.now }
-    ensures { OnOk result (buffer.new.items ≡ (take wide (drop start cell.now) ++ cell.now) ++ 0 ∷ []) }
+    requires room { length bytes.old ≡ wide + length cell.now }
+    ensures { bytes.new ≡ take wide (drop start cell.now) ++ cell.now }
 {
-    buffer.clear();
-    buffer.extend_from_slice(&cell[start..start + wide])?;
-    buffer.extend_from_slice(cell)?;
-    buffer.push(0)?;
-    Ok(())
+    let (front, back) = bytes.split_at_mut(wide);
+    front.copy_from_slice(&cell[start..start + wide]);
+    back.copy_from_slice(cell);
 }
 
 /// The bytes of a value in a column of its type.

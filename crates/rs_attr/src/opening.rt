@@ -34,9 +34,9 @@ use rs_versioned::event::EVENT_BYTES;
 use rs_versioned::{EventTable, RouteSpan, ToldRecords};
 use std::alloc::Global;
 
-/// How many bytes of cells wait at the most before their entries are looked for. Putting them in order takes some four times as
+/// How many bytes of cells wait at the most before their entries are looked for. Putting them in order takes some three times as
 /// many.
-const MOST_WAITING: usize = 0x20_0000;
+const MOST_WAITING: usize = 0x10_0000;
 
 /// The table that lies in a file already, beside its indexes; their pages are marked. Ok exactly where it lies there as it was
 /// told, with the indexes of its cells, in pages none of which was reached before, and the version that was accepted last has just
@@ -197,7 +197,8 @@ fn check_all<P: Pages>(
 }
 
 impl AttrIndex {
-    /// Ok where each of the cells has its entry in the index. They are searched for in the index's order. It is refused with 90,
+    // decision: indexes-checked-by-search
+    /// Ok where each of the cells has its entry in the index. They are looked for in the index's order. It is refused with 90,
     /// with 91, and with 94 only where one has none. No page changes.
     pub fn check_entries<P: Pages>(
         &self,
@@ -210,28 +211,11 @@ impl AttrIndex {
         ensures looks_up { LooksUp P.Pages self.now (listed cells.now) result pages.old }
         ensures refused { RefusesLook result }
     {
-        let ordered = self.in_order(alloc, cells)?;
-        self.check_each(alloc, pages, &ordered)
-    }
-
-    /// The same in the order in which they are.
-    fn check_each<P: Pages>(
-        &self,
-        alloc: Global,
-        pages: &mut P,
-        cells: &Cells,
-    ) -> Result<(), Refusal>
-        requires width { record_width cells.now ≡ self.now.field.cell_width }
-        ensures rests { OnlyReads P.Pages result pages.old pages.new }
-        ensures looks_up { LooksUp P.Pages self.now (listed cells.now) result pages.old }
-        ensures refused { RefusesLook result }
-    {
-        let mut buffer = Vec::new(alloc);
-        for place in 0..cells.len() {
-            if !self.has_entry(pages, &mut buffer, cells.get(place))? {
-                return Err(Refusal::DamagedFile);
-            }
+        let entries = self.entries_of(alloc, cells)?;
+        if self.has_each(pages, &entries)? {
+            Ok(())
+        } else {
+            Err(Refusal::DamagedFile)
         }
-        Ok(())
     }
 }

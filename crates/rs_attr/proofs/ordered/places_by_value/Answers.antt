@@ -1,5 +1,5 @@
 -- One cell after the other, and then sorted.
-use Rattle.std.proofs.Common.{◌<◌, ◌∙◌, ℕ, Bor, List, length, map, sym, ap, subst, arith}
+use Rattle.std.proofs.Common.{◌<◌, ◌∙◌, ℕ, List, length, map, sym, ap, subst, arith}
 use Rattle.std.proofs.lemmas.List.{take_all}
 use Rattle.std.proofs.lemmas.List.Elements.{All-from_recursion}
 use Rattle.std.proofs.lemmas.List.Sorted.{All-permutation, IsPermutation-map}
@@ -20,17 +20,17 @@ loop-place-preserved c =
     let cells = listed c.args.cells.now in
     let inside = slice_get_within cells c.loop-place.place c.get.result.now c.get.ensures in
     record {
-      each = subst (AllByRecursion (λ (value : Bor (List ℕ) × ℕ). value.1 < length cells)) (sym c.in_ok-push.ensures.items)
-          (all_push (λ (value : Bor (List ℕ) × ℕ). value.1 < length cells) c.loop-place.places.items (c.value_of.result, c.loop-place.place) c.loop-place.invariant.each inside);
+      each = subst (AllByRecursion (λ (value : (ℕ × ℕ) × ℕ). value.1 < length cells)) (sym c.in_ok-push.ensures.items)
+          (all_push (λ (value : (ℕ × ℕ) × ℕ). value.1 < length cells) c.loop-place.places.items (c.key_of.result, c.loop-place.place) c.loop-place.invariant.each inside);
       are = ap (map (cell_at cells)) c.in_ok-push.ensures.items
-          ∙ places_more cells c.loop-place.places.items c.loop-place.place c.get.result.now c.value_of.result c.get.ensures c.loop-place.invariant.are;
+          ∙ places_more cells c.loop-place.places.items c.loop-place.place c.get.result.now c.key_of.result c.get.ensures c.loop-place.invariant.are;
     }
 
 pub returns-clause-each : goal.returns-clause-each
 returns-clause-each c =
     let cells = listed c.args.cells.now in
-    All-permutation (λ (value : Bor (List ℕ) × ℕ). value.1 < length cells) c.loop-place.places.items c.sort_unstable.new.self.items c.sort_unstable.ensures.permutation
-    (All-from_recursion (λ (value : Bor (List ℕ) × ℕ). value.1 < length cells) c.loop-place.places.items c.loop-place.invariant.each)
+    All-permutation (λ (value : (ℕ × ℕ) × ℕ). value.1 < length cells) c.loop-place.places.items c.sort_unstable.new.self.items c.sort_unstable.ensures.permutation
+    (All-from_recursion (λ (value : (ℕ × ℕ) × ℕ). value.1 < length cells) c.loop-place.places.items c.loop-place.invariant.each)
 
 pub returns-clause-moved : goal.returns-clause-moved
 returns-clause-moved c =
