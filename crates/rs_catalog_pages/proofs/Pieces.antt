@@ -19,3 +19,14 @@ none_as says tells parts as_that old lacks = record {
 
 pub writes_as : {A B : Type 0} (says : Code A) (tells : Code B) (x : A) (y : B) → ((f : List ℕ) → says f x → tells f y) → (old new : List ℕ) → Writes says old x new → Writes tells old y new
 writes_as says tells x y as_that old new writes = record { back = writes.back; is = writes.is; said = as_that writes.back writes.said }
+
+-- three values and a fourth, said as one after another
+pub fourth_after : {A B C D : Type 0} (says : Code A) (tells : Code B) (names : Code C) (calls : Code D) (x : A) (y : B) (z : C) (w : D) (f : List ℕ)
+    → SaysBoth (SaysBoth says (SaysBoth tells names)) calls f ((x, (y, z)), w) → SaysBoth says (SaysBoth tells (SaysBoth names calls)) f (x, (y, (z, w)))
+fourth_after says tells names calls x y z w f (three, last, all, (one, two, both, said, (second, third, parts, told, named)), called) = (
+  one,
+  second ++ (third ++ last),
+  all ∙ ap (λ l. l ++ last) both ∙ append_assoc one two last ∙ ap (λ l. one ++ l) (ap (λ l. l ++ last) parts ∙ append_assoc second third last),
+  said,
+  (second, third ++ last, refl, told, (third, last, refl, named, called)),
+)

@@ -4,6 +4,7 @@
 
 ghost use Rattle.std.specs.Prelude.{◌≡◌, ◌⊎◌, IfOk, IfErr, OnOk};
 ghost use Rattle.rs_refusal.specs.declared.refusal.Refusal.TheVariants as refusals;
+ghost use Rattle.rs_bytes.specs.Codes.{SaysBoth, SaysNumber, Writes};
 ghost use Rattle.rs_catalog_pages.specs.Fitting.{FitsRoute, FitsColumn, FitsTable, FitsIndex, FitsView, FitsPiece, FitsAlignment, FitsCatalogue};
 ghost use Rattle.rs_catalog_pages.specs.Items.{RouteItem, ColumnItem, TableItem, IndexItem, ViewItem, PieceItem, AlignmentItem, CatalogueItems, SaysRoute, SaysColumn, SaysTable, SaysIndex, SaysView, SaysPiece, SaysAlignment, SaysCatalogue};
 ghost use Rattle.rs_catalog_pages.specs.Laws.{route_one, route_fits, column_one, column_fits, table_one, table_fits, index_one, index_fits, view_one, view_fits, piece_one, piece_fits, alignment_one, alignment_fits, catalogue_one, catalogue_fits};
@@ -56,11 +57,22 @@ impl Item for StoredRoute {
 
     fn write(&self, bytes: &mut Vec<u8>) -> Result<(), AllocError> {
         self.name.write(bytes)?;
-        self.number.write(bytes)?;
-        self.start.write(bytes)?;
-        self.finish.write(bytes)?;
+        write_three(self.number, self.start, self.finish, bytes)?;
         self.born.write(bytes)
     }
+}
+
+/// Appends three numbers of four bytes at once: of all definitions routes are written most often.
+fn write_three(first: u32, second: u32, third: u32, bytes: &mut Vec<u8>) -> Result<(), AllocError>
+    ensures { OnOk result (Writes (SaysBoth (SaysNumber 4) (SaysBoth (SaysNumber 4) (SaysNumber 4)))
+        bytes.old.items (first, (second, third)) bytes.new.items) }
+{
+    let numbers = [
+        first.to_be_bytes(),
+        second.to_be_bytes(),
+        third.to_be_bytes(),
+    ];
+    bytes.extend_from_slice(numbers.as_flattened())
 }
 
 /// A column of a table.
