@@ -17,6 +17,7 @@ use std::alloc::Global;
 /// How many records that no live version sees are cleared at the least, where there are so many.
 pub(crate) const LEAST_CLEARED: u64 = 64;
 
+// decision: tables-cleared-in-turn
 /// Clears records that no version from `oldest` on sees, and writes the slots of the directory with the next version as the one
 /// that was accepted last. `before` is how many records were dead before the change: as many more may go as the change has left dead. The tables take turns
 /// in being first. It is refused with 90, with 91, and with 94 only where no contents lie there with what is open.

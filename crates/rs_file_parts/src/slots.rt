@@ -22,6 +22,7 @@ use rs_pages::Pages;
 use rs_refusal::Refusal;
 use rs_versioned::{EventTable, ReferentTable};
 
+// decision: slots-of-the-directory
 /// Writes the slots of what is open into the directory that is there, with this version as the one that was accepted last: the file
 /// holds all that lies there then, where the directory had nothing under the numbers of other tables and indexes. It is refused with
 /// 90, with 91, and with 94 only where no contents lie there beside a directory; nothing has changed then.

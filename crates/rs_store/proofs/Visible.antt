@@ -1,5 +1,5 @@
 -- The routes and the referents that a version sees.
-use Rattle.std.proofs.Common.{◌≡◌, ◌≤◌, ◌∙◌, ℕ, Bool, true, false, cond, Result, Ok, Err, Vec, List, [], ◌∷◌, ap, filter, map, nat_le, refl, subst, sym, arith}
+use Rattle.std.proofs.Common.{◌≡◌, ◌≤◌, ◌∙◌, ℕ, Bool, true, false, cond, Result, Ok, Err, List, [], ◌∷◌, ap, filter, map, nat_le, refl, subst, sym, arith}
 use Rattle.std.specs.FinMap as names
 use Rattle.std.specs.FinMap.{entries-from_sorted, is_sorted}
 use Rattle.std.specs.List.{AllByRecursion}
@@ -31,8 +31,7 @@ use Rattle.rs_versioned.specs.Records.{HoldsRecords}
 use Rattle.rs_versioned.specs.Referents.{kept_referents, referents_at}
 use Rattle.rs_versioned.specs.declared.route_span.RouteSpan.{RouteSpan}
 use Rattle.rs_store.specs.Kept.{StandsIn, StoreState}
-use Rattle.rs_store.specs.Versions.{AreRoutesAt, entry_of, routes_by}
-use Rattle.rs_store.specs.declared.versions.NamedRoute.{NamedRoute}
+use Rattle.rs_store.specs.Versions.{AreRoutesAt, routes_by}
 use Rattle.rs_store.proofs.Brought.{are_spans}
 use Rattle.rs_store.proofs.Listed.{seen_passing}
 use Rattle.rs_store.proofs.RouteFacts.{sorted_values}
@@ -78,11 +77,6 @@ module _ {D : Type 0} (d : disk.Ghosts D) (oldest : ℕ) (store : StoreState D) 
         world = ap (map (λ (e : Name × catalog.RouteItem). (e.0, e.1.ends))) are
             ∙ sym (entries-map_values (λ (item : catalog.RouteItem). item.ends) (routes_named (born_by version routes)));
       }
-
-  pub routes_seen : {Z E : Type 0} (result : Result (Vec NamedRoute Z) E) → IfOk result (λ found. map entry_of found.items ≡ routes_by version store.catalog)
-      → IfOk result (λ found. AreRoutesAt version stands.contents (map entry_of found.items))
-  routes_seen (Ok found) same = subst (λ (entries : List (Name × catalog.RouteItem)). AreRoutesAt version stands.contents entries) (sym same) are_at
-  routes_seen (Err why) same = tt
 
   -- ---- the referents of a version
 

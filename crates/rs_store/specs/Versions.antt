@@ -7,10 +7,6 @@ use Rattle.rs_facts.specs.Query.{RouteEnds}
 use Rattle.rs_file.specs.Contents.{Contents}
 use Rattle.rs_file_meaning.specs.Seen.{born_by}
 use Rattle.rs_file_meaning.specs.States.{routes_named, world_at}
-use Rattle.rs_store.specs.declared.versions.NamedRoute.{NamedRoute}
-
-abbrev pub entry_of : NamedRoute → Name × RouteItem
-entry_of named = (named.name.bytes, named.route)
 
 abbrev pub ends_by_name : Name × RouteItem → Name × RouteEnds
 ends_by_name entry = (entry.0, entry.1.ends)

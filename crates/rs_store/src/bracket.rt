@@ -27,6 +27,7 @@ use rs_file_parts::{keep, take_back};
 use rs_pager::Pager;
 use rs_refusal::Refusal;
 
+// decision: bracketed-changes
 /// Makes room for a change, by a checkpoint where one was stopped or too many pages are changed, and begins it. It is refused with 90 and 91;
 /// then none is begun.
 pub(crate) fn begin_change<D: Disk>(pager: &mut Pager<D>) -> Result<(), Refusal>

@@ -35,6 +35,7 @@ impl<D: Disk> Store<D> {
         checkpoint(&mut self.pager)
     }
 
+    // decision: reopen-beside
     /// Saves, and reads and checks the whole file anew, page 0 first, beside what is in use, which it then takes the place of. It is refused
     /// with 90, with 91, and with 94 only where the disk does not give back what was written; after a refusal the store keeps what it kept.
     pub fn reopen(&mut self, alloc: Global) -> Result<(), Refusal>

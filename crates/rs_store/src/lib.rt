@@ -25,4 +25,3 @@ pub mod versions;
 pub use changing::Section;
 pub use reading::IndexKey;
 pub use store::Store;
-pub use versions::NamedRoute;

@@ -22,6 +22,7 @@ use rs_refusal::Refusal;
 use std::alloc::Global;
 
 impl<D: Disk> Store<D> {
+    // decision: recovered-then-checked
     /// Opens the file that the disk holds, and checks it as a whole. One of version 2 is recovered first, where its gate is open; else nothing
     /// of it is written. One of version 1 that was closed becomes one of version 2. `limit` is the greatest number of pages.
     ///

@@ -161,6 +161,7 @@ impl<D: Disk> Store<D> {
     }
 }
 
+// decision: memory-put-back
 /// Puts a new referent into memory and then into the file; where the file refuses it, it goes out of memory again.
 fn define_in_both<P: Pages>(
     alloc: Global,

@@ -69,6 +69,7 @@ pub(crate) fn is_name(name: &Name, text: &str) -> bool
     text == name.as_str()
 }
 
+// decision: measured-not-checked-again
 /// Checks that a file has room for these definitions; 94 where not. Whether each passes the checks of its line isn't asked again. It
 /// takes no memory.
 pub(crate) fn check_definitions(definitions: &StoredCatalogue) -> Result<(), Refusal>

@@ -1,6 +1,6 @@
 //! This module reads the routes and the referents that a version sees.
 
-ghost use Rattle.std.specs.Prelude.{◌≡◌, ◌≢◌, ◌≤◌, ℕ, Err, IfOk, MatchResult, map};
+ghost use Rattle.std.specs.Prelude.{◌≡◌, ◌≢◌, ◌≤◌, ℕ, Err, IfOk, MatchResult};
 ghost use Rattle.rs_catalog.specs.Referents.{referents_on};
 ghost use Rattle.rs_file.specs.Calls.{RefusesToLoad};
 ghost use Rattle.rs_stored_catalog.specs.RouteReferents.{HasAlone};
@@ -9,35 +9,21 @@ ghost use Rattle.rs_pager.specs.Opened.{CountsFault};
 ghost use Rattle.rs_file_meaning.specs.Seen.{referents_seen};
 ghost use Rattle.rs_store.specs.Kept.{StandsIn};
 ghost use Rattle.rs_store.specs.Reading.{ReadsStore};
-ghost use Rattle.rs_store.specs.Versions.{AreRoutesAt, entry_of, routes_by};
+ghost use Rattle.rs_store.specs.Versions.{AreRoutesAt, routes_by};
 
 use crate::store::Store;
-use rs_catalog::{Catalog, RouteEntry, RouteReferents};
+use rs_catalog::RouteReferents;
 use rs_disk::Disk;
-use rs_methods::Name;
 use rs_refusal::Refusal;
 use rs_stored_catalog::referents_of_route;
-use std::alloc::{AllocError, Global};
-
-/// A route by its name.
-#[derive(Clone, Copy)]
-pub struct NamedRoute {
-    /// The route's name.
-    pub name: Name,
-    /// The route's number, its birth, and where it starts and ends.
-    pub route: RouteEntry,
-}
+use std::alloc::Global;
 
 impl<D: Disk> Store<D> {
-    /// The routes that the version sees, in the order of their names: those of the catalogue that were born by it. The only refusal
-    /// is for want of memory.
-    pub fn routes_at(&self, alloc: Global, version: u64) -> Result<Vec<NamedRoute>, AllocError>
-        ensures born { IfOk result (λ routes. map entry_of routes.items ≡ routes_by version self.now.catalog) }
-        ensures sees { (oldest : ℕ) (state : State) (stands : StandsIn D.Disk oldest self.now state)
-            → IfOk result (λ routes. AreRoutesAt version stands.contents (map entry_of routes.items)) }
-    {
-        routes_born_by(alloc, &self.catalog, version)
-    }
+    /// The routes that a version sees are those of the catalogue that were born by it.
+    pub fn routes_born_by_are_seen(&self, version: u64)
+        ensures { (oldest : ℕ) (state : State) (stands : StandsIn D.Disk oldest self.now state)
+            → AreRoutesAt version stands.contents (routes_by version self.now.catalog) }
+    {}
 
     /// The referents that a live version sees on the route of this number, as a position of the route is printed by them; no other
     /// route has any. It is refused with 90, with 91, and with 94, which never comes at a live version of a store that stands in a
@@ -59,24 +45,4 @@ impl<D: Disk> Store<D> {
     {
         referents_of_route(alloc, &mut self.pager, &self.file.referents, route, version)
     }
-}
-
-/// The routes of the catalogue that were born by the version, in the order of their names.
-fn routes_born_by(
-    alloc: Global,
-    catalog: &Catalog,
-    version: u64,
-) -> Result<Vec<NamedRoute>, AllocError>
-    ensures { IfOk result (λ routes. map entry_of routes.items ≡ routes_by version catalog.now) }
-{
-    let mut routes = Vec::new(alloc);
-    for (name, route) in catalog.routes() {
-        if route.born() <= version {
-            routes.push(NamedRoute {
-                name: *name,
-                route: *route,
-            })?;
-        }
-    }
-    Ok(routes)
 }

@@ -2,6 +2,7 @@
 
 ghost use Rattle.rs_table_changes.specs.Inner.{EndsSo};
 
+// decision: ended-and-taken-out
 /// When a change is made: the version that shows it first, and the oldest version that is to see what it saw.
 #[derive(Clone, Copy)]
 pub struct Moment {

@@ -43,6 +43,7 @@ use rs_syntax::Query;
 use std::alloc::AllocError;
 
 impl<D: Disk> Engine<D> {
+    // decision: stays-by-the-engine
     /// Opens a cursor of a session on the lines of a query. Checks, in order: its query; its name is taken (61); the session
     /// has as many as it may (62).
     pub(crate) fn open_cursor(

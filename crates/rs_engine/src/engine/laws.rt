@@ -103,6 +103,7 @@ pub fn a_crash_leaves_a_state_that_was_kept<D: Disk>()
         → IsLast D.Disk new.store.pager last ⊎ IsLast D.Disk new.store.pager (without_cursors machine.state) }
 {}
 
+// decision: steps-of-a-service
 /// Over any list of steps, from a machine on, where a state was kept last: each image that a crash might have left meanwhile was left
 /// before, or stands for the state after a front of them, none skipped and none in part. What is kept after them holds all up to the last
 /// SAVE or REOPEN that was accepted, and so does each image that a crash may leave then. They come to a machine, which the engine is.

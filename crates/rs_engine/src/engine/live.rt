@@ -3,8 +3,8 @@
 //! A read leaves all that is kept as it was, whatever it answers.
 
 ghost use Rattle.std.specs.Prelude.{◌≡◌, IfOk, map};
-ghost use Rattle.rs_answers.specs.Routes as answers;
-ghost use Rattle.rs_store_source.specs.Versions as store;
+ghost use Rattle.rs_answers.specs.Routes.{entry_of};
+ghost use Rattle.rs_store_source.specs.Versions.{routes_by};
 
 use rs_answers::{InMemory, NamedRoute, Versions};
 use rs_catalog::{Catalog, Ends, RouteReferents};
@@ -16,6 +16,7 @@ use rs_store_source::rs_store::Store;
 use rs_store_source::{ends_asked, spans_asked, spans_of_value_asked};
 use std::alloc::{AllocError, Global};
 
+// decision: oldest-version
 /// A store, and the oldest version that is looked at.
 #[derive(Drop)]
 pub struct LiveStore<D: Disk> {
@@ -98,8 +99,8 @@ impl<D: Disk> Versions for LiveStore<D> {
     ghost shows = { λ live version seen. ShowsVersion D.Disk live.oldest live.store version seen };
 
     fn routes_at(&mut self, alloc: Global, version: u64) -> Result<Vec<NamedRoute>, Refusal> {
-        let kept = self.store.routes_at(alloc, version)?;
-        Ok(named_routes(alloc, kept.as_slice())?)
+        self.store.routes_born_by_are_seen(version);
+        Ok(routes_born_by(alloc, self.store.catalog(), version)?)
     }
 
     fn referents_at(
@@ -125,19 +126,23 @@ impl<D: Disk> Versions for LiveStore<D> {
     ghost shows_few = { λ live version seen shown. routes_few _ live.oldest live.store version seen shown };
 }
 
-/// The routes of a store as answers name them. The only refusal is for want of memory.
-fn named_routes(
+/// The routes of the catalogue that were born by the version, in the order of their names. The only refusal is for want of
+/// memory.
+fn routes_born_by(
     alloc: Global,
-    kept: &[rs_store_source::rs_store::NamedRoute],
+    catalog: &Catalog,
+    version: u64,
 ) -> Result<Vec<NamedRoute>, AllocError>
-    ensures { IfOk result (λ routes. map answers.entry_of routes.items ≡ map store.entry_of kept.now) }
+    ensures { IfOk result (λ routes. map entry_of routes.items ≡ routes_by version catalog.now) }
 {
-    let mut routes = Vec::with_capacity(alloc, kept.len())?;
-    for one in kept {
-        routes.push(NamedRoute {
-            name: one.name,
-            route: one.route,
-        })?;
+    let mut routes = Vec::new(alloc);
+    for (name, route) in catalog.routes() {
+        if route.born() <= version {
+            routes.push(NamedRoute {
+                name: *name,
+                route: *route,
+            })?;
+        }
     }
     Ok(routes)
 }
