@@ -3,7 +3,9 @@ mod Headers
 mod Readers
 mod Cuts
 mod Batches
+mod Runs
 mod Taking
 mod Steps
 mod OneCut
 mod KnownTexts
+mod Rejected

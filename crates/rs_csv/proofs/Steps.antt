@@ -1,11 +1,12 @@
 -- How far the input was cut and taken, by one more step.
-use Rattle.std.proofs.Common.{◌≡◌, ◌∙◌, inl, inr, ℕ, ◌+◌, ◌<◌, ◌≤◌, Bool, true, false, List, [], ◌∷◌, ◌++◌, length, Option, None, refl, sym, ap, subst, append_assoc, append-nil, take, drop, get_or}
-use Rattle.std.specs.Prelude.{IfOk, MatchResult, OnOk, Result, Ok, Err}
+use Rattle.std.proofs.Common.{◌≡◌, ◌∙◌, inl, inr, ℕ, ◌+◌, ◌-◌, ◌<◌, ◌≤◌, Bool, true, false, List, [], ◌∷◌, ◌++◌, length, Option, None, refl, sym, ap, subst, append_assoc, append-nil, take, take_all, drop, get_or, length-drop, arith}
+use Rattle.std.specs.Prelude.{IfOk, IsSome, MatchResult, OnOk, Result, Ok, Err}
 use Rattle.std.specs.List.{concat}
 use Rattle.std.specs.Io.KnownBytes.{IsAtEnd}
 use Rattle.std.proofs.KnownBytes.{Appends-nil}
 use Rattle.std.proofs.lemmas.Bool.{false≢true}
 use Rattle.std.proofs.lemmas.List.{take-append-drop, take_more}
+use Rattle.std.proofs.Math.Seq.{take-add}
 use Rattle.csv.specs.Reading.{strip_bom}
 use Rattle.rs_syntax.specs.Tree.{CommandTree}
 use Rattle.rs_csv.specs.declared.batch.Batch.{Batch}
@@ -16,10 +17,11 @@ use Rattle.rs_csv.specs.declared.filter.Stop.{Stop}
 use Rattle.rs_csv.specs.declared.filter.Wanted.{Wanted}
 use Rattle.rs_csv.specs.declared.quoting.Place.TheVariants as places
 use Rattle.rs_csv.specs.Quoting.{ends_record}
-use Rattle.rs_csv.specs.Cutting.{IsBatchOf, IsBetween, IsCut, Takes, after_all, kept, kept_of, within}
+use Rattle.rs_csv.specs.Cutting.{IsBatchOf, IsBetween, IsCut, Runs, Takes, after_all, kept, kept_of, within}
 use Rattle.rs_csv.specs.Output.{AreTaken, EndsTaken, IsQuiet, SoFar, TakesMore, TookAll, Wrote, WroteAll, WroteAtEnd, WroteFront, WroteSoFar}
 use Rattle.rs_csv.proofs.Cuts.{concat_more, cut_ended, cut_more, cut_none, cut_within, kept_append, within_long, within_short}
 use Rattle.rs_csv.proofs.Outputs.{Stays, stays_quiet}
+use Rattle.rs_csv.proofs.Runs.{cut_run}
 use Rattle.rs_csv.proofs.Taking.{front_more, taken_front, taken_none, taken_told, wrote_nothing}
 
 -- ---- a byte
@@ -59,6 +61,18 @@ piece_more input piece i d less =
     ap (λ bs. bs ++ drop (i + 1) piece) (append_assoc input (take i piece) (get_or piece i d ∷ []) ∙ ap (λ bs. input ++ bs) (sym (take_more piece i d less)))
     ∙ append_assoc input (take (i + 1) piece) (drop (i + 1) piece) ∙ ap (λ bs. input ++ bs) (take-append-drop (i + 1) piece)
 
+pub piece_next : (input piece : List ℕ) (i d : ℕ) → i < length piece → (input ++ take i piece) ++ get_or piece i d ∷ [] ≡ input ++ take (i + 1) piece
+piece_next input piece i d less = append_assoc input (take i piece) (get_or piece i d ∷ []) ∙ ap (λ bs. input ++ bs) (sym (take_more piece i d less))
+
+-- more bytes of a piece, and all that are left
+pub piece_run : (input piece : List ℕ) (i count : ℕ) → (input ++ take i piece) ++ take count (take (length piece - i) (drop i piece)) ≡ input ++ take (i + count) piece
+piece_run input piece i count =
+    let all : take (length piece - i) (drop i piece) ≡ drop i piece = take_all (length piece - i) (drop i piece) (omega (arith, length-drop i piece)) in
+    ap (λ bs. (input ++ take i piece) ++ take count bs) all ∙ append_assoc input (take i piece) (take count (drop i piece)) ∙ ap (λ bs. input ++ bs) (sym (take-add i count piece))
+
+pub piece_rest : (input piece : List ℕ) (i : ℕ) → (input ++ take i piece) ++ drop i piece ≡ input ++ piece
+piece_rest input piece i = append_assoc input (take i piece) (drop i piece) ∙ ap (λ bs. input ++ bs) (take-append-drop i piece)
+
 module _ (wanted : Wanted) (table : CommandTree) (before : Option (List ℕ)) where
   pub wrote_more : (input bytes : List ℕ) (after : Option (List ℕ)) → WroteSoFar wanted table input before after → WroteSoFar wanted table (input ++ bytes) before after
   wrote_more input bytes after wrote =
@@ -94,6 +108,21 @@ module _ (wanted : Wanted) (table : CommandTree) (before : Option (List ℕ)) wh
     taken = far.taken;
   }
 
+  -- bytes that end no record
+  pub far_run : (old new : Batch) (progress : Progress) (input run : List ℕ) (after : Option (List ℕ)) → ((whole begun : List ℕ) → IsBatchOf wanted.separator old whole begun → Runs wanted.separator new whole begun run)
+      → SoFar wanted table before old progress input after → SoFar wanted table before new progress (input ++ run) after
+  far_run old new progress input run after runs far =
+      let is = runs (concat (kept far.waiting)) far.rest far.in_batch in
+      record {
+        past = far.past;
+        waiting = far.waiting;
+        rest = far.rest ++ run;
+        cut = cut_run wanted.separator input (far.past ++ far.waiting) far.rest run far.cut is.0;
+        in_batch = is.1;
+        none_lacks = far.none_lacks;
+        taken = far.taken;
+      }
+
   pub far_ended : (old new : Batch) (progress : Progress) (input : List ℕ) (byte : ℕ) (after : Option (List ℕ)) (far : SoFar wanted table before old progress input after) → ends_record (after_all wanted.separator places.Start far.rest) byte ≡ true
       → length (far.rest ++ byte ∷ []) ≤ RECORD_BYTES + 1 → IsBatchOf wanted.separator new (concat (kept far.waiting) ++ (far.rest ++ byte ∷ [])) [] → SoFar wanted table before new progress (input ++ byte ∷ []) after
   far_ended old new progress input byte after far ends short is =
@@ -125,12 +154,12 @@ module _ (wanted : Wanted) (table : CommandTree) (before : Option (List ℕ)) wh
       }
 
   pub far_left_out : {T E : Type 0} (result : Result T E) (old new : Batch) (progress progress_now : Progress) (input : List ℕ) (byte : ℕ) (after : Option (List ℕ)) → ((whole begun : List ℕ) → IsBatchOf wanted.separator old whole begun → Takes wanted.separator kinds.EndedLong new whole begun byte) → progress_now.planned ≡ progress.planned → progress_now.made.bytes.items ≡ progress.made.bytes.items
-      → progress_now.made.has_told ≡ true → progress_now.made.texts ≡ progress.made.texts → progress_now.held ≡ progress.held → SoFar wanted table before old progress input after
-      → MatchResult result (λ _. SoFar wanted table before new progress_now (input ++ byte ∷ []) after) (λ _. WroteSoFar wanted table (input ++ byte ∷ []) before after)
-  far_left_out (Ok _) old new progress progress_now input byte after takes planned bytes told texts held far =
+      → progress_now.made.has_told ≡ true → OnOk result (progress_now.made.number ≡ progress.made.number + 1) → OnOk result (IsSome progress_now.planned) → progress_now.made.texts ≡ progress.made.texts → progress_now.held ≡ progress.held
+      → SoFar wanted table before old progress input after → MatchResult result (λ _. SoFar wanted table before new progress_now (input ++ byte ∷ []) after) (λ _. WroteSoFar wanted table (input ++ byte ∷ []) before after)
+  far_left_out (Ok _) old new progress progress_now input byte after takes planned bytes told number some texts held far =
       let ends = ended_long_of wanted.separator new (concat (kept far.waiting)) far.rest byte (takes (concat (kept far.waiting)) far.rest far.in_batch) in
-      far_ended_long old new progress progress_now input byte after far ends.0 ends.1.0 ends.1.1 told (taken_told wanted table progress progress_now (kept far.past) before after planned bytes told texts held far.taken)
-  far_left_out (Err _) old new progress progress_now input byte after takes planned bytes told texts held far = far_stops old progress input (byte ∷ []) after far
+      far_ended_long old new progress progress_now input byte after far ends.0 ends.1.0 ends.1.1 told (taken_told wanted table progress progress_now (kept far.past) before after planned bytes told number some texts held far.taken)
+  far_left_out (Err _) old new progress progress_now input byte after takes planned bytes told number some texts held far = far_stops old progress input (byte ∷ []) after far
 
   -- the records of a batch are taken
   pub far_passes : {T E : Type 0} (result : Result T E) (old new : Batch) (progress progress_now : Progress) (input : List ℕ) (after later a b : Option (List ℕ)) (far : SoFar wanted table before old progress input after)
@@ -220,15 +249,16 @@ module _ (wanted : Wanted) (table : CommandTree) (before : Option (List ℕ)) wh
 
   -- something was told at the end
   pub far_told : (batch : Batch) (progress progress_now : Progress) (input : List ℕ) (after : Option (List ℕ)) → progress_now.planned ≡ progress.planned → progress_now.made.bytes.items ≡ progress.made.bytes.items
-      → progress_now.made.has_told ≡ true → progress_now.made.texts ≡ progress.made.texts → progress_now.held ≡ progress.held → SoFar wanted table before batch progress input after → SoFar wanted table before batch progress_now input after
-  far_told batch progress progress_now input after planned bytes told texts held far = record {
+      → progress_now.made.has_told ≡ true → progress_now.made.number ≡ progress.made.number + 1 → IsSome progress_now.planned → progress_now.made.texts ≡ progress.made.texts → progress_now.held ≡ progress.held
+      → SoFar wanted table before batch progress input after → SoFar wanted table before batch progress_now input after
+  far_told batch progress progress_now input after planned bytes told number some texts held far = record {
     past = far.past;
     waiting = far.waiting;
     rest = far.rest;
     cut = far.cut;
     in_batch = far.in_batch;
     none_lacks = λ off. absurd (false≢true (sym off ∙ told));
-    taken = taken_told wanted table progress progress_now (kept far.past) before after planned bytes told texts held far.taken;
+    taken = taken_told wanted table progress progress_now (kept far.past) before after planned bytes told number some texts held far.taken;
   }
 
   pub end_front : (batch : Batch) (progress : Progress) (input : List ℕ) (after : Option (List ℕ)) → SoFar wanted table before batch progress input after → WroteAtEnd wanted table input before after
@@ -260,16 +290,16 @@ module _ (wanted : Wanted) (table : CommandTree) (before : Option (List ℕ)) wh
   took_last (Err _) progress input remaining after at_end wrote = wrote_last input remaining after at_end wrote
 
 -- nothing was read or made
-pub far_start : (wanted : Wanted) (table : CommandTree) (batch : Batch) (progress : Progress) (output : Option (List ℕ)) → IsBatchOf wanted.separator batch [] [] → progress.planned ≡ None → progress.made.bytes.items ≡ [] → progress.held.items ≡ []
+pub far_start : (wanted : Wanted) (table : CommandTree) (batch : Batch) (progress : Progress) (output : Option (List ℕ)) → IsBatchOf wanted.separator batch [] [] → progress.planned ≡ None → progress.made.bytes.items ≡ [] → progress.made.number ≡ 0 → progress.held.items ≡ []
     → SoFar wanted table output batch progress [] output
-far_start wanted table batch progress output is none no_line no_text = record {
+far_start wanted table batch progress output is none no_line no_number no_text = record {
   past = [];
   waiting = [];
   rest = [];
   cut = cut_none wanted.separator;
   in_batch = is;
   none_lacks = λ _. refl;
-  taken = taken_none wanted table progress output none no_line no_text;
+  taken = taken_none wanted table progress output none no_line no_number no_text;
 }
 
 -- ---- what was written, to an end

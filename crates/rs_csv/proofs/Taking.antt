@@ -1,6 +1,6 @@
 -- What became of raw records, by one more step.
-use Rattle.std.proofs.Common.{◌≡◌, ◌∙◌, ℕ, ◌+◌, ◌<◌, ◌≤◌, Bool, true, false, List, [], ◌∷◌, ◌++◌, Option, None, refl, sym, ap, subst, append_assoc, append-nil, drop, get_or, length, arith}
-use Rattle.std.specs.Prelude.{MatchResult, OnErr, OnOk, Result, Ok, Err, map}
+use Rattle.std.proofs.Common.{◌≡◌, ◌∙◌, inl, inr, ℕ, ◌+◌, ◌-◌, ◌<◌, ◌≤◌, Bool, true, false, List, [], ◌∷◌, ◌++◌, Option, None, refl, sym, ap, subst, append_assoc, append-nil, drop, get_or, length, arith}
+use Rattle.std.specs.Prelude.{IsSome, MatchResult, OnErr, OnOk, Result, Ok, Err, map}
 use Rattle.std.specs.Io.KnownBytes.{Appends}
 use Rattle.std.proofs.KnownBytes.{Appends-nil, Appends-trans}
 use Rattle.std.proofs.lemmas.Bool.{false≢true}
@@ -13,8 +13,8 @@ use Rattle.rs_csv.specs.declared.filter.Stop.{Stop}
 use Rattle.rs_csv.specs.declared.filter.Wanted.{Wanted}
 use Rattle.rs_csv.specs.Cutting.{text_of}
 use Rattle.rs_csv.specs.Reading.{AreTexts, ReadsAll, nothing_read, one_more_batch}
-use Rattle.rs_csv.specs.Output.{AreLines, AreTaken, IsHeld, IsMade, IsOutput, IsSent, Known, known_of, Makes, SendsMore, TakesMore, WroteFront, WroteOf, held_texts, nothing}
-use Rattle.rs_csv.proofs.Outputs.{grows_same, known_told, lines_join, made_known, made_sent, output_known, output_of, stays_told}
+use Rattle.rs_csv.specs.Output.{AreDefinitions, AreLines, AreTaken, Counts, CountsOn, IsHeld, IsMade, IsOutput, IsSent, Known, known_of, Makes, SendsMore, TakesMore, WroteFront, WroteOf, held_texts, nothing}
+use Rattle.rs_csv.proofs.Outputs.{grows_same, known_told, lines_join, made_known, made_long, made_sent, output_known, output_of, stays_told}
 
 -- ---- texts
 
@@ -65,13 +65,13 @@ module _ (wanted : Wanted) (table : CommandTree) where
 
   -- ---- lines that are sent
 
-  pub sent_none : (progress : Progress) (output : Option (List ℕ)) → progress.planned ≡ None → progress.made.bytes.items ≡ [] → IsSent wanted table output progress [] output
-  sent_none progress output none no_line = record {
+  pub sent_none : (progress : Progress) (output : Option (List ℕ)) → progress.planned ≡ None → progress.made.bytes.items ≡ [] → progress.made.number ≡ 0 → IsSent wanted table output progress [] output
+  sent_none progress output none no_line no_number = record {
     records = [];
     read = nothing_read;
     sent = [];
     put = Appends-nil output;
-    made = subst (λ planned. IsMade wanted table (known_of progress.made) planned [] [] progress.made.bytes.items) (sym none) (refl, refl, no_line);
+    made = subst (λ planned. IsMade wanted table (known_of progress.made) progress.made.number planned [] [] progress.made.bytes.items) (sym none) (refl, refl, no_line, no_number);
     none_waits = no_line;
   }
 
@@ -86,22 +86,24 @@ module _ (wanted : Wanted) (table : CommandTree) where
     lost = progress.made.bytes.items;
     put = sent.put;
     texts = (known_of progress.made).texts;
-    lines = output_of wanted table (known_of progress.made) progress.planned sent.records sent.sent progress.made.bytes.items sent.made;
+    lines = output_of wanted table (known_of progress.made) progress.made.number progress.planned sent.records sent.sent progress.made.bytes.items sent.made;
   }
 
   -- the lines of a batch
   sent_batch : (old mid new : Progress) (raws batch : List (List ℕ)) (more : List (List (List ℕ))) (before after later : Option (List ℕ)) → ReadsAll wanted.separator (text_of wanted.separator batch) more → Makes wanted table more old mid → new.planned ≡ mid.planned
-      → known_of new.made ≡ known_of mid.made → new.made.bytes.items ≡ [] → Appends after later mid.made.bytes.items → IsSent wanted table before old raws after → IsSent wanted table before new (raws ++ batch) later
-  sent_batch old mid new raws batch more before after later reads makes planned known none puts sent = record {
+      → known_of new.made ≡ known_of mid.made → new.made.number ≡ mid.made.number → new.made.bytes.items ≡ [] → Appends after later mid.made.bytes.items → IsSent wanted table before old raws after
+      → IsSent wanted table before new (raws ++ batch) later
+  sent_batch old mid new raws batch more before after later reads makes planned known number none puts sent = record {
     records = sent.records ++ more;
     read = one_more_batch batch more sent.read reads;
     sent = sent.sent ++ mid.made.bytes.items;
     put = Appends-trans before after later sent.sent mid.made.bytes.items sent.put puts;
     made =
-        subst (λ p. IsMade wanted table (known_of new.made) p (sent.records ++ more) (sent.sent ++ mid.made.bytes.items) new.made.bytes.items) (sym planned)
-        (subst (IsMade wanted table (known_of new.made) mid.planned (sent.records ++ more) (sent.sent ++ mid.made.bytes.items)) (sym none)
-        (subst (λ k. IsMade wanted table k mid.planned (sent.records ++ more) (sent.sent ++ mid.made.bytes.items) []) (sym known)
-        (made_sent wanted table (known_of mid.made) mid.planned (sent.records ++ more) sent.sent mid.made.bytes.items (makes sent.records sent.sent sent.made))));
+        subst (λ p. IsMade wanted table (known_of new.made) new.made.number p (sent.records ++ more) (sent.sent ++ mid.made.bytes.items) new.made.bytes.items) (sym planned)
+        (subst (IsMade wanted table (known_of new.made) new.made.number mid.planned (sent.records ++ more) (sent.sent ++ mid.made.bytes.items)) (sym none)
+        (subst (λ k. IsMade wanted table k new.made.number mid.planned (sent.records ++ more) (sent.sent ++ mid.made.bytes.items) []) (sym known)
+        (subst (λ n. IsMade wanted table (known_of mid.made) n mid.planned (sent.records ++ more) (sent.sent ++ mid.made.bytes.items) []) (sym number)
+        (made_sent wanted table (known_of mid.made) mid.made.number mid.planned (sent.records ++ more) sent.sent mid.made.bytes.items (makes sent.records sent.sent sent.made)))));
     none_waits = none;
   }
 
@@ -119,23 +121,23 @@ module _ (wanted : Wanted) (table : CommandTree) where
     texts = (known_of mid.made).texts;
     lines =
         subst (IsOutput wanted table (known_told (known_of mid.made)) (sent.records ++ more)) (ap (λ bs. sent.sent ++ bs) puts.whole ∙ sym (append_assoc sent.sent puts.front lost))
-        (output_of wanted table (known_of mid.made) mid.planned (sent.records ++ more) sent.sent mid.made.bytes.items (makes sent.records sent.sent sent.made));
+        (output_of wanted table (known_of mid.made) mid.made.number mid.planned (sent.records ++ more) sent.sent mid.made.bytes.items (makes sent.records sent.sent sent.made));
   }
 
   pub sends : {T E : Type 0} (result : Result T E) (old mid new : Progress) (text : List ℕ) (batch : List (List ℕ)) (more : List (List (List ℕ))) (after later : Option (List ℕ)) → ReadsAll wanted.separator text more → text ≡ text_of wanted.separator batch
-      → Makes wanted table more old mid → new.planned ≡ mid.planned → known_of new.made ≡ known_of mid.made → OnOk result ((new.made.bytes.items ≡ []) × Appends after later mid.made.bytes.items)
+      → Makes wanted table more old mid → new.planned ≡ mid.planned → known_of new.made ≡ known_of mid.made → new.made.number ≡ mid.made.number → OnOk result ((new.made.bytes.items ≡ []) × Appends after later mid.made.bytes.items)
       → OnErr result ((lost : List ℕ) × PutsBut mid.made.bytes.items lost after later) → SendsMore wanted table result batch old new after later
-  sends (Ok _) old mid new text batch more after later reads is makes planned known ok err = λ before raws sent.
-      sent_batch old mid new raws batch more before after later (subst (λ t. ReadsAll wanted.separator t more) is reads) makes planned known ok.0 ok.1 sent
-  sends (Err _) old mid new text batch more after later reads is makes planned known ok err = λ before raws sent.
+  sends (Ok _) old mid new text batch more after later reads is makes planned known number ok err = λ before raws sent.
+      sent_batch old mid new raws batch more before after later (subst (λ t. ReadsAll wanted.separator t more) is reads) makes planned known number ok.0 ok.1 sent
+  sends (Err _) old mid new text batch more after later reads is makes planned known number ok err = λ before raws sent.
       lost_batch old mid raws batch more err.0 before after later (subst (λ t. ReadsAll wanted.separator t more) is reads) makes err.1 sent
 
   -- ---- raw records that are taken
 
-  pub taken_none : (progress : Progress) (output : Option (List ℕ)) → progress.planned ≡ None → progress.made.bytes.items ≡ [] → progress.held.items ≡ [] → AreTaken wanted table output progress [] output
-  taken_none progress output none no_line no_text = record {
-    sent = λ _. sent_none progress output none no_line;
-    held = λ _. record { texts_are = subst (λ held. AreTexts wanted.separator (map (λ text. text.items) held) []) (sym no_text) refl; put = Appends-nil output };
+  pub taken_none : (progress : Progress) (output : Option (List ℕ)) → progress.planned ≡ None → progress.made.bytes.items ≡ [] → progress.made.number ≡ 0 → progress.held.items ≡ [] → AreTaken wanted table output progress [] output
+  taken_none progress output none no_line no_number no_text = record {
+    sent = λ _. sent_none progress output none no_line no_number;
+    held = λ _. record { texts_are = subst (λ held. AreTexts wanted.separator (map (λ held. held.text.items) held) []) (sym no_text) refl; put = Appends-nil output };
   }
 
   held_front : (texts raws : List (List ℕ)) (before after : Option (List ℕ)) → IsHeld wanted.separator before texts raws after → WroteFront wanted table raws before after
@@ -165,22 +167,24 @@ module _ (wanted : Wanted) (table : CommandTree) where
   takes_by_holding (Err _) old new text batch output flag grown is = λ before raws taken. front_more raws batch before output (held_front (held_texts old) raws before output (taken.held flag))
 
   -- something was told, and nothing made
-  pub taken_told : (old new : Progress) (raws : List (List ℕ)) (before after : Option (List ℕ)) → new.planned ≡ old.planned → new.made.bytes.items ≡ old.made.bytes.items → new.made.has_told ≡ true → new.made.texts ≡ old.made.texts
+  pub taken_told : (old new : Progress) (raws : List (List ℕ)) (before after : Option (List ℕ)) → new.planned ≡ old.planned → new.made.bytes.items ≡ old.made.bytes.items → new.made.has_told ≡ true → new.made.number ≡ old.made.number + 1 → IsSome new.planned → new.made.texts ≡ old.made.texts
       → new.held ≡ old.held
       → AreTaken wanted table before old raws after → AreTaken wanted table before new raws after
-  taken_told old new raws before after planned bytes told texts held taken = record {
+  taken_told old new raws before after planned bytes told number some texts held taken = record {
     sent = λ flag. let sent = taken.sent flag in record {
       records = sent.records;
       read = sent.read;
       sent = sent.sent;
       put = sent.put;
       made =
-          subst (λ p. IsMade wanted table (known_of new.made) p sent.records sent.sent new.made.bytes.items) (sym planned)
-          (subst (IsMade wanted table (known_of new.made) old.planned sent.records sent.sent) (sym bytes)
-          (made_known wanted table (known_of old.made) (known_of new.made) old.planned sent.records sent.sent old.made.bytes.items (grows_same old.made new.made (stays_told old.made.has_told new.made.has_told told) texts) sent.made));
+          subst (λ p. IsMade wanted table (known_of new.made) new.made.number p sent.records sent.sent new.made.bytes.items) (sym planned)
+          (subst (IsMade wanted table (known_of new.made) new.made.number old.planned sent.records sent.sent) (sym bytes)
+          (subst (λ n. IsMade wanted table (known_of new.made) n old.planned sent.records sent.sent old.made.bytes.items) (sym number)
+          (made_long wanted table (known_of new.made) old.made.number 1 old.planned sent.records sent.sent old.made.bytes.items (subst IsSome planned some) told
+          (made_known wanted table (known_of old.made) (known_of new.made) old.made.number old.planned sent.records sent.sent old.made.bytes.items (grows_same old.made new.made (stays_told old.made.has_told new.made.has_told told) texts) sent.made))));
       none_waits = bytes ∙ sent.none_waits;
     };
-    held = λ flag. let was = taken.held flag in record { texts_are = subst (λ h. AreTexts wanted.separator (map (λ text. text.items) h.items) raws) (sym held) was.texts_are; put = was.put };
+    held = λ flag. let was = taken.held flag in record { texts_are = subst (λ h. AreTexts wanted.separator (map (λ held. held.text.items) h.items) raws) (sym held) was.texts_are; put = was.put };
   }
 
   -- ---- the end
@@ -195,16 +199,16 @@ module _ (wanted : Wanted) (table : CommandTree) where
     texts = (known_of progress.made).texts;
     lines =
         subst (IsOutput wanted table (known_of progress.made) sent.records) (ap (λ bs. sent.sent ++ bs) sent.none_waits ∙ append-nil sent.sent)
-        (output_known wanted table (known_of progress.made) progress.planned sent.records sent.sent progress.made.bytes.items sent.made);
+        (output_known wanted table (known_of progress.made) progress.made.number progress.planned sent.records sent.sent progress.made.bytes.items sent.made);
   }
 
   -- lines that define routes, and what is written after them
-  pub output_routed : (known : Known) (records : List (List (List ℕ))) (routes bytes : List ℕ) → ((plan : Plan) → AreLines wanted.session table plan known [] routes) → IsOutput wanted table known records bytes
+  pub output_routed : (known : Known) (records : List (List (List ℕ))) (routes bytes : List ℕ) → ((plan : Plan) → AreLines wanted.session table plan known 0 [] routes 0) → IsOutput wanted table known records bytes
       → IsOutput wanted table known records (routes ++ bytes)
   output_routed known [] routes bytes front lines = λ plan. lines_join wanted.session table plan known [] routes (front plan) (lines plan)
-  output_routed known (header ∷ records) routes bytes front (plan, plans, lines) = (plan, plans, lines_join wanted.session table plan known [] routes (front plan) lines)
+  output_routed known (header ∷ records) routes bytes front (plan, last, plans, lines) = (plan, last, plans, lines_join wanted.session table plan known [] routes (front plan) lines)
 
-  pub all_routed : (told : Bool) (raws : List (List ℕ)) (routes : List ℕ) (before after later : Option (List ℕ)) → ((known : Known) (plan : Plan) → AreLines wanted.session table plan known [] routes) → Appends before after routes
+  pub all_routed : (told : Bool) (raws : List (List ℕ)) (routes : List ℕ) (before after later : Option (List ℕ)) → AreDefinitions wanted.session table routes → Appends before after routes
       → WroteOf wanted table told raws after later → WroteOf wanted table told raws before later
   all_routed told raws routes before after later front put wrote = record {
     records = wrote.records;
@@ -212,10 +216,10 @@ module _ (wanted : Wanted) (table : CommandTree) where
     sent = routes ++ wrote.sent;
     put = Appends-trans before after later routes wrote.sent put wrote.put;
     texts = wrote.texts;
-    lines = output_routed (record { told = told; texts = wrote.texts }) wrote.records routes wrote.sent (front (record { told = told; texts = wrote.texts })) wrote.lines;
+    lines = output_routed (record { told = told; texts = wrote.texts }) wrote.records routes wrote.sent (λ plan. front plan (record { told = told; texts = wrote.texts }) 0) wrote.lines;
   }
 
-  pub front_routed : (raws : List (List ℕ)) (routes : List ℕ) (before after later : Option (List ℕ)) → ((known : Known) (plan : Plan) → AreLines wanted.session table plan known [] routes) → Appends before after routes
+  pub front_routed : (raws : List (List ℕ)) (routes : List ℕ) (before after later : Option (List ℕ)) → AreDefinitions wanted.session table routes → Appends before after routes
       → WroteFront wanted table raws after later → WroteFront wanted table raws before later
   front_routed raws routes before after later front put wrote = record {
     first = wrote.first;
@@ -229,11 +233,11 @@ module _ (wanted : Wanted) (table : CommandTree) where
     texts = wrote.texts;
     lines =
         subst (IsOutput wanted table (record { told = true; texts = wrote.texts }) wrote.records) (sym (append_assoc routes wrote.sent wrote.lost))
-        (output_routed (record { told = true; texts = wrote.texts }) wrote.records routes (wrote.sent ++ wrote.lost) (front (record { told = true; texts = wrote.texts })) wrote.lines);
+        (output_routed (record { told = true; texts = wrote.texts }) wrote.records routes (wrote.sent ++ wrote.lost) (λ plan. front plan (record { told = true; texts = wrote.texts }) 0) wrote.lines);
   }
 
   -- a front of the lines that define routes
-  pub routes_lost : (raws : List (List ℕ)) (routes lost : List ℕ) (before after : Option (List ℕ)) → ((known : Known) (plan : Plan) → AreLines wanted.session table plan known [] routes) → PutsBut routes lost before after
+  pub routes_lost : (raws : List (List ℕ)) (routes lost : List ℕ) (before after : Option (List ℕ)) → AreDefinitions wanted.session table routes → PutsBut routes lost before after
       → WroteFront wanted table raws before after
   routes_lost raws routes lost before after front puts = record {
     first = [];
@@ -245,15 +249,38 @@ module _ (wanted : Wanted) (table : CommandTree) where
     lost = lost;
     put = puts.put;
     texts = λ name. None;
-    lines = λ plan. subst (AreLines wanted.session table plan (record { told = true; texts = λ name. None }) []) puts.whole (front (record { told = true; texts = λ name. None }) plan);
+    lines = λ plan. subst (λ bs. AreLines wanted.session table plan (record { told = true; texts = λ name. None }) 0 [] bs 0) puts.whole (front plan (record { told = true; texts = λ name. None }) 0);
   }
 
   -- what is written after the lines that define routes, where texts waited for these
-  pub ends_held : (result : Result Bool Stop) (raws : List (List ℕ)) (routes : List ℕ) (before output middle later : Option (List ℕ)) → ((known : Known) (plan : Plan) → AreLines wanted.session table plan known [] routes)
+  pub ends_held : (result : Result Bool Stop) (raws : List (List ℕ)) (routes : List ℕ) (before output middle later : Option (List ℕ)) → AreDefinitions wanted.session table routes
       → Appends before output [] → Appends output middle routes → MatchResult result (λ told. WroteOf wanted table told raws middle later) (λ _. WroteFront wanted table raws middle later)
       → MatchResult result (λ told. WroteOf wanted table told raws before later) (λ _. WroteFront wanted table raws before later)
   ends_held (Ok told) raws routes before output middle later front put puts wrote = all_routed told raws routes before middle later front (Appends-trans before output middle [] routes put puts) wrote
   ends_held (Err _) raws routes before output middle later front put puts wrote = front_routed raws routes before middle later front (Appends-trans before output middle [] routes put puts) wrote
+
+  -- records that are too long are counted
+  counted : (number now : ℕ) (progress : Progress) (records : List (List (List ℕ))) (sent waiting : List ℕ) → Counts number now progress → IsMade wanted table (known_of progress.made) number progress.planned records sent waiting
+      → IsMade wanted table (known_of progress.made) now progress.planned records sent waiting
+  counted number now progress records sent waiting (inl same) made = subst (λ n. IsMade wanted table (known_of progress.made) n progress.planned records sent waiting) (sym same) made
+  counted number now progress records sent waiting (inr (some, told, more)) made =
+      let is : number + (now - number) ≡ now = omega (arith, more) in
+      subst (λ n. IsMade wanted table (known_of progress.made) n progress.planned records sent waiting) is
+      (made_long wanted table (known_of progress.made) number (now - number) progress.planned records sent waiting some told made)
+
+  pub sent_counted : (old new : Progress) (raws : List (List ℕ)) (before after : Option (List ℕ)) → CountsOn old new → IsSent wanted table before old raws after → IsSent wanted table before new raws after
+  sent_counted old new raws before after counts sent = record {
+    records = sent.records;
+    read = sent.read;
+    sent = sent.sent;
+    put = sent.put;
+    made =
+        subst (λ p. IsMade wanted table (known_of new.made) new.made.number p sent.records sent.sent new.made.bytes.items) (sym counts.0)
+        (subst (λ k. IsMade wanted table k new.made.number old.planned sent.records sent.sent new.made.bytes.items) (sym counts.1)
+        (subst (IsMade wanted table (known_of old.made) new.made.number old.planned sent.records sent.sent) (sym counts.2)
+        (counted old.made.number new.made.number old sent.records sent.sent old.made.bytes.items counts.3 sent.made)));
+    none_waits = counts.2 ∙ sent.none_waits;
+  }
 
   -- ---- texts in turn
 
@@ -265,8 +292,8 @@ module _ (wanted : Wanted) (table : CommandTree) where
     pub sent : IsSent wanted table before progress first after
     pub texts_are : AreTexts wanted.separator (drop at texts) others
 
-  pub read_to_start : (texts raws : List (List ℕ)) (progress : Progress) (output : Option (List ℕ)) → progress.planned ≡ None → progress.made.bytes.items ≡ [] → AreTexts wanted.separator texts raws → IsReadTo texts raws 0 output progress output
-  read_to_start texts raws progress output none no_line are = record { first = []; others = raws; whole = refl; sent = sent_none progress output none no_line; texts_are = are }
+  pub read_to_start : (texts raws : List (List ℕ)) (progress : Progress) (output : Option (List ℕ)) → progress.planned ≡ None → progress.made.bytes.items ≡ [] → progress.made.number ≡ 0 → AreTexts wanted.separator texts raws → IsReadTo texts raws 0 output progress output
+  read_to_start texts raws progress output none no_line no_number are = record { first = []; others = raws; whole = refl; sent = sent_none progress output none no_line no_number; texts_are = are }
 
   -- one more
   module _ (texts raws first others batch : List (List ℕ)) (at : ℕ) (new : Progress) (before later : Option (List ℕ)) (whole : raws ≡ first ++ (batch ++ others)) (are : AreTexts wanted.separator (drop (at + 1) texts) others) where
@@ -284,6 +311,10 @@ module _ (wanted : Wanted) (table : CommandTree) where
   read_to_next result texts raws text at old new before after later is sends read =
       let are = subst (λ texts. AreTexts wanted.separator texts read.others) is read.texts_are in
       read_one texts raws read.first are.1 are.0 at new before later (read.whole ∙ ap (λ rs. read.first ++ rs) are.2) are.4 result (sends are.0 are.3 before read.first read.sent)
+
+  pub read_to_counted : (texts raws : List (List ℕ)) (at : ℕ) (old new : Progress) (before after : Option (List ℕ)) → CountsOn old new → IsReadTo texts raws at before old after → IsReadTo texts raws at before new after
+  read_to_counted texts raws at old new before after counts read =
+      record { first = read.first; others = read.others; whole = read.whole; sent = sent_counted old new read.first before after counts read.sent; texts_are = read.texts_are }
 
   pub read_to_end : (texts raws : List (List ℕ)) (at : ℕ) (progress : Progress) (before after : Option (List ℕ)) → drop at texts ≡ [] → IsReadTo texts raws at before progress after → WroteOf wanted table progress.made.has_told raws before after
   read_to_end texts raws at progress before after is read =

@@ -72,6 +72,10 @@ pub record IsBatchWithin (limit separator : ℕ) (batch : Batch) (whole begun : 
 abbrev pub IsBatchOf : ℕ → Batch → List ℕ → List ℕ → Type 0
 IsBatchOf separator batch whole begun = IsBatchWithin RECORD_BYTES separator batch whole begun
 
+-- a batch after bytes that go on the record that has begun, none of which ends it
+abbrev pub Runs : ℕ → Batch → List ℕ → List ℕ → List ℕ → Type 0
+Runs separator batch whole begun run = HasNoEnd separator (after_all separator places.Start begun) run × IsBatchOf separator batch whole (begun ++ run)
+
 -- no record has begun that the batch has bytes of
 abbrev pub IsBetween : Batch → List ℕ → Type 0
 IsBetween batch begun = (begun ≡ []) ⊎ (batch.is_long ≡ true)

@@ -1,5 +1,5 @@
 -- Which fields of a record a plan takes: those that have the names that are wanted in the header.
-use Rattle.std.specs.Prelude.{◌≡◌, ◌⊎◌, ℕ, ◌<◌, ◌==◌, Bool, true, false, List, [], ◌∷◌, length, map, Some, codes}
+use Rattle.std.specs.Prelude.{◌≡◌, ◌⊎◌, ℕ, ◌<◌, ◌==◌, Bool, true, false, List, [], ◌∷◌, length, map, Some, codes, option_map}
 use Rattle.std.specs.List.{position_or_len, before_first, after_first}
 use Rattle.std.specs.Char.{to_ascii_lowercase}
 use Rattle.csv.specs.Records.{field_at}
@@ -8,6 +8,8 @@ use Rattle.rs_value.specs.declared.column.Kind.{Kind}
 use Rattle.rs_value.specs.declared.column.Kind.TheVariants as kinds
 use Rattle.rs_csv_lines.specs.declared.plan.Column.{Column}
 use Rattle.rs_csv_lines.specs.declared.plan.Place.{Place}
+use Rattle.rs_csv_lines.specs.declared.plan.Source.{Source}
+use Rattle.rs_csv_lines.specs.declared.plan.Source.TheVariants as sources
 use Rattle.rs_csv_lines.specs.declared.plan.Scale.{Scale}
 use Rattle.rs_csv_lines.specs.declared.plan.Place.TheVariants as places
 use Rattle.rs_csv_lines.specs.Fields.{content}
@@ -107,11 +109,20 @@ IsPlaceNamed wanted header kinds.Line (places.Along from to) = IsNamed wanted.ma
 IsPlaceNamed wanted header kinds.Point (places.At at) = IsNamed wanted.makes_names header wanted.at.now at
 IsPlaceNamed wanted header _ _ = ⊥
 
--- the column of a plan is of the type of this column of the table, takes the field that has the name that is wanted for it, and has its scale
+-- the number of the record is wanted for this column
+abbrev pub IsNumbered : Wanted → List ℕ → Type 0
+IsNumbered wanted column = option_map (λ name. name.now) wanted.number ≡ Some column
+
+-- what gives the value of this column: the number of the record where that is wanted, and else the field that has the name that is wanted
+abbrev pub IsSourceOf : Wanted → List (List ℕ) → List ℕ → Source → Type 0
+IsSourceOf wanted header column (sources.Field place) = (¬ IsNumbered wanted column)
+    × ((name : List ℕ) × IsCalled (map (λ words. words.now) wanted.columns.now) column name × IsNamed wanted.makes_names header name place)
+IsSourceOf wanted header column sources.Number = IsNumbered wanted column
+
+-- the column of a plan is of the type of this column of the table, takes what is wanted for it, and has its scale
 abbrev pub IsColumnOf : Wanted → List (List ℕ) → List ℕ × ColumnType → Column → Type 0
 IsColumnOf wanted header definition column =
-    (column.column_type ≡ definition.1) × ((name : List ℕ) × IsCalled (map (λ words. words.now) wanted.columns.now) definition.0 name × IsNamed wanted.makes_names header name column.field)
-    × IsScaled (map (λ words. words.now) wanted.scales.now) definition.0 column.scale
+    (column.column_type ≡ definition.1) × IsSourceOf wanted header definition.0 column.source × IsScaled (map (λ words. words.now) wanted.scales.now) definition.0 column.scale
 
 -- the same of each, in their order
 abbrev pub AreColumnsOf : Wanted → List (List ℕ) → List (List ℕ × ColumnType) → List Column → Type 0

@@ -1,5 +1,5 @@
 -- What is written for a CSV: lines of one session, each of which says what it is written for.
-use Rattle.std.specs.Prelude.{◌≡◌, ◌⊎◌, ℕ, ◌<◌, List, [], ◌∷◌, ◌++◌, length, map, Option, Some, None, IfSome, Result, MatchResult, Bool, true, false, codes, string_bytes}
+use Rattle.std.specs.Prelude.{◌≡◌, ◌⊎◌, ℕ, ◌+◌, ◌<◌, ◌≤◌, List, [], ◌∷◌, ◌++◌, length, map, Option, Some, None, IfSome, IsSome, Result, MatchResult, Bool, true, false, codes, string_bytes}
 use Rattle.std.specs.List.{concat}
 use Rattle.std.specs.Io.KnownBytes.{Appends, Consumes, IsAtEnd, Keeps}
 use Rattle.csv.specs.Reading.{strip_bom}
@@ -59,7 +59,8 @@ pub record IsPlanOf (wanted : Wanted) (table : CommandTree) (header : List (List
   pub named : IsName plan.table.bytes
   pub some : 0 < length plan.columns.items
   pub session_is : plan.session ≡ wanted.session
-  pub rounds_is : plan.rounds ≡ wanted.rounds
+  pub rounds_is : plan.measures.rounds ≡ wanted.rounds
+  pub stations_is : plan.measures.stations ≡ wanted.stations
   pub names_is : plan.makes_names ≡ wanted.makes_names
   pub in_range : wanted.session < 64
 
@@ -68,24 +69,27 @@ pub record Known : Type 0 where
   pub told : Bool
   pub texts : List ℕ → Option (List ℕ)
 
--- Lines of the session, each with its LF, over records in their order: each record has its INSERT, where names are made by a route whose
--- name is made of one text alone, or is left out where something is told. Among these are lines that define the table, or a route.
-pub data AreLines (session : ℕ) (table : CommandTree) (plan : Plan) (known : Known) : List (List (List ℕ)) → List ℕ → Type 0 where
-  nothing : AreLines session table plan known [] []
-  definition_line : {records : List (List (List ℕ))} {bytes : List ℕ} (line : List ℕ) → AreLines session table plan known records bytes → Asks line (command session table)
-      → AreLines session table plan known records (bytes ++ line ++ 10 ∷ [])
-  route_line : {records : List (List (List ℕ))} {bytes : List ℕ} (line name : List ℕ) (start finish : ℕ) → AreLines session table plan known records bytes
-      → Asks line (command session (define_route name start finish)) → AreLines session table plan known records (bytes ++ line ++ 10 ∷ [])
-  insert_line : {records : List (List (List ℕ))} {bytes : List ℕ} (fields : List (List ℕ)) (line : List ℕ) (tree : CommandTree) → AreLines session table plan known records bytes
-      → (inserts : IsInsertOf plan fields tree) → IsOneText plan known.texts fields inserts.route → Asks line (command session tree)
-      → AreLines session table plan known (records ++ fields ∷ []) (bytes ++ line ++ 10 ∷ [])
-  left_out : {records : List (List (List ℕ))} {bytes : List ℕ} (fields : List (List ℕ)) → AreLines session table plan known records bytes → known.told ≡ true
-      → AreLines session table plan known (records ++ fields ∷ []) bytes
+-- Lines of the session, each with its LF, over records in their order, which are counted on from so many: each record has its INSERT, by its
+-- number, where names are made by a route whose name is made of one text alone, or is left out where something is told. So are those that are
+-- too long to be read, which are counted too. Among these are lines that define the table, or a route.
+pub data AreLines (session : ℕ) (table : CommandTree) (plan : Plan) (known : Known) (before : ℕ) : List (List (List ℕ)) → List ℕ → ℕ → Type 0 where
+  nothing : AreLines session table plan known before [] [] before
+  definition_line : {records : List (List (List ℕ))} {bytes : List ℕ} {number : ℕ} (line : List ℕ) → AreLines session table plan known before records bytes number → Asks line (command session table)
+      → AreLines session table plan known before records (bytes ++ line ++ 10 ∷ []) number
+  route_line : {records : List (List (List ℕ))} {bytes : List ℕ} {number : ℕ} (line name : List ℕ) (start finish : ℕ) → AreLines session table plan known before records bytes number
+      → Asks line (command session (define_route name start finish)) → AreLines session table plan known before records (bytes ++ line ++ 10 ∷ []) number
+  insert_line : {records : List (List (List ℕ))} {bytes : List ℕ} {number : ℕ} (fields : List (List ℕ)) (line : List ℕ) (tree : CommandTree) → AreLines session table plan known before records bytes number
+      → (inserts : IsInsertOf plan (number + 1) fields tree) → IsOneText plan known.texts fields inserts.route → Asks line (command session tree)
+      → AreLines session table plan known before (records ++ fields ∷ []) (bytes ++ line ++ 10 ∷ []) (number + 1)
+  left_out : {records : List (List (List ℕ))} {bytes : List ℕ} {number : ℕ} (fields : List (List ℕ)) → AreLines session table plan known before records bytes number → known.told ≡ true
+      → AreLines session table plan known before (records ++ fields ∷ []) bytes (number + 1)
+  too_long : {records : List (List (List ℕ))} {bytes : List ℕ} {number : ℕ} (more : ℕ) → AreLines session table plan known before records bytes number → known.told ≡ true
+      → AreLines session table plan known before records bytes (number + more)
 
--- What is written for these records: nothing but definitions where there is none, else by the header the lines of those after it.
+-- What is written for these records: nothing but definitions where there is none, else by the header the lines of those after it, counted from 1.
 abbrev pub IsOutput : Wanted → CommandTree → Known → List (List (List ℕ)) → List ℕ → Type 0
-IsOutput wanted table known [] bytes = (plan : Plan) → AreLines wanted.session table plan known [] bytes
-IsOutput wanted table known (header ∷ records) bytes = (plan : Plan) × IsPlanOf wanted table header plan × AreLines wanted.session table plan known records bytes
+IsOutput wanted table known [] bytes = (plan : Plan) → AreLines wanted.session table plan known 0 [] bytes 0
+IsOutput wanted table known (header ∷ records) bytes = (plan : Plan) × (last : ℕ) × IsPlanOf wanted table header plan × AreLines wanted.session table plan known 0 records bytes last
 
 -- as long as nothing is told, nothing was, and the errors stream is as it was
 abbrev pub IsQuiet : Bool → Bool → Option (List ℕ) → Option (List ℕ) → Type 0
@@ -97,11 +101,19 @@ IsQuiet told told_now before after = told_now ≡ false → (told ≡ false) × 
 abbrev pub known_of : Made → Known
 known_of made = record { told = made.has_told; texts = text_of_name made.texts }
 
--- Bytes that grew by the lines of records.
-pub record GoesOn (session : ℕ) (table : CommandTree) (plan : Plan) (known : Known) (records : List (List (List ℕ))) (old new : List ℕ) : Type 0 where
+-- Bytes that grew by the lines of records, which are counted on from one number to another.
+pub record GoesOn (session : ℕ) (table : CommandTree) (plan : Plan) (known : Known) (before after : ℕ) (records : List (List (List ℕ))) (old new : List ℕ) : Type 0 where
   pub bytes : List ℕ
   pub grown : new ≡ old ++ bytes
-  pub lines : AreLines session table plan known records bytes
+  pub lines : AreLines session table plan known before records bytes after
+
+-- the same by lines that define something, whatever is known
+abbrev pub Defines : ℕ → CommandTree → List ℕ → List ℕ → Type 0
+Defines session table old new = (plan : Plan) (known : Known) (number : ℕ) → GoesOn session table plan known number number [] old new
+
+-- they are lines that define something, whatever is known
+abbrev pub AreDefinitions : ℕ → CommandTree → List ℕ → Type 0
+AreDefinitions session table bytes = (plan : Plan) (known : Known) (number : ℕ) → AreLines session table plan known number [] bytes number
 
 -- the plan is by the header that was read
 abbrev pub IsPlanned : Wanted → CommandTree → Progress → Type 0
@@ -112,23 +124,31 @@ pub record FilterParts : Type 0 where
   pub job : JobParts
   pub progress : Progress
 
--- What was made of a header and the records after it: lines that were sent, and others that wait.
-pub record IsMadeBy (wanted : Wanted) (table : CommandTree) (known : Known) (planned : Planned) (records : List (List (List ℕ))) (sent waiting : List ℕ) : Type 0 where
+-- What was made of a header and the records after it, which were counted up to a number: lines that were sent, and others that wait.
+pub record IsMadeBy (wanted : Wanted) (table : CommandTree) (known : Known) (number : ℕ) (planned : Planned) (records : List (List (List ℕ))) (sent waiting : List ℕ) : Type 0 where
   pub plans : IsPlanOf wanted table (fields_of planned.header) planned.plan
   pub first : List (List (List ℕ))
   pub second : List (List (List ℕ))
   pub whole : records ≡ fields_of planned.header ∷ (first ++ second)
-  pub sent_lines : AreLines wanted.session table planned.plan known first sent
-  pub waiting_lines : AreLines wanted.session table planned.plan known second waiting
+  pub middle : ℕ
+  pub sent_lines : AreLines wanted.session table planned.plan known 0 first sent middle
+  pub waiting_lines : AreLines wanted.session table planned.plan known middle second waiting number
 
 -- the same, where there may be no header yet
-abbrev pub IsMade : Wanted → CommandTree → Known → Option Planned → List (List (List ℕ)) → List ℕ → List ℕ → Type 0
-IsMade wanted table known None records sent waiting = (records ≡ []) × (sent ≡ []) × (waiting ≡ [])
-IsMade wanted table known (Some planned) records sent waiting = IsMadeBy wanted table known planned records sent waiting
+abbrev pub IsMade : Wanted → CommandTree → Known → ℕ → Option Planned → List (List (List ℕ)) → List ℕ → List ℕ → Type 0
+IsMade wanted table known number None records sent waiting = (records ≡ []) × (sent ≡ []) × (waiting ≡ []) × (number ≡ 0)
+IsMade wanted table known number (Some planned) records sent waiting = IsMadeBy wanted table known number planned records sent waiting
 
 -- these records were sent so, and the others wait
 abbrev pub IsMadeIn : Wanted → CommandTree → Progress → List (List (List ℕ)) → List ℕ → Type 0
-IsMadeIn wanted table progress records sent = IsMade wanted table (known_of progress.made) progress.planned records sent progress.made.bytes.items
+IsMadeIn wanted table progress records sent = IsMade wanted table (known_of progress.made) progress.made.number progress.planned records sent progress.made.bytes.items
+
+-- nothing changes but that records are counted that are too long, of which something was told
+abbrev pub Counts : ℕ → ℕ → Progress → Type 0
+Counts number now progress = (now ≡ number) ⊎ (IsSome progress.planned × (progress.made.has_told ≡ true) × (number ≤ now))
+
+abbrev pub CountsOn : Progress → Progress → Type 0
+CountsOn old new = (new.planned ≡ old.planned) × (known_of new.made ≡ known_of old.made) × (new.made.bytes.items ≡ old.made.bytes.items) × Counts old.made.number new.made.number old
 
 -- what is made of more records
 abbrev pub Makes : Wanted → CommandTree → List (List (List ℕ)) → Progress → Progress → Type 0
@@ -150,7 +170,7 @@ pub record IsHeld (separator : ℕ) (before : Option (List ℕ)) (texts : List (
 
 -- the texts that wait
 abbrev pub held_texts : Progress → List (List ℕ)
-held_texts progress = map (λ text. text.items) progress.held.items
+held_texts progress = map (λ held. held.text.items) progress.held.items
 
 -- What became of raw records: their lines were sent, or where routes are to be defined their texts wait.
 pub record AreTaken (wanted : Wanted) (table : CommandTree) (before : Option (List ℕ)) (progress : Progress) (raws : List (List ℕ)) (after : Option (List ℕ)) : Type 0 where

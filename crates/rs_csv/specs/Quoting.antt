@@ -1,5 +1,5 @@
 -- Where the bytes of CSV stand, with this byte between two fields, and the mark of a field in quotes.
-use Rattle.std.specs.Prelude.{ℕ, Bool, false, ◌||◌, ◌==◌, if◌then◌else◌, List, [], ◌∷◌, ◌++◌}
+use Rattle.std.specs.Prelude.{◌≡◌, ◌⊎◌, not, ℕ, Bool, true, false, ◌||◌, ◌==◌, if◌then◌else◌, List, [], ◌∷◌, ◌++◌}
 use Rattle.rs_csv.specs.declared.quoting.Place.{Place}
 use Rattle.rs_csv.specs.declared.quoting.Place.TheVariants as places
 
@@ -17,6 +17,18 @@ after separator places.Start byte = if byte == 34 then places.Inside else after_
 after separator places.Plain byte = after_plain separator byte
 after separator places.Inside byte = if byte == 34 then places.Behind else places.Inside
 after separator places.Behind byte = if byte == 34 then places.Inside else after_plain separator byte
+
+-- it goes on a field without quotes, or begins one
+abbrev pub is_plain : ℕ → ℕ → Bool
+is_plain separator byte = not (byte == separator || is_line_end byte || byte == 34)
+
+abbrev pub ArePlain : ℕ → List ℕ → Type 0
+ArePlain separator [] = Unit {0}
+ArePlain separator (byte ∷ bytes) = (is_plain separator byte ≡ true) × ArePlain separator bytes
+
+-- a place outside quotes
+abbrev pub IsOutside : Place → Type 0
+IsOutside place = (place ≡ places.Start) ⊎ (place ≡ places.Plain)
 
 -- a line end outside quotes
 abbrev pub ends_record : Place → ℕ → Bool

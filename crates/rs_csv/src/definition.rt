@@ -9,7 +9,7 @@ use rs_csv_lines::{Scale, write_words};
 use rs_methods::Name;
 use rs_refusal::Refusal;
 use rs_syntax::{ColumnDefinition, Command};
-use rs_value::{ColumnType, Kind};
+use rs_value::{COLUMNS, ColumnType, Kind, ROW_BYTES, Schema, row_width};
 use std::alloc::Global;
 
 /// A table as the words define it.
@@ -35,31 +35,70 @@ pub fn read_definition(alloc: Global, session: u8, words: &str) -> Result<Defini
     let command = match write_words(alloc, session, words, &mut line) {
         Ok(command) => command,
         Err(Refusal::OutOfMemory) => return Err(Stop::OutOfMemory),
-        Err(_) => return Err(Stop::NoTable),
+        Err(refusal) => return Err(Stop::Refused(refusal)),
     };
     match &command {
         Command::DefineTable {
             kind,
             name,
             columns,
-        } => Ok(Definition {
-            line,
-            kind: *kind,
-            name: *name,
-            columns: Vec::from_slice(alloc, columns.as_slice())?,
-        }),
+        } => {
+            if let Some(refusal) = refusal_of(columns.as_slice()) {
+                return Err(Stop::Refused(refusal));
+            }
+            Ok(Definition {
+                line,
+                kind: *kind,
+                name: *name,
+                columns: Vec::from_slice(alloc, columns.as_slice())?,
+            })
+        }
         _ => Err(Stop::NoTable),
     }
 }
 
-// Whether these words say the scale of a column of numbers.
-fn is_scale(definition: &Definition, words: &str) -> bool {
+// Why `run` refuses a table with these columns, whatever is defined: two have one name, or a limit would be passed.
+fn refusal_of(columns: &[ColumnDefinition]) -> Option<Refusal> {
+    if has_name_twice(columns) {
+        return Some(Refusal::ColumnTwice);
+    }
+    if columns.len() > COLUMNS {
+        return Some(Refusal::Limit);
+    }
+    let mut schema = Schema::new();
+    for column in columns {
+        if !schema.is_full() {
+            schema.push(column.column_type);
+        }
+    }
+    if row_width(&schema) > ROW_BYTES {
+        return Some(Refusal::Limit);
+    }
+    None
+}
+
+// Whether two columns have one name.
+fn has_name_twice(columns: &[ColumnDefinition]) -> bool {
+    for (i, column) in columns.iter().enumerate() {
+        for other in &columns[i + 1..] {
+            if other.name == column.name {
+                return true;
+            }
+        }
+    }
+    false
+}
+
+// Whether these words say the scale of a column of numbers, other than the one that takes the number of the record.
+fn is_scale(definition: &Definition, words: &str, number: Option<&str>) -> bool {
     let Some((name, text)) = words.split_once('=') else {
         return false;
     };
-    if Scale::from_text(text).is_none() {
-        return false;
-    }
+    Scale::from_text(text).is_some() && is_number_column(definition, name) && number != Some(name)
+}
+
+/// Whether a name is that of a column of numbers.
+pub fn is_number_column(definition: &Definition, name: &str) -> bool {
     for column in &definition.columns {
         if column.name.as_str() == name {
             return match column.column_type {
@@ -71,10 +110,10 @@ fn is_scale(definition: &Definition, words: &str) -> bool {
     false
 }
 
-/// Whether each of the words says the scale of a column of numbers, as `length=10`.
-pub fn are_scales(definition: &Definition, scales: &[&str]) -> bool {
+/// Whether each of the words says the scale of a column of numbers, as `length=10`, and none that of the one that takes the number of the record.
+pub fn are_scales(definition: &Definition, scales: &[&str], number: Option<&str>) -> bool {
     for words in scales {
-        if !is_scale(definition, words) {
+        if !is_scale(definition, words, number) {
             return false;
         }
     }

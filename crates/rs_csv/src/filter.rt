@@ -1,26 +1,30 @@
 //! The filter: CSV is read in pieces, and the lines of its records are written.
 
-ghost use Rattle.std.specs.Prelude.{◌≡◌, ◌⊎◌, ◌<◌, [], ◌∷◌, ◌++◌, OnOk, OnErr, IfOk, ℕ, List, Option, None, Ok, false, true};
+ghost use Rattle.std.specs.Prelude.{◌≡◌, ◌⊎◌, ◌+◌, ◌<◌, [], ◌∷◌, ◌++◌, OnOk, OnErr, IfOk, ℕ, List, Option, None, IsSome, Ok, false, true};
 ghost use Rattle.std.specs.List.{concat};
 ghost use Rattle.std.specs.Io.KnownBytes.{Appends, Consumes, Keeps};
 ghost use Rattle.csv.specs.Records.{fields_of};
 ghost use Rattle.rs_protocol.specs.Puts.{PutsBut};
 ghost use Rattle.rs_syntax.specs.Tree.{CommandTree};
-ghost use Rattle.rs_csv_lines.specs.declared.plan.Plan.{Plan};
 ghost use Rattle.rs_csv.specs.Cutting.{IsBatchOf, IsBetween, text_of};
-ghost use Rattle.rs_csv.specs.Output.{Ends, EndsTaken, GoesFar, GoesOn, IsAsked, IsPlanOf, IsQuiet, Known, Makes, SendsMore, SoFar, TakesHead, TakesInput, TakesMore, TakesRest, held_texts, table_of};
+ghost use Rattle.rs_csv.specs.Output.{CountsOn, Defines, Ends, EndsTaken, GoesFar, IsAsked, IsPlanOf, IsQuiet, Makes, SendsMore, SoFar, TakesHead, TakesInput, TakesMore, TakesRest, held_texts, table_of};
 ghost use Rattle.rs_csv.specs.Reading.{ReadsAll};
 
 use crate::batch::{Batch, Taken};
-use crate::definition::{Definition, are_scales, read_definition};
+use crate::definition::{Definition, are_scales, is_number_column, read_definition};
 use crate::head::{is_mark, read_head};
 use crate::header::make_plan;
 use crate::held::write_rest;
-use crate::made::{Made, push_line, take_record};
-use crate::tell::{tell_long_record, tell_rounded};
+use crate::made::{Made, next_number, push_line, take_record};
+use crate::rejects::Rejecting;
+use crate::spot::{Spot, lines_in};
+use crate::tell::{tell_record, tell_rounded};
+use crate::texts::Texts;
+use crate::told::Kind;
 use csv::{ByteRecord, ReaderBuilder};
 use rs_csv_lines::Plan;
 use rs_protocol::{Fault, put_parts};
+use rs_refusal::Refusal;
 use std::alloc::{AllocError, AllocFailed, Global};
 use std::io::{Read, Write};
 use std::marker::Model;
@@ -49,12 +53,16 @@ pub struct Wanted<'a> {
     pub columns: &'a [&'a str],
     /// `column=number`, where the numbers of a column are to be multiplied.
     pub scales: &'a [&'a str],
+    /// The column of the table that takes the number of the record, where one does.
+    pub number: Option<&'a str>,
     /// Whether the line that defines the table is written.
     pub defines_table: bool,
     /// Whether lines that define the routes are written.
     pub defines_routes: bool,
     /// Whether measures are taken to the nearest thousandth, which is told.
     pub rounds: bool,
+    /// How many units a station has, where measures in stations are read.
+    pub stations: Option<u32>,
     /// Whether names are made of routes, and of columns of the header, that are none.
     pub makes_names: bool,
 }
@@ -64,8 +72,12 @@ pub struct Wanted<'a> {
 pub enum Stop {
     /// The words define no table.
     NoTable,
+    /// `run` refuses the line that they are.
+    Refused(Refusal),
     /// They name a scale of no column of numbers, or a number that is no scale.
     NoScale,
+    /// They name no column of numbers for the number of the record.
+    NoNumber,
     /// The header lacks a column, or has it twice, which was told.
     NoColumn,
     /// A growth was refused.
@@ -126,6 +138,17 @@ pub struct Planned {
     pub plan: Plan,
     /// The names of the fields.
     pub header: ByteRecord,
+    /// The byte between two fields.
+    pub separator: u8,
+}
+
+/// A text of records that waits for the routes.
+#[derive(Drop)]
+pub struct Held {
+    /// The text.
+    pub text: Vec<u8>,
+    /// How many records were before it.
+    pub before: u64,
 }
 
 /// What was read and made so far.
@@ -136,7 +159,7 @@ pub struct Progress {
     /// What is made of the records.
     pub made: Made,
     /// The texts of records that wait for the routes.
-    pub held: Vec<Vec<u8>>,
+    pub held: Vec<Held>,
 }
 
 impl Progress {
@@ -145,6 +168,7 @@ impl Progress {
         ensures planned { result.planned ≡ None }
         ensures bytes { result.made.bytes.items ≡ [] }
         ensures told { result.made.has_told ≡ false }
+        ensures number { result.made.number ≡ 0 }
         ensures held { result.held.items ≡ [] }
     {
         Progress {
@@ -180,7 +204,7 @@ impl<'a> Model for Filter<'a> {
 
 // Makes the line that defines the table, where it is wanted.
 fn put_definition(job: &Job<'_>, bytes: &mut Vec<u8>) -> Result<(), AllocError>
-    ensures { OnOk result ((plan : Plan) (known : Known) → GoesOn job.now.wanted.session (table_of job.now.definition) plan known [] bytes.old.items bytes.new.items) }
+    ensures { OnOk result (Defines job.now.wanted.session (table_of job.now.definition) bytes.old.items bytes.new.items) }
 {
     if !job.wanted.defines_table {
         return Ok(());
@@ -197,13 +221,19 @@ fn take_header<E: Write>(
 ) -> Result<Planned, Stop>
     ensures header { IfOk result (λ planned. planned.header ≡ header) }
     ensures plan { IfOk result (λ planned. IsPlanOf job.now.wanted (table_of job.now.definition) (fields_of header) planned.plan) }
-    ensures made { OnOk result ((plan : Plan) (known : Known) → GoesOn job.now.wanted.session (table_of job.now.definition) plan known [] made.old.bytes.items made.new.bytes.items) }
+    ensures made { OnOk result (Defines job.now.wanted.session (table_of job.now.definition) made.old.bytes.items made.new.bytes.items) }
+    ensures number { made.new.number ≡ made.old.number }
     ensures texts { made.new.texts ≡ made.old.texts }
     ensures quiet { OnOk result (IsQuiet made.old.has_told made.new.has_told (E.contents errors.old) (E.contents errors.new)) }
 {
     let plan = make_plan(job.alloc, &job.definition, &header, &job.wanted, errors)?;
     put_definition(job, &mut made.bytes)?;
-    Ok(Planned { plan, header })
+    let separator = job.wanted.separator;
+    Ok(Planned {
+        plan,
+        header,
+        separator,
+    })
 }
 
 // Writes the lines that were made.
@@ -211,6 +241,7 @@ fn write_made<W: Write>(made: &mut Made, output: &mut W) -> Result<(), Stop>
     ensures sent { OnOk result ((made.new.bytes.items ≡ []) × Appends (W.contents output.old) (W.contents output.new) made.old.bytes.items) }
     ensures fault { OnErr result ((lost : List ℕ) × PutsBut made.old.bytes.items lost (W.contents output.old) (W.contents output.new)) }
     ensures told { made.new.has_told ≡ made.old.has_told }
+    ensures number { made.new.number ≡ made.old.number }
     ensures texts { made.new.texts ≡ made.old.texts }
 {
     match put_parts(output, &[made.bytes.as_slice()]) {
@@ -222,29 +253,43 @@ fn write_made<W: Write>(made: &mut Made, output: &mut W) -> Result<(), Stop>
     }
 }
 
-// Tells of a record that is too long. There is no header after one that is.
-fn leave_out_long<E: Write>(progress: &mut Progress, errors: &mut E) -> Result<(), Stop>
+// Tells of a record that is too long, of so many lines. There is no header after one that is.
+fn leave_out_long<E: Write>(progress: &mut Progress, lines: u64, errors: &mut E) -> Result<(), Stop>
     ensures plan { progress.new.planned ≡ progress.old.planned }
     ensures bytes { progress.new.made.bytes.items ≡ progress.old.made.bytes.items }
     ensures told { progress.new.made.has_told ≡ true }
+    ensures number { OnOk result (progress.new.made.number ≡ progress.old.made.number + 1) }
+    ensures plans { OnOk result (IsSome progress.new.planned) }
     ensures texts { progress.new.made.texts ≡ progress.old.made.texts }
     ensures held { progress.new.held ≡ progress.old.held }
 {
-    if progress.planned.is_some() {
-        progress.made.number = progress.made.number.saturating_add(1);
-    }
     progress.made.has_told = true;
-    tell_long_record(errors, progress.made.number);
-    if progress.planned.is_some() {
-        Ok(())
-    } else {
-        Err(Stop::NoColumn)
+    let line = progress.made.lines.saturating_add(1);
+    progress.made.lines = progress.made.lines.saturating_add(lines);
+    if progress.planned.is_none() {
+        let spot = Spot { number: 0, line };
+        tell_record(errors, spot, Kind::LongRecord.words());
+        return Err(Stop::NoColumn);
     }
+    progress.made.number = next_number(progress.made.number)?;
+    let number = progress.made.number;
+    progress.made.told.leave_out();
+    if progress.made.told.meet(Kind::LongRecord) {
+        let spot = Spot { number, line };
+        tell_record(errors, spot, Kind::LongRecord.words());
+    }
+    Ok(())
 }
 
 impl Filter<'_> {
     // Takes a record.
-    fn take_next<E: Write>(&mut self, csv_record: &ByteRecord, errors: &mut E) -> Result<(), Stop>
+    fn take_next<E: Write, X: Rejecting>(
+        &mut self,
+        csv_record: &ByteRecord,
+        text: &[u8],
+        errors: &mut E,
+        rejects: &mut X,
+    ) -> Result<(), Stop>
         ensures job { self.new.job ≡ self.old.job }
         ensures made { OnOk result (Makes self.old.job.wanted (table_of self.old.job.definition) (fields_of csv_record.now ∷ []) self.old.progress self.new.progress) }
         ensures quiet { OnOk result (IsQuiet self.old.progress.made.has_told self.new.progress.made.has_told (E.contents errors.old) (E.contents errors.new)) }
@@ -254,11 +299,12 @@ impl Filter<'_> {
         match &self.progress.planned {
             Some(planned) => take_record(
                 job.alloc,
-                &planned.plan,
-                &planned.header,
+                planned,
                 csv_record,
+                text,
                 &mut self.progress.made,
                 errors,
+                rejects,
             ),
             None => {
                 let header = csv_record.clone()?;
@@ -269,8 +315,23 @@ impl Filter<'_> {
         }
     }
 
+    // Counts the lines of a text that was read.
+    fn end_text(&mut self, lines: u64)
+        ensures job { self.new.job ≡ self.old.job }
+        ensures made { Makes self.old.job.wanted (table_of self.old.job.definition) [] self.old.progress self.new.progress }
+        ensures told { self.new.progress.made.has_told ≡ self.old.progress.made.has_told }
+        ensures held { self.new.progress.held ≡ self.old.progress.held }
+    {
+        self.progress.made.lines = self.progress.made.lines.saturating_add(lines);
+    }
+
     // Makes the lines of the records of a text.
-    fn read_records<E: Write>(&mut self, text: &[u8], errors: &mut E) -> Result<(), Stop>
+    fn read_records<E: Write, X: Rejecting>(
+        &mut self,
+        text: &[u8],
+        errors: &mut E,
+        rejects: &mut X,
+    ) -> Result<(), Stop>
         ensures job { self.new.job ≡ self.old.job }
         ensures made { OnOk result ((records : List (List (List ℕ))) × ReadsAll self.old.job.wanted.separator text.now records × Makes self.old.job.wanted (table_of self.old.job.definition) records self.old.progress self.new.progress) }
         ensures quiet { OnOk result (IsQuiet self.old.progress.made.has_told self.new.progress.made.has_told (E.contents errors.old) (E.contents errors.new)) }
@@ -285,55 +346,77 @@ impl Filter<'_> {
         let mut record = ByteRecord::new(job.alloc);
         'records: for _ in 0..u64::MAX {
             match reader.read_byte_record(&mut record) {
-                Ok(true) => self.take_next(&record, errors)?,
-                Ok(false) => return Ok(()),
+                Ok(true) => self.take_next(&record, text, errors, rejects)?,
+                Ok(false) => {
+                    self.end_text(lines_in(reader.position()));
+                    return Ok(());
+                }
                 Err(_) => return Err(Stop::OutOfMemory),
             }
         }
         Err(Stop::OutOfMemory)
     }
 
+    /// Counts on to so many records before a text, where some were too long and are not in the texts before it.
+    pub fn count_on(&mut self, before: u64)
+        ensures job { self.new.job ≡ self.old.job }
+        ensures counts { CountsOn self.old.progress self.new.progress }
+    {
+        let progress = &mut self.progress;
+        if progress.planned.is_some() && progress.made.has_told && progress.made.number < before {
+            progress.made.number = before;
+        }
+    }
+
     /// Makes the lines of the records of a text, and writes them.
-    pub fn write_text<W: Write, E: Write>(
+    pub fn write_text<W: Write, E: Write, X: Rejecting>(
         &mut self,
         text: &[u8],
         output: &mut W,
         errors: &mut E,
+        rejects: &mut X,
     ) -> Result<(), Stop>
         ensures job { self.new.job ≡ self.old.job }
         ensures sent { (more : List (List ℕ)) → text.now ≡ text_of self.old.job.wanted.separator more → SendsMore self.old.job.wanted (table_of self.old.job.definition) result more self.old.progress self.new.progress (W.contents output.old) (W.contents output.new) }
         ensures quiet { OnOk result (IsQuiet self.old.progress.made.has_told self.new.progress.made.has_told (E.contents errors.old) (E.contents errors.new)) }
     {
-        if let Err(stop) = self.read_records(text, errors) {
+        if let Err(stop) = self.read_records(text, errors, rejects) {
             return Err(stop);
         }
         write_made(&mut self.progress.made, output)
     }
 
     // Meets the routes of the records of a text, which waits for them.
-    fn hold_text<E: Write>(&mut self, text: &[u8], errors: &mut E) -> Result<(), Stop>
+    fn hold_text<E: Write, X: Rejecting>(
+        &mut self,
+        text: &[u8],
+        errors: &mut E,
+        rejects: &mut X,
+    ) -> Result<(), Stop>
         ensures job { self.new.job ≡ self.old.job }
         ensures held { OnOk result (held_texts self.new.progress ≡ held_texts self.old.progress ++ text.now ∷ []) }
         ensures quiet { OnOk result (IsQuiet self.old.progress.made.has_told self.new.progress.made.has_told (E.contents errors.old) (E.contents errors.new)) }
     {
-        if let Err(stop) = self.read_records(text, errors) {
+        let before = self.progress.made.number;
+        if let Err(stop) = self.read_records(text, errors, rejects) {
             return Err(stop);
         }
         let job = self.job;
         self.progress.made.bytes.clear();
-        let Ok(held) = Vec::from_slice(job.alloc, text) else {
+        let Ok(text) = Vec::from_slice(job.alloc, text) else {
             return Err(Stop::OutOfMemory);
         };
-        self.progress.held.push(held)?;
+        self.progress.held.push(Held { text, before })?;
         Ok(())
     }
 
     // Takes the text of records: their lines are written, or it waits for the routes.
-    fn take_text<W: Write, E: Write>(
+    fn take_text<W: Write, E: Write, X: Rejecting>(
         &mut self,
         text: &[u8],
         output: &mut W,
         errors: &mut E,
+        rejects: &mut X,
     ) -> Result<(), Stop>
         ensures job { self.new.job ≡ self.old.job }
         ensures taken { (more : List (List ℕ)) → text.now ≡ text_of self.old.job.wanted.separator more → TakesMore self.old.job.wanted (table_of self.old.job.definition) result more self.old.progress self.new.progress (W.contents output.old) (W.contents output.new) }
@@ -341,18 +424,19 @@ impl Filter<'_> {
     {
         let job = self.job;
         if job.wanted.defines_routes {
-            self.hold_text(text, errors)
+            self.hold_text(text, errors, rejects)
         } else {
-            self.write_text(text, output, errors)
+            self.write_text(text, output, errors, rejects)
         }
     }
 
     // Takes the records of a batch, and clears it.
-    fn take_batch<W: Write, E: Write>(
+    fn take_batch<W: Write, E: Write, X: Rejecting>(
         &mut self,
         batch: &mut Batch,
         output: &mut W,
         errors: &mut E,
+        rejects: &mut X,
     ) -> Result<(), Stop>
         ensures job { self.new.job ≡ self.old.job }
         ensures taken { (more : List (List ℕ)) (begun : List ℕ) → IsBatchOf self.old.job.wanted.separator batch.old (concat more) begun → IsBetween batch.old begun
@@ -360,7 +444,7 @@ impl Filter<'_> {
         ensures batch { (whole : List ℕ) (begun : List ℕ) → IsBatchOf self.old.job.wanted.separator batch.old whole begun → IsBetween batch.old begun → OnOk result (IsBatchOf self.old.job.wanted.separator batch.new [] begun) }
         ensures quiet { OnOk result (IsQuiet self.old.progress.made.has_told self.new.progress.made.has_told (E.contents errors.old) (E.contents errors.new)) }
     {
-        if let Err(stop) = self.take_text(batch.text(), output, errors) {
+        if let Err(stop) = self.take_text(batch.text(), output, errors, rejects) {
             return Err(stop);
         }
         batch.clear();
@@ -368,12 +452,13 @@ impl Filter<'_> {
     }
 
     // Takes a byte of the input.
-    fn take_byte<W: Write, E: Write>(
+    fn take_byte<W: Write, E: Write, X: Rejecting>(
         &mut self,
         batch: &mut Batch,
         byte: u8,
         output: &mut W,
         errors: &mut E,
+        rejects: &mut X,
     ) -> Result<(), Stop>
         ensures job { self.new.job ≡ self.old.job }
         ensures far { GoesFar self.old.job.wanted (table_of self.old.job.definition) result (byte ∷ []) batch.old batch.new self.old.progress self.new.progress (W.contents output.old) (W.contents output.new) }
@@ -386,43 +471,53 @@ impl Filter<'_> {
             Taken::Within => Ok(()),
             Taken::Ended => {
                 if batch.is_full() {
-                    self.take_batch(batch, output, errors)
+                    self.take_batch(batch, output, errors, rejects)
                 } else {
                     Ok(())
                 }
             }
-            Taken::TooLong => self.take_batch(batch, output, errors),
-            Taken::EndedLong => leave_out_long(&mut self.progress, errors),
+            Taken::TooLong => self.take_batch(batch, output, errors, rejects),
+            Taken::EndedLong => { leave_out_long(&mut self.progress, batch.long_lines(), errors) }
         }
     }
 
     // Takes the bytes of a piece.
-    fn take_piece<W: Write, E: Write>(
+    fn take_piece<W: Write, E: Write, X: Rejecting>(
         &mut self,
         batch: &mut Batch,
         piece: &[u8],
         output: &mut W,
         errors: &mut E,
+        rejects: &mut X,
     ) -> Result<(), Stop>
         ensures job { self.new.job ≡ self.old.job }
         ensures far { GoesFar self.old.job.wanted (table_of self.old.job.definition) result piece.now batch.old batch.new self.old.progress self.new.progress (W.contents output.old) (W.contents output.new) }
         ensures quiet { OnOk result (IsQuiet self.old.progress.made.has_told self.new.progress.made.has_told (E.contents errors.old) (E.contents errors.new)) }
     {
-        for byte in piece {
-            if let Err(stop) = self.take_byte(batch, *byte, output, errors) {
-                return Err(stop);
+        let mut at = 0;
+        'bytes: while at < piece.len() {
+            let Ok(count) = batch.take_run(&piece[at..]) else {
+                return Err(Stop::OutOfMemory);
+            };
+            at += count;
+            if at < piece.len() {
+                if let Err(stop) = self.take_byte(batch, piece[at], output, errors, rejects) {
+                    return Err(stop);
+                }
+                at += 1;
             }
         }
         Ok(())
     }
 
     // Reads the head of the input, and takes it where it is no byte order mark. Says whether it was all of the input.
-    fn take_head<R: Read, W: Write, E: Write>(
+    fn take_head<R: Read, W: Write, E: Write, X: Rejecting>(
         &mut self,
         batch: &mut Batch,
         input: &mut R,
         output: &mut W,
         errors: &mut E,
+        rejects: &mut X,
     ) -> Result<bool, Stop>
         ensures job { self.new.job ≡ self.old.job }
         ensures far { (before : Option (List ℕ)) → SoFar self.old.job.wanted (table_of self.old.job.definition) before batch.old self.old.progress [] (W.contents output.old)
@@ -437,40 +532,43 @@ impl Filter<'_> {
         if is_mark(head.as_slice()) {
             return Ok(is_all);
         }
-        if let Err(stop) = self.take_piece(batch, head.as_slice(), output, errors) {
+        if let Err(stop) = self.take_piece(batch, head.as_slice(), output, errors, rejects) {
             return Err(stop);
         }
         Ok(is_all)
     }
 
     // Takes the end of the input.
-    fn take_end<W: Write, E: Write>(
+    fn take_end<W: Write, E: Write, X: Rejecting>(
         &mut self,
         batch: &mut Batch,
         output: &mut W,
         errors: &mut E,
+        rejects: &mut X,
     ) -> Result<(), Stop>
         ensures job { self.new.job ≡ self.old.job }
         ensures far { TakesRest self.old.job.wanted (table_of self.old.job.definition) result batch.old self.old.progress self.new.progress (W.contents output.old) (W.contents output.new) }
         ensures quiet { OnOk result (IsQuiet self.old.progress.made.has_told self.new.progress.made.has_told (E.contents errors.old) (E.contents errors.new)) }
     {
         if batch.is_within_long() {
-            if let Err(stop) = leave_out_long(&mut self.progress, errors) {
+            if let Err(stop) = leave_out_long(&mut self.progress, batch.long_lines(), errors) {
                 return Err(stop);
             }
         }
-        self.take_text(batch.text(), output, errors)
+        self.take_text(batch.text(), output, errors, rejects)
     }
 
     // Reads the records to the end of the input.
-    fn read_all<R: Read, W: Write, E: Write>(
+    fn read_all<R: Read, W: Write, E: Write, X: Rejecting>(
         &mut self,
         input: &mut R,
         output: &mut W,
         errors: &mut E,
+        rejects: &mut X,
     ) -> Result<(), Stop>
         requires no_plan { self.old.progress.planned ≡ None }
         requires no_line { self.old.progress.made.bytes.items ≡ [] }
+        requires no_number { self.old.progress.made.number ≡ 0 }
         requires no_text { self.old.progress.held.items ≡ [] }
         ensures input { TakesInput self.old.job.wanted (table_of self.old.job.definition) result self.new.progress (R.remaining input.old) (R.remaining input.new) (W.contents output.old) (W.contents output.new) }
         ensures quiet { OnOk result (IsQuiet self.old.progress.made.has_told self.new.progress.made.has_told (E.contents errors.old) (E.contents errors.new)) }
@@ -479,21 +577,22 @@ impl Filter<'_> {
         let Ok(mut batch) = Batch::new(job.alloc, job.wanted.separator) else {
             return Err(Stop::OutOfMemory);
         };
-        match self.take_head(&mut batch, input, output, errors) {
-            Ok(true) => return self.take_end(&mut batch, output, errors),
+        match self.take_head(&mut batch, input, output, errors, rejects) {
+            Ok(true) => return self.take_end(&mut batch, output, errors, rejects),
             Ok(false) => {}
             Err(stop) => return Err(stop),
         }
         let mut piece = [0u8; PIECE_BYTES];
         'pieces: for _ in 0..u64::MAX {
             match input.read(&mut piece) {
-                Ok(0) => return self.take_end(&mut batch, output, errors),
+                Ok(0) => return self.take_end(&mut batch, output, errors, rejects),
                 Ok(count) => {
                     if let Err(stop) = self.take_piece(
                         &mut batch,
                         &piece[..count],
                         output,
                         errors,
+                        rejects,
                     ) {
                         return Err(stop);
                     }
@@ -517,21 +616,40 @@ fn end_lines<W: Write, E: Write>(
     ensures quiet { result ≡ Ok false → job.now.wanted.rounds ≡ false → Keeps (E.contents errors.old) (E.contents errors.new) }
 {
     let result = write_rest(job, progress, output, errors);
+    if let Ok(told) = result
+        && told
+    {
+        progress.made.told.summarize(errors);
+    }
     if job.wanted.rounds && result.is_ok() {
         tell_rounded(errors, progress.made.rounded);
     }
     result
 }
 
-/// Writes the lines of a CSV, and says whether something was told and left out. Where measures are rounded, it is told of how many.
+// Whether the words name columns of numbers where these are wanted.
+fn check_words(definition: &Definition, wanted: &Wanted<'_>) -> Result<(), Stop> {
+    if !are_scales(definition, wanted.scales, wanted.number) {
+        return Err(Stop::NoScale);
+    }
+    match wanted.number {
+        Some(name) if !is_number_column(definition, name) => Err(Stop::NoNumber),
+        _ => Ok(()),
+    }
+}
+
+/// Writes the lines of a CSV, and says whether something was told and left out. Where measures are rounded, it is told of how many. The texts
+/// are given of which names were made.
 ///
-/// The lines are of the table that the words define. `NoTable` where the words define no table, `NoScale` where they scale no column of numbers; `NoColumn` where the header lacks a column, which is told. Then nothing is written.
-pub fn write_lines<R: Read, W: Write, E: Write>(
+/// The lines are of the table that the words define. `Refused` where `run` refuses the line that the words are, `NoTable` where it defines no table, `NoScale` where they scale no column of numbers, `NoNumber` where they number none; `NoColumn` where the header lacks a column, which is told. Then nothing is written.
+pub fn write_lines<R: Read, W: Write, E: Write, X: Rejecting>(
     alloc: Global,
     wanted: Wanted<'_>,
     input: &mut R,
     output: &mut W,
     errors: &mut E,
+    rejects: &mut X,
+    texts: &mut Texts,
 ) -> Result<bool, Stop>
     requires { wanted.session < 64 }
     ensures wrote { (table : CommandTree) × (IsAsked wanted.entry table ⊎ Keeps (W.contents output.old) (W.contents output.new))
@@ -544,8 +662,8 @@ pub fn write_lines<R: Read, W: Write, E: Write>(
         Ok(definition) => definition,
         Err(stop) => return Err(stop),
     };
-    if !are_scales(&definition, wanted.scales) {
-        return Err(Stop::NoScale);
+    if let Err(stop) = check_words(&definition, &wanted) {
+        return Err(stop);
     }
     let job = Job {
         alloc,
@@ -556,9 +674,12 @@ pub fn write_lines<R: Read, W: Write, E: Write>(
         job: &job,
         progress: Progress::new(alloc, wanted.defines_routes),
     };
-    if let Err(stop) = filter.read_all(input, output, errors) {
+    if let Err(stop) = filter.read_all(input, output, errors, rejects) {
         return Err(stop);
     }
     let mut progress = filter.progress;
-    end_lines(&job, &mut progress, output, errors)
+    let result = end_lines(&job, &mut progress, output, errors);
+    let made = progress.made;
+    *texts = made.texts;
+    result
 }

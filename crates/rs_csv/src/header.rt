@@ -1,16 +1,16 @@
 //! The header: which field gives the route, the place, and each column of the table.
 
-ghost use Rattle.std.specs.Prelude.{◌≡◌, ◌<◌, ℕ, List, IfOk, OnOk, map};
+ghost use Rattle.std.specs.Prelude.{◌≡◌, ◌↔◌, ◌<◌, ℕ, List, IfOk, OnOk, map, true};
 ghost use Rattle.std.specs.Io.KnownBytes.{Keeps};
 ghost use Rattle.csv.specs.Records.{fields_of};
-ghost use Rattle.rs_csv.specs.Header.{IsCalled, IsNamed, IsPlaceNamed, IsScaled};
+ghost use Rattle.rs_csv.specs.Header.{IsCalled, IsNamed, IsNumbered, IsPlaceNamed, IsScaled, IsSourceOf};
 ghost use Rattle.rs_csv.specs.Output.{IsDefinition, IsPlanOf, table_of};
 
 use crate::definition::Definition;
 use crate::filter::{Stop, Wanted};
 use crate::names::field_named;
 use csv::ByteRecord;
-use rs_csv_lines::{Column, Place, Plan, Scale};
+use rs_csv_lines::{Column, Measures, Place, Plan, Scale, Source};
 use rs_value::Kind;
 use std::alloc::Global;
 use std::io::Write;
@@ -34,6 +34,33 @@ fn column_field<E: Write>(
         }
     }
     field_named(header, column, wanted.makes_names, errors)
+}
+
+// Whether the number of the record is wanted for a column.
+fn is_numbered(wanted: &Wanted<'_>, column: &str) -> bool
+    ensures { result ≡ true ↔ IsNumbered wanted.now column.now }
+{
+    match wanted.number {
+        Some(name) => name == column,
+        None => false,
+    }
+}
+
+// What gives the value of a column.
+fn column_source<E: Write>(
+    header: &ByteRecord,
+    wanted: &Wanted<'_>,
+    column: &str,
+    errors: &mut E,
+) -> Result<Source, Stop>
+    ensures source { IfOk result (λ source. IsSourceOf wanted.now (fields_of header.now) column.now source) }
+    ensures quiet { OnOk result (Keeps (E.contents errors.old) (E.contents errors.new)) }
+{
+    if is_numbered(wanted, column) {
+        return Ok(Source::Number);
+    }
+    let place = column_field(header, wanted, column, errors)?;
+    Ok(Source::Field(place))
 }
 
 // What the numbers of a column are multiplied by: 1, where the words do not say so.
@@ -93,12 +120,12 @@ pub fn make_plan<E: Write>(
     let place = place_fields(definition.kind, header, wanted, errors)?;
     let mut columns = Vec::new(alloc);
     for column in &definition.columns {
-        let field = column_field(header, wanted, column.name.as_str(), errors)?;
+        let source = column_source(header, wanted, column.name.as_str(), errors)?;
         let column_type = column.column_type;
         let scale = column_scale(wanted, column.name.as_str())?;
         columns.push(Column {
             column_type,
-            field,
+            source,
             scale,
         })?;
     }
@@ -108,7 +135,10 @@ pub fn make_plan<E: Write>(
         columns,
         route,
         place,
-        rounds: wanted.rounds,
+        measures: Measures {
+            rounds: wanted.rounds,
+            stations: wanted.stations,
+        },
         makes_names: wanted.makes_names,
     })
 }

@@ -5,17 +5,15 @@
 ghost use Rattle.std.specs.Prelude.{◌≡◌, [], OnOk, IfOk, MatchResult, ℕ, List, Option, Ok, false, map};
 ghost use Rattle.std.specs.Io.KnownBytes.{Keeps};
 ghost use Rattle.rs_syntax.specs.Tree.{CommandTree};
-ghost use Rattle.rs_csv_lines.specs.declared.plan.Plan.{Plan};
-ghost use Rattle.rs_csv.specs.Output.{AreLines, EndsTaken, GoesOn, IsQuiet, Known, WroteFront, WroteOf, table_of};
+ghost use Rattle.rs_csv.specs.Output.{AreDefinitions, Defines, EndsTaken, IsQuiet, WroteFront, WroteOf, table_of};
 ghost use Rattle.rs_csv.specs.Reading.{AreTexts};
 
-use crate::filter::{Filter, Job, Progress, Stop};
+use crate::filter::{Filter, Held, Job, Progress, Stop};
 use crate::made::Made;
 use crate::routes::{Extent, push_route};
-use crate::tell::tell_route;
 use rs_methods::Name;
 use rs_protocol::put_parts;
-use std::io::{Write, sink};
+use std::io::{Sink, Write, sink};
 
 // The line that defines a route. One on which no measure was met is told.
 fn put_route<E: Write>(
@@ -25,7 +23,7 @@ fn put_route<E: Write>(
     made: &mut Made,
     errors: &mut E,
 ) -> Result<(), Stop>
-    ensures lines { OnOk result ((table : CommandTree) (plan : Plan) (known : Known) → GoesOn job.now.wanted.session table plan known [] lines.old.items lines.new.items) }
+    ensures lines { OnOk result ((table : CommandTree) → Defines job.now.wanted.session table lines.old.items lines.new.items) }
     ensures bytes { made.new.bytes.items ≡ made.old.bytes.items }
     ensures quiet { OnOk result (IsQuiet made.old.has_told made.new.has_told (E.contents errors.old) (E.contents errors.new)) }
 {
@@ -34,7 +32,7 @@ fn put_route<E: Write>(
         Some(ends) => push_route(job.alloc, job.wanted.session, name, ends, lines),
         None => {
             made.has_told = true;
-            tell_route(errors, name.as_str());
+            made.told.tell_unmet(name.as_str(), errors);
             Ok(())
         }
     }
@@ -42,7 +40,7 @@ fn put_route<E: Write>(
 
 // The lines that define the routes.
 fn route_lines<E: Write>(job: &Job<'_>, made: &mut Made, errors: &mut E) -> Result<Vec<u8>, Stop>
-    ensures lines { IfOk result (λ lines. (table : CommandTree) (plan : Plan) (known : Known) → AreLines job.now.wanted.session table plan known [] lines.items) }
+    ensures lines { IfOk result (λ lines. (table : CommandTree) → AreDefinitions job.now.wanted.session table lines.items) }
     ensures bytes { OnOk result (made.new.bytes.items ≡ made.old.bytes.items) }
     ensures quiet { OnOk result (IsQuiet made.old.has_told made.new.has_told (E.contents errors.old) (E.contents errors.new)) }
 {
@@ -62,11 +60,11 @@ fn route_lines<E: Write>(job: &Job<'_>, made: &mut Made, errors: &mut E) -> Resu
 // Writes the lines of the records that were held, and says whether something was told.
 fn write_held<W: Write>(
     job: &Job<'_>,
-    held: &[Vec<u8>],
+    held: &[Held],
     has_told: bool,
     output: &mut W,
 ) -> Result<bool, Stop>
-    ensures wrote { (raws : List (List ℕ)) → AreTexts job.now.wanted.separator (map (λ text. text.items) held.now) raws
+    ensures wrote { (raws : List (List ℕ)) → AreTexts job.now.wanted.separator (map (λ held. held.text.items) held.now) raws
         → MatchResult result (λ told. WroteOf job.now.wanted (table_of job.now.definition) told raws (W.contents output.old) (W.contents output.new))
         (λ _. WroteFront job.now.wanted (table_of job.now.definition) raws (W.contents output.old) (W.contents output.new)) }
     ensures told { IfOk result (λ told. told ≡ false → has_told ≡ false) }
@@ -74,10 +72,12 @@ fn write_held<W: Write>(
     let mut progress = Progress::new(job.alloc, false);
     progress.made.has_told = has_told;
     let mut filter = Filter { job, progress };
-    let mut nowhere = sink();
-    for text in held {
-        let text = text.as_slice();
-        if let Err(stop) = filter.write_text(text, output, &mut nowhere) {
+    let mut sunk = sink();
+    let mut nowhere = None::<Sink>;
+    for waiting in held {
+        filter.count_on(waiting.before);
+        let text = waiting.text.as_slice();
+        if let Err(stop) = filter.write_text(text, output, &mut sunk, &mut nowhere) {
             return Err(stop);
         }
     }

@@ -13,9 +13,16 @@ pub mod held;
 pub mod laws;
 pub mod made;
 pub mod names;
+pub mod names_file;
 pub mod quoting;
+pub mod rejects;
 pub mod routes;
+pub mod spot;
 pub mod tell;
 pub mod texts;
+pub mod told;
 
 pub use filter::{Stop, Wanted, write_lines};
+pub use names_file::write_names;
+pub use rejects::Rejecting;
+pub use texts::{Texts, no_texts};

@@ -3,8 +3,8 @@
 //! The opening quote of a field is written three times, so that the field reads with a quote before it. No field that does not
 //! stand in quotes begins with one.
 
-ghost use Rattle.std.specs.Prelude.{◌≡◌, ◌++◌, OnOk};
-ghost use Rattle.rs_csv.specs.Quoting.{after, opens, ends_record, mark};
+ghost use Rattle.std.specs.Prelude.{◌≡◌, ◌≤◌, ◌++◌, OnOk, length, take, true};
+ghost use Rattle.rs_csv.specs.Quoting.{after, opens, ends_record, is_plain, mark, ArePlain, IsOutside};
 
 use std::alloc::AllocError;
 
@@ -63,6 +63,16 @@ impl Place {
         }
     }
 
+    /// Whether it is outside quotes.
+    pub fn is_outside(self) -> bool
+        ensures { result ≡ true → IsOutside self }
+    {
+        match self {
+            Place::Start | Place::Plain => true,
+            Place::Inside | Place::Behind => false,
+        }
+    }
+
     /// Whether a byte here ends the record.
     pub fn ends_record(self, byte: u8) -> bool
         ensures { result ≡ ends_record self byte }
@@ -72,6 +82,26 @@ impl Place {
             Place::Start | Place::Plain | Place::Behind => byte == b'\n' || byte == b'\r',
         }
     }
+}
+
+// Whether a byte goes on a field without quotes, or begins one.
+fn is_plain(separator: u8, byte: u8) -> bool
+    ensures { result ≡ is_plain separator byte }
+{
+    !(byte == separator || (byte == b'\n' || byte == b'\r') || byte == b'"')
+}
+
+/// How many bytes at the beginning go on a field without quotes.
+pub fn count_plain(separator: u8, bytes: &[u8]) -> usize
+    ensures within { result ≤ length bytes.now }
+    ensures plain { ArePlain separator (take result bytes.now) }
+{
+    for place in 0..bytes.len() {
+        if !is_plain(separator, bytes[place]) {
+            return place;
+        }
+    }
+    bytes.len()
 }
 
 /// Adds a byte to a text of records, three times where it opens a field.

@@ -2,6 +2,7 @@
 //!
 //! The status does not depend on that stream: a write to it that fails is ignored.
 
+use crate::spot::Spot;
 use csv::ByteRecord;
 use itoa::Buffer;
 use rs_csv_lines::fields::content;
@@ -87,7 +88,7 @@ fn tell_decimals<E: Write>(errors: &mut E, count: usize) {
     let mut digits = Buffer::new();
     let number = digits.format(count as u64).as_bytes();
     let word = count_word(count).unwrap_or(number);
-    let _ = put_parts(errors, &[b" has ", word, b" decimals\n"]);
+    let _ = put_parts(errors, &[b" has ", word, b" decimals"]);
 }
 
 // The name of a column of the CSV.
@@ -107,79 +108,79 @@ fn tell_field<E: Write>(errors: &mut E, field: &[u8], cause: Cause) {
     match cause {
         Cause::Decimals(count) => tell_decimals(errors, count),
         _ => {
-            let _ = put_parts(errors, &[cause_words(cause), b"\n"]);
+            let _ = put_parts(errors, &[cause_words(cause)]);
         }
     }
 }
 
-/// Tells that a record was left out, by its number and field.
-pub fn tell_misfit<E: Write>(
-    errors: &mut E,
-    header: &ByteRecord,
-    csv_record: &ByteRecord,
-    number: u64,
-    misfit: Misfit,
-) {
-    let mut digits = Buffer::new();
-    let record = digits.format(number).as_bytes();
-    match misfit {
-        Misfit::Field(place, cause) => {
-            let _ = put_parts(errors, &[b"roadseg: record ", record, b", "]);
-            let _ = put_parts(errors, &[column_name(header, place), b": "]);
-            tell_field(errors, csv_record.get(place).unwrap_or(b""), cause);
-        }
-        Misfit::LongLine => {
-            let _ = put_parts(
-                errors,
-                &[b"roadseg: record ", record, b": line past 4096 bytes\n"],
-            );
-        }
-        Misfit::OutOfMemory => {
-            let _ = put_parts(errors, &[b"roadseg: record ", record, b": out of memory\n"]);
-        }
-    }
-}
-
-/// Tells that a record was left out, since its route would have the name that is made of another text.
-pub fn tell_taken_name<E: Write>(
-    errors: &mut E,
-    number: u64,
-    text: &[u8],
-    first: &[u8],
-    name: &Name,
-) {
-    let mut digits = Buffer::new();
-    let record = digits.format(number).as_bytes();
-    let _ = put_parts(errors, &[b"roadseg: record ", record, b": "]);
-    let _ = put_parts(
-        errors,
-        &[beginning(text), b" would be ", name.as_str().as_bytes()],
-    );
-    let _ = put_parts(errors, &[b", as ", beginning(first), b" is\n"]);
-}
-
-/// Tells that a record was left out, since it is too long to be read.
-pub fn tell_long_record<E: Write>(errors: &mut E, number: u64) {
-    let mut digits = Buffer::new();
-    let record = digits.format(number).as_bytes();
-    let _ = put_parts(
-        errors,
-        &[b"roadseg: record ", record, b": longer than 65536 bytes\n"],
-    );
-}
-
-/// Tells that a record was left out, since it has more fields than the header.
-pub fn tell_more_fields<E: Write>(errors: &mut E, number: u64) {
-    let mut digits = Buffer::new();
-    let record = digits.format(number).as_bytes();
+/// Tells where a record stands that is left out.
+pub fn tell_spot<E: Write>(errors: &mut E, spot: Spot) {
+    let mut number = Buffer::new();
+    let mut line = Buffer::new();
     let _ = put_parts(
         errors,
         &[
             b"roadseg: record ",
-            record,
-            b": more fields than the header\n",
+            number.format(spot.number).as_bytes(),
+            b", line ",
+            line.format(spot.line).as_bytes(),
         ],
     );
+}
+
+/// Tells what is wrong with a record, by its field.
+pub fn tell_misfit<E: Write>(
+    errors: &mut E,
+    header: &ByteRecord,
+    csv_record: &ByteRecord,
+    misfit: Misfit,
+) {
+    match misfit {
+        Misfit::Field(place, cause) => {
+            let _ = put_parts(errors, &[column_name(header, place), b": "]);
+            tell_field(errors, csv_record.get(place).unwrap_or(b""), cause);
+        }
+        Misfit::LongLine => {
+            let _ = put_parts(errors, &[b"line past 4096 bytes"]);
+        }
+        Misfit::OutOfMemory => {
+            let _ = put_parts(errors, &[b"out of memory"]);
+        }
+    }
+}
+
+/// Tells that the route of a record would have the name that is made of another text.
+pub fn tell_taken_name<E: Write>(errors: &mut E, text: &[u8], first: &[u8], name: &Name) {
+    let _ = put_parts(
+        errors,
+        &[
+            beginning(text),
+            b" would be ",
+            name.as_str().as_bytes(),
+            b", as ",
+            beginning(first),
+            b" is",
+        ],
+    );
+}
+
+/// Tells that a record was left out, by words alone.
+pub fn tell_record<E: Write>(errors: &mut E, spot: Spot, words: &[u8]) {
+    tell_spot(errors, spot);
+    let _ = put_parts(errors, &[b": ", words, b"\n"]);
+}
+
+/// Tells how many there were of something, and where not all were told how many of them were.
+pub fn tell_count<E: Write>(errors: &mut E, words: &[u8], count: u64, told: u64) {
+    let mut digits = Buffer::new();
+    let number = digits.format(count).as_bytes();
+    let _ = put_parts(errors, &[b"roadseg: ", words, b": ", number]);
+    if told > 0 {
+        let mut digits = Buffer::new();
+        let number = digits.format(told).as_bytes();
+        let _ = put_parts(errors, &[b", of which ", number, b" are told"]);
+    }
+    let _ = put_parts(errors, &[b"\n"]);
 }
 
 // Shows the names of the header's columns.

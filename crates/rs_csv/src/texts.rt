@@ -10,6 +10,11 @@ use std::alloc::{AllocError, Global};
 /// The text of which each name is made.
 pub type Texts = ByName<Vec<u8>>;
 
+/// No text.
+pub fn no_texts(alloc: Global) -> Texts {
+    ByName::new(alloc)
+}
+
 /// Takes a text of which a name is made, and says whether it is the only one so far. Another one than before changes nothing.
 pub fn take_text(
     alloc: Global,

@@ -25,6 +25,7 @@ use Rattle.rs_value.specs.Text.{quotes_doubled}
 use Rattle.rs_syntax.specs.declared.written.WrittenPosition.{WrittenPosition}
 use Rattle.rs_syntax.specs.declared.written.WrittenPosition.TheVariants as written_positions
 use Rattle.rs_syntax.specs.Tree.{EventLocationTree, along, at_point}
+use Rattle.rs_csv_lines.specs.declared.plan.Measures.{Measures}
 use Rattle.rs_csv_lines.specs.declared.plan.Column.{Column}
 use Rattle.rs_csv_lines.specs.declared.plan.Place.{Place}
 use Rattle.rs_csv_lines.specs.declared.plan.Place.TheVariants as places
@@ -32,6 +33,7 @@ use Rattle.rs_csv_lines.specs.Fields.{content, SaysName}
 use Rattle.rs_csv_lines.specs.declared.plan.Scale.{Scale}
 use Rattle.rs_csv_lines.specs.Texts.{session_text, position_text, signed_text, PutsPosition, PutsNumber, PutsDatum}
 use Rattle.rs_csv_lines.proofs.NumberTexts.{three_are}
+use Rattle.rs_csv_lines.proofs.Stations.{measure_in_range}
 use Rattle.rs_csv_lines.specs.Inserts.{PutsPositionAt, PutsPlace, PutsFurther, PutsRow, insert_line}
 
 abbrev pub IsClean : List ℕ → Type 0
@@ -140,15 +142,15 @@ datum_clean types.Int scale (byte ∷ rest) datum bytes p puts = number_clean sc
 datum_clean (types.Text most) scale (byte ∷ rest) datum bytes p puts =
     subst IsClean (sym puts.1) (clean_append (codes "'" ++ quotes_doubled (content (byte ∷ rest))) (codes "'") (doubled_clean (content (byte ∷ rest)) p) refl)
 
-module _ (rounds : Bool) (fields : List (List ℕ)) where
-  position_put_clean : (i : ℕ) (position : PositionExpression) (bytes : List ℕ) → PutsPositionAt rounds fields i position bytes → IsClean bytes
+module _ (reading : Measures) (number_of : ℕ) (fields : List (List ℕ)) where
+  position_put_clean : (i : ℕ) (position : PositionExpression) (bytes : List ℕ) → PutsPositionAt reading fields i position bytes → IsClean bytes
   position_put_clean i position bytes puts = of_field (content puts.0) (clean_text (content puts.0) puts.2) puts.3
     where
-      of_field : (field : List ℕ) → IsClean field → PutsPosition rounds field position bytes → IsClean bytes
+      of_field : (field : List ℕ) → IsClean field → PutsPosition reading field position bytes → IsClean bytes
       of_field field p (inl put) = subst IsClean (sym put.2) (position_clean field put.0 p)
-      of_field field p (inr put) = subst IsClean (sym put.3) (measure_clean put.0 put.1.in_range)
+      of_field field p (inr put) = subst IsClean (sym put.3) (measure_clean put.0 (measure_in_range reading field put.0 put.1))
 
-  place_clean : (plan : Place) (location : EventLocationTree) (bytes : List ℕ) → PutsPlace rounds fields plan location bytes → IsClean bytes
+  place_clean : (plan : Place) (location : EventLocationTree) (bytes : List ℕ) → PutsPlace reading fields plan location bytes → IsClean bytes
   place_clean (places.Along from to) (along first second) bytes puts =
       subst IsClean (sym puts.4)
       (clean_append (codes " FROM " ++ puts.0 ++ codes " TO ") puts.1
@@ -158,7 +160,7 @@ module _ (rounds : Bool) (fields : List (List ℕ)) where
   place_clean (places.Along from to) (at_point position) bytes puts = elim puts [ ]
   place_clean (places.At at) (along first second) bytes puts = elim puts [ ]
 
-  further_clean : (columns : List Column) (row : Row) (bytes : List ℕ) → PutsFurther fields columns row bytes → IsClean bytes
+  further_clean : (columns : List Column) (row : Row) (bytes : List ℕ) → PutsFurther number_of fields columns row bytes → IsClean bytes
   further_clean [] [] bytes puts = subst IsClean (sym puts) refl
   further_clean (column ∷ columns) (datum ∷ row) bytes puts =
       subst IsClean (sym puts.4)
@@ -167,7 +169,7 @@ module _ (rounds : Bool) (fields : List (List ℕ)) where
   further_clean [] (datum ∷ row) bytes puts = elim puts [ ]
   further_clean (column ∷ columns) [] bytes puts = elim puts [ ]
 
-  row_clean : (columns : List Column) (row : Row) (bytes : List ℕ) → PutsRow fields columns row bytes → IsClean bytes
+  row_clean : (columns : List Column) (row : Row) (bytes : List ℕ) → PutsRow number_of fields columns row bytes → IsClean bytes
   row_clean (column ∷ columns) (datum ∷ row) bytes puts =
       subst IsClean (sym puts.4)
       (clean_append puts.0 puts.1 (datum_clean column.column_type column.scale puts.2.0 datum puts.0 (clean_text (content puts.2.0) puts.2.2) puts.2.3) (further_clean columns row puts.1 puts.3))
@@ -176,7 +178,7 @@ module _ (rounds : Bool) (fields : List (List ℕ)) where
 
   -- nor into a whole line
   pub line_clean : (session : ℕ) (table route place_bytes values : List ℕ) (plan : Place) (location : EventLocationTree) (columns : List Column) (row : Row) → session < 64 → IsWord table → IsClean route
-      → PutsPlace rounds fields plan location place_bytes → PutsRow fields columns row values → IsClean (insert_line session table route place_bytes values)
+      → PutsPlace reading fields plan location place_bytes → PutsRow number_of fields columns row values → IsClean (insert_line session table route place_bytes values)
   line_clean session table route place_bytes values plan location columns row few word named puts_place puts_row =
       let tail : List ℕ = values ++ codes ")" in
       let after_place : List ℕ = codes " VALUES (" ++ tail in

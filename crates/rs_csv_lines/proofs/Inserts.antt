@@ -16,6 +16,7 @@ use Rattle.rs_syntax.specs.Tree.{EventLocationTree, along, at_point, CommandTree
 use Rattle.rs_syntax.specs.Verdict.{Reads}
 use Rattle.rs_machine.specs.declared.limits.TheConstants.{LINE_BYTES}
 use Rattle.rs_machine.specs.Request.{without_return, Asks, command}
+use Rattle.rs_csv_lines.specs.declared.plan.Measures.{Measures}
 use Rattle.rs_csv_lines.specs.declared.plan.Column.{Column}
 use Rattle.rs_csv_lines.specs.declared.plan.Place.{Place}
 use Rattle.rs_csv_lines.specs.declared.plan.Place.TheVariants as places
@@ -56,9 +57,9 @@ route_is_clean false text name plain says = route_clean text name plain says
 route_is_clean true text name plain says = name_clean name says.is_name.word
 
 -- what is put says what is told
-position_told : (rounds : Bool) (field : List ℕ) (position : PositionExpression) (bytes : List ℕ) → PutsPosition rounds field position bytes → TellsPosition rounds field position
-position_told rounds field position bytes (inl puts) = inl (puts.0, puts.1)
-position_told rounds field position bytes (inr puts) = inr (puts.0, puts.1, puts.2)
+position_told : (reading : Measures) (field : List ℕ) (position : PositionExpression) (bytes : List ℕ) → PutsPosition reading field position bytes → TellsPosition reading field position
+position_told reading field position bytes (inl puts) = inl (puts.0, puts.1)
+position_told reading field position bytes (inr puts) = inr (puts.0, puts.1, puts.2)
 
 number_told : (scale : Scale) (field : List ℕ) (datum : Datum) (bytes : List ℕ) → PutsNumber scale field datum bytes → TellsNumber scale field datum
 number_told scale field datum bytes (inl puts) = inl (puts.0, puts.1, puts.2, puts.3, puts.5)
@@ -70,18 +71,18 @@ datum_told (types.Text most) scale [] datum bytes puts = puts.0
 datum_told types.Int scale (byte ∷ rest) datum bytes puts = number_told scale (content (byte ∷ rest)) datum bytes puts
 datum_told (types.Text most) scale (byte ∷ rest) datum bytes puts = puts.0
 
-module _ (rounds : Bool) (fields : List (List ℕ)) where
-  position_at_told : (i : ℕ) (position : PositionExpression) (bytes : List ℕ) → PutsPositionAt rounds fields i position bytes → TellsPositionAt rounds fields i position
-  position_at_told i position bytes puts = (puts.0, puts.1, puts.2, position_told rounds (content puts.0) position bytes puts.3)
+module _ (reading : Measures) (fields : List (List ℕ)) where
+  position_at_told : (i : ℕ) (position : PositionExpression) (bytes : List ℕ) → PutsPositionAt reading fields i position bytes → TellsPositionAt reading fields i position
+  position_at_told i position bytes puts = (puts.0, puts.1, puts.2, position_told reading (content puts.0) position bytes puts.3)
 
-  place_told : (plan : Place) (location : EventLocationTree) (bytes : List ℕ) → PutsPlace rounds fields plan location bytes → TellsPlace rounds fields plan location
+  place_told : (plan : Place) (location : EventLocationTree) (bytes : List ℕ) → PutsPlace reading fields plan location bytes → TellsPlace reading fields plan location
   place_told (places.Along from to) (along first second) bytes puts = (position_at_told from first puts.0 puts.2, position_at_told to second puts.1 puts.3)
   place_told (places.At at) (at_point position) bytes puts = position_at_told at position puts.0 puts.1
   place_told (places.Along from to) (at_point position) bytes puts = elim puts [ ]
   place_told (places.At at) (along first second) bytes puts = elim puts [ ]
 
-module _ (fields : List (List ℕ)) where
-  further_told : (columns : List Column) (row : Row) (bytes : List ℕ) → PutsFurther fields columns row bytes → TellsRow fields columns row
+module _ (number_of : ℕ) (fields : List (List ℕ)) where
+  further_told : (columns : List Column) (row : Row) (bytes : List ℕ) → PutsFurther number_of fields columns row bytes → TellsRow number_of fields columns row
   further_told [] [] bytes puts = tt
   further_told (column ∷ columns) (datum ∷ row) bytes puts =
       let one = puts.2 in
@@ -89,7 +90,7 @@ module _ (fields : List (List ℕ)) where
   further_told [] (datum ∷ row) bytes puts = elim puts [ ]
   further_told (column ∷ columns) [] bytes puts = elim puts [ ]
 
-  row_told : (columns : List Column) (row : Row) (bytes : List ℕ) → PutsRow fields columns row bytes → TellsRow fields columns row
+  row_told : (columns : List Column) (row : Row) (bytes : List ℕ) → PutsRow number_of fields columns row bytes → TellsRow number_of fields columns row
   row_told (column ∷ columns) (datum ∷ row) bytes puts =
       let one = puts.2 in
       ((one.0, one.1, one.2, datum_told column.column_type column.scale one.0 datum puts.0 one.3), further_told columns row puts.1 puts.3)
@@ -97,8 +98,8 @@ module _ (fields : List (List ℕ)) where
   row_told (column ∷ columns) [] bytes puts = elim puts [ ]
 
 -- the INSERT of a record, of this route, and the line that asks it
-abbrev pub AsksInsert : Plan → List (List ℕ) → List ℕ → List ℕ → Type 0
-AsksInsert plan fields route line = (tree : CommandTree) × (inserts : IsInsertOf plan fields tree) × (inserts.route ≡ route) × Asks line (command plan.session tree)
+abbrev pub AsksInsert : Plan → ℕ → List (List ℕ) → List ℕ → List ℕ → Type 0
+AsksInsert plan number_of fields route line = (tree : CommandTree) × (inserts : IsInsertOf plan number_of fields tree) × (inserts.route ≡ route) × Asks line (command plan.session tree)
 
 ends_plain : (session : ℕ) (table route place_bytes values : List ℕ) → without_return (insert_line session table route place_bytes values) ≡ insert_line session table route place_bytes values
 ends_plain session table route place_bytes values =
@@ -112,21 +113,21 @@ ends_plain session table route place_bytes values =
     ∙ ap (λ bs. route ++ bs) (append_assoc place_bytes (codes " VALUES (" ++ values) (codes ")")))) in
     subst (λ bs. without_return bs ≡ bs) whole (no_return front 41 refl)
 
-pub line_asks : (plan : Plan) (fields : List (List ℕ)) (line route place_bytes values : List ℕ) (location : EventLocationTree) (row : Row)
+pub line_asks : (plan : Plan) (number_of : ℕ) (fields : List (List ℕ)) (line route place_bytes values : List ℕ) (location : EventLocationTree) (row : Row)
     → plan.session < 64 → IsName plan.table.bytes → IsUtf8 line → length line ≤ LINE_BYTES
-    → TellsRoute plan.makes_names fields plan.route route → PutsPlace plan.rounds fields plan.place location place_bytes → PutsRow fields plan.columns.items row values
-    → line ≡ insert_line plan.session plan.table.bytes route place_bytes values → AsksInsert plan fields route line
-line_asks plan fields line route place_bytes values location row few named utf8 short puts_route puts_place puts_row is =
+    → TellsRoute plan.makes_names fields plan.route route → PutsPlace plan.measures fields plan.place location place_bytes → PutsRow number_of fields plan.columns.items row values
+    → line ≡ insert_line plan.session plan.table.bytes route place_bytes values → AsksInsert plan number_of fields route line
+line_asks plan number_of fields line route place_bytes values location row few named utf8 short puts_route puts_place puts_row is =
     let table = plan.table.bytes in
     let whole = insert_line plan.session table route place_bytes values in
     let tree = insert table route location row in
     let table_is : token_kind table ≡ Some kinds.Name = kind_of_name table named in
     let reads : Reads whole (length (session_text plan.session)) (Ok tree) =
-    line_reads plan.session table route place_bytes values plan.rounds fields plan.place location plan.columns.items row table_is (route_kind plan.makes_names (content puts_route.0) route puts_route.3) puts_place puts_row in
+    line_reads plan.session table route place_bytes values plan.measures number_of fields plan.place location plan.columns.items row table_is (route_kind plan.makes_names (content puts_route.0) route puts_route.3) puts_place puts_row in
     let text = is_clean_text whole (subst IsUtf8 is utf8)
-    (line_clean plan.rounds fields plan.session table route place_bytes values plan.place location plan.columns.items row few named.word (route_is_clean plan.makes_names (content puts_route.0) route puts_route.2 puts_route.3) puts_place puts_row) in (
+    (line_clean plan.measures number_of fields plan.session table route place_bytes values plan.place location plan.columns.items row few named.word (route_is_clean plan.makes_names (content puts_route.0) route puts_route.2 puts_route.3) puts_place puts_row) in (
       tree,
-      record { route = route; place = location; row = row; route_told = puts_route; place_told = place_told plan.rounds fields plan.place location place_bytes puts_place; row_told = row_told fields plan.columns.items row values puts_row; is = refl },
+      record { route = route; place = location; row = row; route_told = puts_route; place_told = place_told plan.measures fields plan.place location place_bytes puts_place; row_told = row_told number_of fields plan.columns.items row values puts_row; is = refl },
       refl,
       subst (λ l. Asks l (command plan.session tree)) (sym is)
           (session_asks whole plan.session (length (session_text plan.session)) tree (subst (λ l. length l ≤ LINE_BYTES) is short) text (ends_plain plan.session table route place_bytes values)

@@ -12,3 +12,4 @@ pub mod Inserts
 mod Spelled
 mod Putting
 mod Named
+mod Stations

@@ -1,5 +1,5 @@
 -- The line of an INSERT says it.
-use Rattle.std.proofs.Common.{◌≡◌, ◌∙◌, ℕ, ◌+◌, Bool, true, inl, inr, List, [], ◌∷◌, ◌++◌, length, drop, Some, Ok, refl, sym, ap, subst, append_assoc, length-append, length-drop, arith}
+use Rattle.std.proofs.Common.{◌≡◌, ◌∙◌, ℕ, ◌+◌, true, inl, inr, List, [], ◌∷◌, ◌++◌, length, drop, Some, Ok, refl, sym, ap, subst, append_assoc, length-append, length-drop, arith}
 use Rattle.std.specs.Prelude.{codes}
 use Rattle.std.proofs.Math.Seq.{drop-append_seam}
 use Rattle.std.proofs.lemmas.List.{map-append}
@@ -16,11 +16,13 @@ use Rattle.rs_syntax.specs.declared.written.WrittenLocation.TheVariants as writt
 use Rattle.rs_syntax.specs.Tree.{EventLocationTree, along, at_point, insert}
 use Rattle.rs_syntax.specs.Written.{mark, told, lexemes_of, lexeme_of, position_lexemes, location_lexemes, SaysLocation, spelling, written_insert}
 use Rattle.rs_syntax.specs.Verdict.{Reads, has_tokens, is_command}
+use Rattle.rs_csv_lines.specs.declared.plan.Measures.{Measures}
 use Rattle.rs_csv_lines.specs.declared.plan.Column.{Column}
 use Rattle.rs_csv_lines.specs.declared.plan.Place.{Place}
 use Rattle.rs_csv_lines.specs.declared.plan.Place.TheVariants as places
 use Rattle.rs_csv_lines.specs.Fields.{content}
 use Rattle.rs_csv_lines.specs.Texts.{session_text, PutsPosition}
+use Rattle.rs_csv_lines.proofs.Stations.{measure_in_range}
 use Rattle.rs_csv_lines.specs.Inserts.{PutsPositionAt, PutsPlace, PutsRow, insert_line}
 use Rattle.rs_csv_lines.proofs.Cuts.{Ends, token_here, after_here, cut_here, blank_here, word_here, after_word, word_text, insert_kind, into_kind, on_kind, from_kind, to_kind, at_word_kind, values_kind, opening_kind, opening_stops, closing_kind, closing_stops, blank}
 use Rattle.rs_csv_lines.proofs.Lexemes.{flat}
@@ -37,19 +39,19 @@ pub record LocationStands (line : List ℕ) (first last : ℕ) (location : Event
   pub spelled : lexemes_of tokens ≡ location_lexemes written
   pub says : SaysLocation line written location
 
-module _ (line : List ℕ) (rounds : Bool) (fields : List (List ℕ)) where
-  position_put : (i : ℕ) (position : PositionExpression) (bytes : List ℕ) (place : ℕ) (rest : List ℕ) → Ends rest → PutsPositionAt rounds fields i position bytes → drop place line ≡ bytes ++ rest
+module _ (line : List ℕ) (reading : Measures) (fields : List (List ℕ)) where
+  position_put : (i : ℕ) (position : PositionExpression) (bytes : List ℕ) (place : ℕ) (rest : List ℕ) → Ends rest → PutsPositionAt reading fields i position bytes → drop place line ≡ bytes ++ rest
       → PositionStands line place (place + length bytes) position
   position_put i position bytes place rest ends puts at = at_field (content puts.0) puts.3
     where
-      at_field : (field : List ℕ) → PutsPosition rounds field position bytes → PositionStands line place (place + length bytes) position
+      at_field : (field : List ℕ) → PutsPosition reading field position bytes → PositionStands line place (place + length bytes) position
       at_field field (inl put) =
           subst (λ bs. PositionStands line place (place + length bs) position) (sym put.2) (position_stands line place field rest ends put.0 position put.1 (at ∙ ap (λ bs. bs ++ rest) put.2))
       at_field field (inr put) =
           subst (λ p. PositionStands line place (place + length bytes) p) (sym put.2)
-          (subst (λ bs. PositionStands line place (place + length bs) (absolute put.0)) (sym put.3) (measure_text_stands line place rest ends put.0 put.1.in_range (at ∙ ap (λ bs. bs ++ rest) put.3)))
+          (subst (λ bs. PositionStands line place (place + length bs) (absolute put.0)) (sym put.3) (measure_text_stands line place rest ends put.0 (measure_in_range reading field put.0 put.1) (at ∙ ap (λ bs. bs ++ rest) put.3)))
 
-  at_stands : (at : ℕ) (position : PositionExpression) (bytes : List ℕ) (place : ℕ) (rest : List ℕ) → PutsPlace rounds fields (places.At at) (at_point position) bytes → drop place line ≡ bytes ++ (32 ∷ rest)
+  at_stands : (at : ℕ) (position : PositionExpression) (bytes : List ℕ) (place : ℕ) (rest : List ℕ) → PutsPlace reading fields (places.At at) (at_point position) bytes → drop place line ≡ bytes ++ (32 ∷ rest)
       → LocationStands line place (place + length bytes) (at_point position)
   unfolding rules
   at_stands i position bytes place rest puts at =
@@ -71,7 +73,7 @@ module _ (line : List ℕ) (rounds : Bool) (fields : List (List ℕ)) where
         says = said.says;
       }
 
-  along_stands : (from to : ℕ) (first second : PositionExpression) (bytes : List ℕ) (place : ℕ) (rest : List ℕ) → PutsPlace rounds fields (places.Along from to) (along first second) bytes
+  along_stands : (from to : ℕ) (first second : PositionExpression) (bytes : List ℕ) (place : ℕ) (rest : List ℕ) → PutsPlace reading fields (places.Along from to) (along first second) bytes
       → drop place line ≡ bytes ++ (32 ∷ rest) → LocationStands line place (place + length bytes) (along first second)
   unfolding rules
   along_stands i j first second bytes place rest puts at =
@@ -115,7 +117,7 @@ module _ (line : List ℕ) (rounds : Bool) (fields : List (List ℕ)) where
         says = (said.says, last_said.says);
       }
 
-  pub location_stands : (plan : Place) (location : EventLocationTree) (bytes : List ℕ) (place : ℕ) (rest : List ℕ) → PutsPlace rounds fields plan location bytes → drop place line ≡ bytes ++ (32 ∷ rest)
+  pub location_stands : (plan : Place) (location : EventLocationTree) (bytes : List ℕ) (place : ℕ) (rest : List ℕ) → PutsPlace reading fields plan location bytes → drop place line ≡ bytes ++ (32 ∷ rest)
       → LocationStands line place (place + length bytes) location
   location_stands (places.Along from to) (along first second) bytes place rest puts at = along_stands from to first second bytes place rest puts at
   location_stands (places.At at_field) (at_point position) bytes place rest puts at = at_stands at_field position bytes place rest puts at
@@ -125,14 +127,14 @@ module _ (line : List ℕ) (rounds : Bool) (fields : List (List ℕ)) where
 -- ---- the whole line
 
 -- the place text begins with a blank
-place_ends : (rounds : Bool) (fields : List (List ℕ)) (plan : Place) (location : EventLocationTree) (bytes rest : List ℕ) → PutsPlace rounds fields plan location bytes → Ends (bytes ++ rest)
-place_ends rounds fields (places.Along from to) (along first second) bytes rest puts = subst (λ bs. Ends (bs ++ rest)) (sym puts.4) blank
-place_ends rounds fields (places.At at_field) (at_point position) bytes rest puts = subst (λ bs. Ends (bs ++ rest)) (sym puts.2) blank
-place_ends rounds fields (places.Along from to) (at_point position) bytes rest puts = elim puts [ ]
-place_ends rounds fields (places.At at_field) (along first second) bytes rest puts = elim puts [ ]
+place_ends : (reading : Measures) (fields : List (List ℕ)) (plan : Place) (location : EventLocationTree) (bytes rest : List ℕ) → PutsPlace reading fields plan location bytes → Ends (bytes ++ rest)
+place_ends reading fields (places.Along from to) (along first second) bytes rest puts = subst (λ bs. Ends (bs ++ rest)) (sym puts.4) blank
+place_ends reading fields (places.At at_field) (at_point position) bytes rest puts = subst (λ bs. Ends (bs ++ rest)) (sym puts.2) blank
+place_ends reading fields (places.Along from to) (at_point position) bytes rest puts = elim puts [ ]
+place_ends reading fields (places.At at_field) (along first second) bytes rest puts = elim puts [ ]
 
-module _ (session : ℕ) (table route : List ℕ) (place_bytes values : List ℕ) (rounds : Bool) (fields : List (List ℕ)) (plan : Place) (location : EventLocationTree) (columns : List Column) (row : Row)
-    (table_is : token_kind table ≡ Some kinds.Name) (route_is : token_kind route ≡ Some kinds.Name) (puts_place : PutsPlace rounds fields plan location place_bytes) (puts_row : PutsRow fields columns row values) where
+module _ (session : ℕ) (table route : List ℕ) (place_bytes values : List ℕ) (reading : Measures) (number_of : ℕ) (fields : List (List ℕ)) (plan : Place) (location : EventLocationTree) (columns : List Column) (row : Row)
+    (table_is : token_kind table ≡ Some kinds.Name) (route_is : token_kind route ≡ Some kinds.Name) (puts_place : PutsPlace reading fields plan location place_bytes) (puts_row : PutsRow number_of fields columns row values) where
   abbrev line : List ℕ
   line = insert_line session table route place_bytes values
 
@@ -173,7 +175,7 @@ module _ (session : ℕ) (table route : List ℕ) (place_bytes values : List ℕ
   p5 = after_word line (behind_table + 1 + 2) route after_route p4
 
   where_stands : LocationStands line behind_route (behind_route + length place_bytes) location
-  where_stands = location_stands line rounds fields plan location place_bytes behind_route (codes "VALUES" ++ (32 ∷ (40 ∷ (values ++ codes ")")))) puts_place p5
+  where_stands = location_stands line reading fields plan location place_bytes behind_route (codes "VALUES" ++ (32 ∷ (40 ∷ (values ++ codes ")")))) puts_place p5
 
   abbrev behind_place : ℕ
   behind_place = behind_route + length place_bytes
@@ -194,7 +196,7 @@ module _ (session : ℕ) (table route : List ℕ) (place_bytes values : List ℕ
   p9 = after_here line (behind_place + 1 + 6 + 1) (codes "(") (values ++ codes ")") p8
 
   what_stands : RowStands line first_value (first_value + length values) row
-  what_stands = row_stands line fields columns row values first_value [] puts_row p9
+  what_stands = row_stands line number_of fields columns row values first_value [] puts_row p9
 
   p10 : drop (first_value + length values) line ≡ codes ")" ++ []
   p10 = after_here line first_value values (41 ∷ []) p9
@@ -230,7 +232,7 @@ module _ (session : ℕ) (table route : List ℕ) (place_bytes values : List ℕ
       (word_here line (start + 1 + 6) (codes "INTO") (32 ∷ (table ++ after_table)) kinds.Into p1 into_kind blank _
       (word_here line (start + 1 + 6 + 1 + 4) table after_table kinds.Name p2 table_is blank _
       (word_here line behind_table (codes "ON") (32 ∷ (route ++ after_route)) kinds.On p3 on_kind blank _
-      (word_here line (behind_table + 1 + 2) route after_route kinds.Name p4 route_is (place_ends rounds fields plan location place_bytes after_place puts_place) _
+      (word_here line (behind_table + 1 + 2) route after_route kinds.Name p4 route_is (place_ends reading fields plan location place_bytes after_place puts_place) _
       (where_stands.cut back back_cut)))))
 
   back_kinds : List TokenKind

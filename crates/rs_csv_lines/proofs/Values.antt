@@ -212,15 +212,15 @@ after_comma line first last rest datum row at stands = record {
     commas [] none = absurd (none refl)
     commas (w ∷ ws) none = refl
 
-module _ (line : List ℕ) (fields : List (List ℕ)) where
+module _ (line : List ℕ) (number_of : ℕ) (fields : List (List ℕ)) where
   -- after a value there is a comma, or the bracket
-  further_ends : (columns : List Column) (row : Row) (others rest : List ℕ) → PutsFurther fields columns row others → Ends (others ++ 41 ∷ rest)
+  further_ends : (columns : List Column) (row : Row) (others rest : List ℕ) → PutsFurther number_of fields columns row others → Ends (others ++ 41 ∷ rest)
   further_ends [] [] others rest puts = subst (λ bs. Ends (bs ++ 41 ∷ rest)) (sym puts) closing
   further_ends (column ∷ columns) (datum ∷ row) others rest puts = subst (λ bs. Ends (bs ++ 41 ∷ rest)) (sym puts.4) comma
   further_ends [] (datum ∷ row) others rest puts = elim puts [ ]
   further_ends (column ∷ columns) [] others rest puts = elim puts [ ]
 
-  pub further_stand : (columns : List Column) (row : Row) (bytes : List ℕ) (place : ℕ) (rest : List ℕ) → PutsFurther fields columns row bytes → drop place line ≡ bytes ++ (41 ∷ rest)
+  pub further_stand : (columns : List Column) (row : Row) (bytes : List ℕ) (place : ℕ) (rest : List ℕ) → PutsFurther number_of fields columns row bytes → drop place line ≡ bytes ++ (41 ∷ rest)
       → FurtherStand line place (place + length bytes) row
   further_stand [] [] bytes place rest puts at =
       let end : place + length bytes ≡ place = omega (arith, ap length puts) in
@@ -247,7 +247,7 @@ module _ (line : List ℕ) (fields : List (List ℕ)) where
   further_stand [] (datum ∷ row) bytes place rest puts at = elim puts [ ]
   further_stand (column ∷ columns) [] bytes place rest puts at = elim puts [ ]
 
-  pub row_stands : (columns : List Column) (row : Row) (bytes : List ℕ) (place : ℕ) (rest : List ℕ) → PutsRow fields columns row bytes → drop place line ≡ bytes ++ (41 ∷ rest)
+  pub row_stands : (columns : List Column) (row : Row) (bytes : List ℕ) (place : ℕ) (rest : List ℕ) → PutsRow number_of fields columns row bytes → drop place line ≡ bytes ++ (41 ∷ rest)
       → RowStands line place (place + length bytes) row
   row_stands (column ∷ columns) (datum ∷ row) bytes place rest puts at =
       let one = puts.0 in

@@ -1,6 +1,6 @@
 -- What a field of a record says. A field that stood in quotes was read with a quote before it, so that an empty one is
 -- told from one that has nothing.
-use Rattle.std.specs.Prelude.{◌≡◌, ◌⊎◌, ℕ, ◌≤◌, ◌^◌, Bool, ◌==◌, if◌then◌else◌, List, [], ◌∷◌}
+use Rattle.std.specs.Prelude.{◌≡◌, ◌⊎◌, ◌↔◌, ℕ, ◌≤◌, ◌^◌, Bool, true, ◌==◌, if◌then◌else◌, List, [], ◌∷◌}
 use Rattle.rs_grammar.specs.Grammar as grammar
 use Rattle.rs_grammar.specs.Grammar.{rules, Derives}
 use Rattle.rs_grammar.specs.declared.kind.TokenKind.TheVariants as kinds
@@ -14,6 +14,7 @@ use Rattle.rs_value.specs.Row.{Datum, null, number, text}
 use Rattle.rs_syntax.specs.declared.written.WrittenValue.TheVariants as written_values
 use Rattle.rs_syntax.specs.declared.written.WrittenPosition.{WrittenPosition}
 use Rattle.rs_syntax.specs.Written.{lexemes_of, position_lexemes, value_lexemes, signed, SaysPosition}
+use Rattle.rs_csv_lines.specs.declared.plan.Measures.{Measures}
 use Rattle.rs_csv_lines.specs.declared.plan.Scale.{Scale}
 use Rattle.rs_csv_lines.specs.declared.plan.Scale.TheVariants as scales
 use Rattle.rs_csv_lines.specs.Numbers.{WritesMeasure, WritesWhole}
@@ -26,6 +27,10 @@ QUOTE = 34
 abbrev pub content : List ℕ → List ℕ
 content [] = []
 content (byte ∷ bytes) = if byte == QUOTE then bytes else byte ∷ bytes
+
+-- the text of a field, and whether the field has nothing, not even quotes
+abbrev pub HasText : List ℕ → Bool → List ℕ → Type 0
+HasText said is_empty field = (said ≡ content field) × ((is_empty ≡ true) ↔ (field ≡ []))
 
 -- The text is one token, which is this name.
 pub record SaysName (text name : List ℕ) : Type 0 where
@@ -50,9 +55,9 @@ pub record SpellsNumber (text : List ℕ) (is_negative : Bool) (digits : Token) 
   pub few : number_of_digits (token_text text digits) ≤ 10 ^ 12
 
 -- A field says a position of the grammar, or a measure as offices write it.
-abbrev pub TellsPosition : Bool → List ℕ → PositionExpression → Type 0
-TellsPosition rounds bytes position = ((written : WrittenPosition) × SpellsPosition bytes written position)
-    ⊎ ((thousandths : ℕ) × WritesMeasure rounds bytes thousandths × (position ≡ absolute thousandths))
+abbrev pub TellsPosition : Measures → List ℕ → PositionExpression → Type 0
+TellsPosition reading bytes position = ((written : WrittenPosition) × SpellsPosition bytes written position)
+    ⊎ ((thousandths : ℕ) × WritesMeasure reading bytes thousandths × (position ≡ absolute thousandths))
 
 -- A field says a number of the grammar, which is not multiplied, or a number as offices write it that times the scale is a whole one.
 abbrev pub TellsNumber : Scale → List ℕ → Datum → Type 0

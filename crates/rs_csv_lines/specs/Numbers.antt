@@ -1,9 +1,10 @@
 -- Numbers as offices write them: `.5`, `1.`, `+1` and `1.1000` beside `1.1`.
-use Rattle.std.specs.Prelude.{◌≡◌, ℕ, ◌+◌, ◌*◌, ◌%◌, ◌^◌, ◌<◌, ◌≤◌, ◌⊎◌, Bool, true, false, List, [], ◌∷◌, ◌++◌, length, codes}
+use Rattle.std.specs.Prelude.{◌≡◌, ℕ, ◌+◌, ◌*◌, ◌%◌, ◌^◌, ◌<◌, ◌≤◌, ◌⊎◌, Bool, true, false, List, [], ◌∷◌, ◌++◌, length, codes, Some}
 use Rattle.rs_measure.specs.FixedPoint.{number_of_digits, AreDigits}
 use Rattle.rs_measure.specs.Measure.{IsMeasure}
 use Rattle.rs_csv_lines.specs.declared.numbers.Rest.{Rest}
 use Rattle.rs_csv_lines.specs.declared.numbers.Rest.TheVariants as rests
+use Rattle.rs_csv_lines.specs.declared.plan.Measures.{Measures}
 use Rattle.rs_csv_lines.specs.declared.plan.Scale.{Scale}
 use Rattle.rs_csv_lines.specs.declared.plan.Scale.TheVariants as scales
 
@@ -68,13 +69,30 @@ abbrev pub AreReadUnits : (rounds : Bool) → ℕ → List ℕ → List ℕ → 
 AreReadUnits false places whole decimals units = AreUnits places whole decimals units
 AreReadUnits true places whole decimals units = AreNearestUnits places whole decimals units
 
--- The text is a measure of so many thousandths; to the nearest one where it is rounded.
-pub record WritesMeasure (rounds : Bool) (text : List ℕ) (thousandths : ℕ) : Type 0 where
+-- The text is a number of so many thousandths; to the nearest one where it is rounded.
+pub record WritesPlain (rounds : Bool) (text : List ℕ) (thousandths : ℕ) : Type 0 where
   pub whole : List ℕ
   pub decimals : List ℕ
   pub written : WritesNumber text false whole decimals
   pub read : AreReadUnits rounds 3 whole decimals thousandths
   pub in_range : IsMeasure thousandths
+
+-- The text is a number of stations, a plus sign, and what is beyond them, where a station has so many units.
+pub record WritesStations (rounds : Bool) (units : ℕ) (text : List ℕ) (thousandths : ℕ) : Type 0 where
+  pub front : List ℕ
+  pub rest : List ℕ
+  pub cut : text ≡ front ++ codes "+" ++ rest
+  pub whole : List ℕ
+  pub stations : WritesNumber front false whole []
+  pub beyond : ℕ
+  pub written : WritesPlain rounds rest beyond
+  pub is : thousandths ≡ number_of_digits whole * (1000 * units) + beyond
+  pub in_range : IsMeasure thousandths
+
+-- The text is a measure of so many thousandths: a number, or stations where they are read.
+abbrev pub WritesMeasure : Measures → List ℕ → ℕ → Type 0
+WritesMeasure reading text thousandths = WritesPlain reading.rounds text thousandths
+    ⊎ ((units : ℕ) × (reading.stations ≡ Some units) × WritesStations reading.rounds units text thousandths)
 
 -- ---- numbers that are multiplied
 

@@ -12,6 +12,7 @@ use Rattle.rs_value.specs.Text.{datum_text}
 use Rattle.rs_syntax.specs.declared.written.WrittenPosition.{WrittenPosition}
 use Rattle.rs_syntax.specs.declared.written.WrittenPosition.TheVariants as written_positions
 use Rattle.rs_syntax.specs.Written.{signed}
+use Rattle.rs_csv_lines.specs.declared.plan.Measures.{Measures}
 use Rattle.rs_csv_lines.specs.declared.plan.Scale.{Scale}
 use Rattle.rs_csv_lines.specs.declared.plan.Scale.TheVariants as scales
 use Rattle.rs_csv_lines.specs.Fields.{content, SpellsPosition, SpellsNumber}
@@ -30,9 +31,9 @@ position_text field (written_positions.Beyond name measure) = codes "@" ++ token
 position_text field (written_positions.Before name measure) = codes "@" ++ token_text field name ++ codes "-" ++ token_text field measure
 
 -- the text is put for a field that says the position: the tokens that spell it, or its measure with three decimals
-abbrev pub PutsPosition : Bool → List ℕ → PositionExpression → List ℕ → Type 0
-PutsPosition rounds field position bytes = ((written : WrittenPosition) × SpellsPosition field written position × (bytes ≡ position_text field written))
-    ⊎ ((thousandths : ℕ) × WritesMeasure rounds field thousandths × (position ≡ absolute thousandths) × (bytes ≡ measure_text thousandths))
+abbrev pub PutsPosition : Measures → List ℕ → PositionExpression → List ℕ → Type 0
+PutsPosition reading field position bytes = ((written : WrittenPosition) × SpellsPosition field written position × (bytes ≡ position_text field written))
+    ⊎ ((thousandths : ℕ) × WritesMeasure reading field thousandths × (position ≡ absolute thousandths) × (bytes ≡ measure_text thousandths))
 
 -- the sign and the digits of a number
 abbrev pub signed_text : Bool → List ℕ → List ℕ

@@ -2,11 +2,12 @@
 //!
 //! Names, positions and numbers are read by the grammar that reads lines, so blanks may stand around them.
 
-ghost use Rattle.std.specs.Prelude.{◌≡◌, ◌↔◌, [], IfOk, All, true};
+ghost use Rattle.std.specs.Prelude.{◌≡◌, IfOk, All, IsTrue};
 ghost use Rattle.csv.specs.Records.{fields_of};
 ghost use Rattle.rs_lexer.specs.Lexis.{AreTokensFrom, IsTokenOf};
 ghost use Rattle.rs_methods.specs.Position.{expression_of};
-ghost use Rattle.rs_csv_lines.specs.Fields.{content, SaysName, SpellsPosition, SpellsNumber};
+ghost use Rattle.rs_csv_lines.specs.Fields.{content, HasText, SaysName, SpellsPosition, SpellsNumber};
+ghost use Rattle.rs_value.specs.Values.{is_text};
 ghost use Rattle.rs_csv_lines.specs.Inserts.{Field};
 
 use crate::plan::{Cause, Misfit};
@@ -40,20 +41,27 @@ pub fn content(field: &[u8]) -> &[u8]
     }
 }
 
-/// The text of the field at a place of a record.
-pub fn field_text(csv_record: &ByteRecord, place: usize) -> Result<FieldText<'_>, Misfit>
-    ensures { IfOk result (λ found. Field (fields_of csv_record.now) place
-        (λ field. (found.text.now ≡ content field) × (found.is_empty ≡ true ↔ (field ≡ [])))) }
+/// The text of a field, which stands at a place.
+#[inline]
+pub fn text_in(field: &[u8], place: usize) -> Result<FieldText<'_>, Misfit>
+    ensures { IfOk result (λ found. IsTrue (is_text (content field.now)) × HasText found.text.now found.is_empty field.now) }
 {
-    let Some(field) = csv_record.get(place) else {
-        return Err(Misfit::Field(place, Cause::Missing));
-    };
     match as_text(content(field)) {
         Some(text) => Ok(FieldText {
             text,
             is_empty: field.is_empty(),
         }),
         None => Err(Misfit::Field(place, Cause::NotText)),
+    }
+}
+
+/// The text of the field at a place of a record.
+pub fn field_text(csv_record: &ByteRecord, place: usize) -> Result<FieldText<'_>, Misfit>
+    ensures { IfOk result (λ found. Field (fields_of csv_record.now) place (HasText found.text.now found.is_empty)) }
+{
+    match csv_record.get(place) {
+        Some(field) => text_in(field, place),
+        None => Err(Misfit::Field(place, Cause::Missing)),
     }
 }
 

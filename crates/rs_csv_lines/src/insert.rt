@@ -10,7 +10,7 @@ ghost use Rattle.rs_syntax.specs.Tree.{CommandTree, EventLocationTree};
 ghost use Rattle.rs_value.specs.Row.{Row};
 ghost use Rattle.rs_csv_lines.specs.Inserts.{IsInsertOf, PutsPlace, PutsFurther, PutsRow};
 
-use crate::plan::{Column, Misfit, Place, Plan};
+use crate::plan::{Column, Measures, Misfit, Place, Plan};
 use crate::put::{put_position, put_route, put_session, put_value};
 use csv::ByteRecord;
 use rs_machine::limits::LINE_BYTES;
@@ -42,18 +42,18 @@ fn put_place(
     alloc: Global,
     csv_record: &ByteRecord,
     place: Place,
-    rounds: bool,
+    measures: Measures,
     line: &mut String,
 ) -> Result<Ends, Misfit>
-    ensures { OnOk result ((location : EventLocationTree) × (bytes : List ℕ) × PutsPlace rounds (fields_of csv_record.now) place location bytes
+    ensures { OnOk result ((location : EventLocationTree) × (bytes : List ℕ) × PutsPlace measures (fields_of csv_record.now) place location bytes
         × (string_bytes line.new ≡ string_bytes line.old ++ bytes)) }
 {
     match place {
         Place::Along { from, to } => {
             line.push_str(" FROM ")?;
-            let (first, rounds_first) = put_position(alloc, csv_record, from, rounds, line)?;
+            let (first, rounds_first) = put_position(alloc, csv_record, from, measures, line)?;
             line.push_str(" TO ")?;
-            let (last, rounds_last) = put_position(alloc, csv_record, to, rounds, line)?;
+            let (last, rounds_last) = put_position(alloc, csv_record, to, measures, line)?;
             Ok(Ends {
                 first,
                 last,
@@ -62,7 +62,7 @@ fn put_place(
         }
         Place::At { at } => {
             line.push_str(" AT ")?;
-            let (first, rounds_first) = put_position(alloc, csv_record, at, rounds, line)?;
+            let (first, rounds_first) = put_position(alloc, csv_record, at, measures, line)?;
             let last = first;
             Ok(Ends {
                 first,
@@ -77,25 +77,19 @@ fn put_place(
 fn put_further(
     alloc: Global,
     csv_record: &ByteRecord,
+    number: u64,
     columns: &[Column],
     line: &mut String,
 ) -> Result<(), Misfit>
-    ensures { OnOk result ((row : Row) × (bytes : List ℕ) × PutsFurther (fields_of csv_record.now) columns.now row bytes
+    ensures { OnOk result ((row : Row) × (bytes : List ℕ) × PutsFurther number (fields_of csv_record.now) columns.now row bytes
         × (string_bytes line.new ≡ string_bytes line.old ++ bytes)) }
 {
     match columns.split_first() {
         None => Ok(()),
         Some((column, others)) => {
             line.push_str(", ")?;
-            put_value(
-                alloc,
-                csv_record,
-                column.field,
-                column.column_type,
-                column.scale,
-                line,
-            )?;
-            put_further(alloc, csv_record, others, line)
+            put_value(alloc, csv_record, number, column, line)?;
+            put_further(alloc, csv_record, number, others, line)
         }
     }
 }
@@ -104,30 +98,24 @@ fn put_further(
 fn put_row(
     alloc: Global,
     csv_record: &ByteRecord,
+    number: u64,
     columns: &[Column],
     line: &mut String,
 ) -> Result<(), Misfit>
     requires { 0 < length columns.now }
-    ensures { OnOk result ((row : Row) × (bytes : List ℕ) × PutsRow (fields_of csv_record.now) columns.now row bytes
+    ensures { OnOk result ((row : Row) × (bytes : List ℕ) × PutsRow number (fields_of csv_record.now) columns.now row bytes
         × (string_bytes line.new ≡ string_bytes line.old ++ bytes)) }
 {
     match columns.split_first() {
         None => unreachable!(),
         Some((column, others)) => {
-            put_value(
-                alloc,
-                csv_record,
-                column.field,
-                column.column_type,
-                column.scale,
-                line,
-            )?;
-            put_further(alloc, csv_record, others, line)
+            put_value(alloc, csv_record, number, column, line)?;
+            put_further(alloc, csv_record, number, others, line)
         }
     }
 }
 
-/// Writes the line of a record in place of what the line has, and gives where the event is.
+/// Writes the line of the record of this number in place of what the line has, and gives where the event is.
 ///
 /// Refused with the first field that is wrong, in the line's order, or where the line would be too long. Then a part of the
 /// line may have been written.
@@ -135,12 +123,13 @@ pub fn write_insert(
     alloc: Global,
     plan: &Plan,
     csv_record: &ByteRecord,
+    number: u64,
     line: &mut String,
 ) -> Result<Event, Misfit>
     requires session { plan.now.session < 64 }
     requires named { IsName plan.now.table.bytes }
     requires some { 0 < length plan.now.columns.items }
-    ensures { IfOk result (λ event. (tree : CommandTree) × (inserts : IsInsertOf plan.now (fields_of csv_record.now) tree)
+    ensures { IfOk result (λ event. (tree : CommandTree) × (inserts : IsInsertOf plan.now number (fields_of csv_record.now) tree)
         × (inserts.route ≡ event.route.bytes) × Asks (string_bytes line.new) (command plan.now.session tree)) }
 {
     line.clear();
@@ -149,9 +138,9 @@ pub fn write_insert(
     line.push_str(plan.table.as_str())?;
     line.push_str(" ON ")?;
     let route = put_route(alloc, csv_record, plan.route, plan.makes_names, line)?;
-    let ends = put_place(alloc, csv_record, plan.place, plan.rounds, line)?;
+    let ends = put_place(alloc, csv_record, plan.place, plan.measures, line)?;
     line.push_str(" VALUES (")?;
-    put_row(alloc, csv_record, plan.columns.as_slice(), line)?;
+    put_row(alloc, csv_record, number, plan.columns.as_slice(), line)?;
     line.push_str(")")?;
     let whole = line.as_str();
     if whole.len() > LINE_BYTES {

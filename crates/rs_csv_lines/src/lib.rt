@@ -3,6 +3,7 @@
 //! It promises that each line says the INSERT of its record. Measures and numbers are read as lines have them, and as offices write them.
 #![tactic(auto)]
 
+pub mod faults;
 pub mod fields;
 pub mod insert;
 pub mod laws;
@@ -12,7 +13,8 @@ pub mod plan;
 pub mod put;
 pub mod words;
 
+pub use faults::faults_of;
 pub use insert::{Ends, Event, write_insert};
 pub use names::made_name;
-pub use plan::{Cause, Column, Misfit, Place, Plan, Scale};
+pub use plan::{Cause, Column, Measures, Misfit, Place, Plan, Scale, Source};
 pub use words::write_words;

@@ -2,9 +2,9 @@
 
 ghost use Rattle.std.specs.Prelude.{◌≡◌, ◌↔◌, ◌⊎◌, ◌+◌, ◌*◌, ◌-◌, ◌^◌, ◌<◌, ◌≤◌, ◌++◌, ◌∷◌, [], ℕ, List, IfOk, IfSome, length, take, codes, true, false};
 ghost use Rattle.rs_measure.specs.FixedPoint.{number_from, number_of_digits, AreDigits};
-ghost use Rattle.rs_csv_lines.specs.Numbers.{AreBlanks, AreReadUnits, AreUnits, IsRest, IsRounded, IsSign, WritesMeasure, WritesNumber, WritesWhole};
+ghost use Rattle.rs_csv_lines.specs.Numbers.{AreBlanks, AreReadUnits, AreUnits, IsRest, IsRounded, IsSign, WritesMeasure, WritesNumber, WritesPlain, WritesStations, WritesWhole};
 
-use crate::plan::{Cause, Scale};
+use crate::plan::{Cause, Measures, Scale};
 use rs_measure::{GREATEST_MEASURE, Measure};
 
 /// The greatest number of a column.
@@ -262,9 +262,9 @@ pub fn read_units(
     }
 }
 
-/// The measure that a text is written as, and whether it was rounded.
-pub fn written_measure(text: &[u8], rounds: bool) -> Result<(Measure, bool), Cause>
-    ensures { IfOk result (λ found. WritesMeasure rounds text.now found.0) }
+// The measure that a text is written as in a number, and whether it was rounded.
+fn plain_measure(text: &[u8], rounds: bool) -> Result<(Measure, bool), Cause>
+    ensures { IfOk result (λ found. WritesPlain rounds text.now found.0) }
 {
     let Some(number) = written_number(text) else {
         return Err(Cause::NotPosition);
@@ -275,6 +275,50 @@ pub fn written_measure(text: &[u8], rounds: bool) -> Result<(Measure, bool), Cau
     let units = read_units(&number, MEASURE_PLACES, u64::from(GREATEST_MEASURE), rounds)?;
     let measure = Measure::from_thousandths(units.count as u32);
     Ok((measure, units.is_rounded))
+}
+
+// How many stations a text says.
+fn stations_in(text: &[u8]) -> Option<u64>
+    ensures value { IfSome result (λ n. (whole : List ℕ) × WritesNumber text.now false whole [] × (n ≡ number_of_digits whole)) }
+    ensures in_range { IfSome result (λ n. n < 2 ^ 32) }
+{
+    let number = written_number(text)?;
+    if number.is_negative || !number.decimals.is_empty() {
+        return None;
+    }
+    read_more(0, number.whole, u64::from(GREATEST_MEASURE))
+}
+
+// The measure that a text is written as in stations of so many units, and whether it was rounded.
+fn station_measure(text: &str, units: u32, rounds: bool) -> Result<(Measure, bool), Cause>
+    ensures { IfOk result (λ found. WritesStations rounds units text.now found.0) }
+{
+    let Some((front, rest)) = text.split_once('+') else {
+        return Err(Cause::NotPosition);
+    };
+    let Some(stations) = stations_in(front.as_bytes()) else {
+        return Err(Cause::NotPosition);
+    };
+    let (beyond, is_rounded) = plain_measure(rest.as_bytes(), rounds)?;
+    let whole = u128::from(stations) * (1000 * u128::from(units));
+    let thousandths = whole + u128::from(beyond.thousandths());
+    if thousandths > u128::from(GREATEST_MEASURE) {
+        return Err(Cause::PastGreatest);
+    }
+    Ok((Measure::from_thousandths(thousandths as u32), is_rounded))
+}
+
+/// The measure that a text is written as, and whether it was rounded.
+pub fn written_measure(text: &str, measures: Measures) -> Result<(Measure, bool), Cause>
+    ensures { IfOk result (λ found. WritesMeasure measures text.now found.0) }
+{
+    match plain_measure(text.as_bytes(), measures.rounds) {
+        Ok(found) => Ok(found),
+        Err(cause) => match measures.stations {
+            Some(units) if text.contains('+') => station_measure(text, units, measures.rounds),
+            _ => Err(cause),
+        },
+    }
 }
 
 /// The whole number that a text is written as, once it is multiplied: whether a minus sign stands before it, and how much it is.

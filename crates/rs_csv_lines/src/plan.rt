@@ -7,7 +7,7 @@ ghost use Rattle.rs_csv_lines.specs.Numbers.{places_of, scale_text};
 
 use rs_methods::Name;
 use rs_value::ColumnType;
-use std::alloc::AllocError;
+use std::alloc::{AllocError, AllocFailed};
 
 /// What each number of a column is multiplied by.
 #[derive(Clone, Copy, PartialEq, Eq, Debug)]
@@ -72,13 +72,22 @@ impl Scale {
     }
 }
 
+/// What gives the value of a column.
+#[derive(Clone, Copy)]
+pub enum Source {
+    /// The field of this place of a record, from 0.
+    Field(usize),
+    /// The number of the record, from 1.
+    Number,
+}
+
 /// A column of the table.
 #[derive(Clone, Copy)]
 pub struct Column {
     /// What it holds.
     pub column_type: ColumnType,
-    /// Which field of a record gives its value, from 0.
-    pub field: usize,
+    /// What gives its value.
+    pub source: Source,
     /// What each number is multiplied by.
     pub scale: Scale,
 }
@@ -100,6 +109,15 @@ pub enum Place {
     },
 }
 
+/// How measures are read.
+#[derive(Clone, Copy)]
+pub struct Measures {
+    /// Whether they are taken to the nearest thousandth.
+    pub rounds: bool,
+    /// How many units a station has, where `12+50.5` is 12 stations and 50.5 units.
+    pub stations: Option<u32>,
+}
+
 /// What is to be written for each record.
 #[derive(Drop)]
 pub struct Plan {
@@ -115,8 +133,8 @@ pub struct Plan {
     pub makes_names: bool,
     /// Which fields say the place.
     pub place: Place,
-    /// Whether measures are taken to the nearest thousandth.
-    pub rounds: bool,
+    /// How measures are read.
+    pub measures: Measures,
 }
 
 /// What is wrong with a field.
@@ -163,6 +181,18 @@ impl From<AllocError> for Misfit {
     ghost from_gives = { λ _ misfit. misfit ≡ OutOfMemory };
 
     fn from(_refused: AllocError) -> Misfit {
+        Misfit::OutOfMemory
+    }
+}
+
+/// Want of memory. The value that found no room is dropped.
+impl<T: Drop> From<AllocFailed<T>> for Misfit {
+    ghost use Rattle.std.specs.Prelude.{◌≡◌};
+    ghost use Rattle.rs_csv_lines.specs.declared.plan.Misfit.TheVariants.{OutOfMemory};
+
+    ghost from_gives = { λ _ misfit. misfit ≡ OutOfMemory };
+
+    fn from(_refused: AllocFailed<T>) -> Misfit {
         Misfit::OutOfMemory
     }
 }

@@ -12,15 +12,16 @@ ghost use Rattle.rs_value.specs.Row.{Datum};
 ghost use Rattle.rs_value.specs.Row as rows;
 ghost use Rattle.rs_value.specs.Text.{datum_text};
 ghost use Rattle.rs_syntax.specs.Written.{position_lexemes, AreToldOf};
+ghost use Rattle.rs_csv_lines.specs.Fields.{HasText};
 ghost use Rattle.rs_csv_lines.specs.Names.{SaysRoute};
 ghost use Rattle.rs_csv_lines.specs.Numbers.{WritesMeasure, WritesWhole};
 ghost use Rattle.rs_csv_lines.specs.Texts.{session_text, position_text, signed_text, PutsNumber, PutsDatum};
-ghost use Rattle.rs_csv_lines.specs.Inserts.{Field, TellsRoute, PutsPositionAt};
+ghost use Rattle.rs_csv_lines.specs.Inserts.{Given, TellsRoute, PutsPositionAt};
 
-use crate::fields::{field_text, name_in, number_in, position_in};
+use crate::fields::{FieldText, field_text, name_in, number_in, position_in, text_in};
 use crate::names::made_name;
 use crate::numbers::{written_measure, written_whole};
-use crate::plan::{Cause, Misfit, Scale};
+use crate::plan::{Cause, Column, Measures, Misfit, Scale, Source};
 use csv::ByteRecord;
 use itoa::Buffer;
 use rs_meaning::meaning::text;
@@ -124,13 +125,13 @@ pub fn put_route(
 fn put_measure(
     text: &str,
     place: usize,
-    rounds: bool,
+    measures: Measures,
     line: &mut String,
 ) -> Result<(Position, bool), Misfit>
-    ensures { IfOk result (λ found. (thousandths : ℕ) × WritesMeasure rounds text.now thousandths × (expression_of found.0 ≡ absolute thousandths)
+    ensures { IfOk result (λ found. (thousandths : ℕ) × WritesMeasure measures text.now thousandths × (expression_of found.0 ≡ absolute thousandths)
         × (string_bytes line.new ≡ string_bytes line.old ++ measure_text thousandths)) }
 {
-    match written_measure(text.as_bytes(), rounds) {
+    match written_measure(text, measures) {
         Ok((measure, is_rounded)) => {
             line.push_str(write_measure(measure).as_str())?;
             Ok((Position::Absolute(measure), is_rounded))
@@ -144,10 +145,10 @@ pub fn put_position(
     alloc: Global,
     csv_record: &ByteRecord,
     place: usize,
-    rounds: bool,
+    measures: Measures,
     line: &mut String,
 ) -> Result<(Position, bool), Misfit>
-    ensures { IfOk result (λ found. (bytes : List ℕ) × PutsPositionAt rounds (fields_of csv_record.now) place (expression_of found.0) bytes
+    ensures { IfOk result (λ found. (bytes : List ℕ) × PutsPositionAt measures (fields_of csv_record.now) place (expression_of found.0) bytes
         × (string_bytes line.new ≡ string_bytes line.old ++ bytes)) }
 {
     let field = field_text(csv_record, place)?;
@@ -157,7 +158,7 @@ pub fn put_position(
             Ok((position, false))
         }
         Err(Misfit::OutOfMemory) => Err(Misfit::OutOfMemory),
-        Err(_) => put_measure(field.text, place, rounds, line),
+        Err(_) => put_measure(field.text, place, measures, line),
     }
 }
 
@@ -198,27 +199,51 @@ fn put_number(
     }
 }
 
-/// Puts the value that a field says in a column.
-pub fn put_value(
+// Puts the value that the text of a field says in a column.
+#[inline]
+fn put_datum(
     alloc: Global,
-    csv_record: &ByteRecord,
+    field: FieldText<'_>,
     place: usize,
-    column_type: ColumnType,
-    scale: Scale,
+    column: &Column,
     line: &mut String,
 ) -> Result<(), Misfit>
     ensures { OnOk result ((datum : Datum) × (bytes : List ℕ)
-        × Field (fields_of csv_record.now) place (λ field. PutsDatum column_type scale field datum bytes)
+        × ((whole : List ℕ) → HasText field.entry.text.now field.entry.is_empty whole → PutsDatum column.now.column_type column.now.scale whole datum bytes)
         × (string_bytes line.new ≡ string_bytes line.old ++ bytes)) }
 {
-    let field = field_text(csv_record, place)?;
     if field.is_empty {
         line.push_str("NULL")?;
         return Ok(());
     }
-    match column_type {
-        ColumnType::Int => put_number(alloc, field.text, place, scale, line)?,
+    match column.column_type {
+        ColumnType::Int => put_number(alloc, field.text, place, column.scale, line)?,
         ColumnType::Text(_) => put_text(line, field.text)?,
     }
     Ok(())
+}
+
+/// Puts the value that a record of this number says in a column.
+pub fn put_value(
+    alloc: Global,
+    csv_record: &ByteRecord,
+    number: u64,
+    column: &Column,
+    line: &mut String,
+) -> Result<(), Misfit>
+    ensures { OnOk result ((datum : Datum) × (bytes : List ℕ)
+        × Given number (fields_of csv_record.now) column.now.source (λ field. PutsDatum column.now.column_type column.now.scale field datum bytes)
+        × (string_bytes line.new ≡ string_bytes line.old ++ bytes)) }
+{
+    match column.source {
+        Source::Field(place) => {
+            let field = field_text(csv_record, place)?;
+            put_datum(alloc, field, place, column, line)
+        }
+        Source::Number => {
+            let mut digits = Buffer::new();
+            let field = text_in(digits.format(number).as_bytes(), 0)?;
+            put_datum(alloc, field, 0, column, line)
+        }
+    }
 }

@@ -18,8 +18,8 @@ asked wanted definition defines line = subst (λ (bytes : List ℕ). Asks bytes 
 pub returns-in-Err-clause-wrote : goal.returns-in-Err-clause-wrote
 returns-in-Err-clause-wrote g c = (define_route [] 0 0, inr (Keeps-refl _), ([], Consumes-nil _, wrote_none c.args.wanted (define_route [] 0 0) _ _))
 
-pub returns-then-not-are_scales-clause-wrote : goal.returns-then-not-are_scales-clause-wrote
-returns-then-not-are_scales-clause-wrote g c = (define_route [] 0 0, inr (Keeps-refl _), ([], Consumes-nil _, wrote_none c.args.wanted (define_route [] 0 0) _ _))
+pub returns-in-Err-check_words-clause-wrote : goal.returns-in-Err-check_words-clause-wrote
+returns-in-Err-check_words-clause-wrote g c = (define_route [] 0 0, inr (Keeps-refl _), ([], Consumes-nil _, wrote_none c.args.wanted (define_route [] 0 0) _ _))
 
 pub returns-in-Err-read_all-clause-wrote : goal.returns-in-Err-read_all-clause-wrote
 returns-in-Err-read_all-clause-wrote g c = (table_of c.in-Ok.definition, inl (asked c.args.wanted c.in-Ok.definition c.in-Ok.ensures.defines c.in-Ok.ensures.line), c.in-Err-read_all.ensures.input)
@@ -27,8 +27,8 @@ returns-in-Err-read_all-clause-wrote g c = (table_of c.in-Ok.definition, inl (as
 pub returns-clause-wrote : goal.returns-clause-wrote
 returns-clause-wrote g c =
     let table = table_of c.in-Ok.definition in
-    let input = c.in_default.ensures.input in
+    let input = c.in_default-read_all.ensures.input in
     let told = strip_bom input.0 in
     let took =
     subst (λ (filter : FilterParts). TookAll c.args.wanted table (g.W.Write.contents c.args.output.now) filter.progress told (g.W.Write.contents c.read_all.new.output)) (sym c.filter.view_is) input.2.1 in
-    (table, inl (asked c.args.wanted c.in-Ok.definition c.in-Ok.ensures.defines c.in-Ok.ensures.line), (input.0, input.1, ends_whole c.args.wanted table c.end_lines.result c.filter.inside.progress told _ _ _ _ input.2.0 took c.end_lines.ensures.wrote c.end_lines.ensures.told))
+    (table, inl (asked c.args.wanted c.in-Ok.definition c.in-Ok.ensures.defines c.in-Ok.ensures.line), (input.0, input.1, ends_whole c.args.wanted table c.end_lines-result.result c.filter.inside.progress told _ _ _ _ input.2.0 took c.end_lines-result.ensures.wrote c.end_lines-result.ensures.told))

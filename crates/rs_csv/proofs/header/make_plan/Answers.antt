@@ -2,7 +2,7 @@ use Rattle.std.proofs.Common.{◌≡◌, ◌∙◌, ◌<◌, ◌≤◌, length, 
 use Rattle.std.proofs.KnownBytes.{Keeps-trans}
 use Rattle.csv.specs.Records.{fields_of}
 use Rattle.rs_syntax.specs.View.{column_tree}
-use Rattle.rs_csv.specs.Header.{AreColumnsOf, IsCalled, IsScaled}
+use Rattle.rs_csv.specs.Header.{AreColumnsOf, IsScaled, IsSourceOf}
 use Rattle.rs_csv.proofs.Headers.{columns_length, columns_step}
 use Rattle.rs_csv.proofs.header.make_plan.Goals as goal
 
@@ -26,6 +26,7 @@ returns-clause-plan g c =
       some = subst (λ n. 0 < n) (sym count) (omega (arith, c.requires.defines.sound.1));
       session_is = refl;
       rounds_is = refl;
+      stations_is = refl;
       names_is = refl;
       in_range = c.requires.in_range;
     }
@@ -35,14 +36,13 @@ loop-column-preserved g c =
     let items = c.args.definition.now.columns.items in
     let i = c.loop-column.column-index in
     let less : i < length items = omega (arith, ap length c.deref-column-items.ensures.value, c.deref-column-items.ensures.len, c.loop-column-test.true) in
-    let named = c.in_ok-field.ensures.named in
     record {
-      quiet = Keeps-trans _ _ _ c.loop-column.invariant.quiet c.in_ok-field.ensures.quiet;
+      quiet = Keeps-trans _ _ _ c.loop-column.invariant.quiet c.in_ok-source.ensures.quiet;
       columns =
           columns_step c.args.wanted.now (fields_of c.args.header.now) items i c.column-item.result c.loop-column.columns.items _ _ less
           (c.column-item.is ∙ ap (λ list. get_or list i c.column-item.result) c.deref-column-items.ensures.value) c.loop-column.invariant.columns (
             refl,
-            (named.0, subst (λ column. IsCalled (map (λ words. words.now) c.args.wanted.now.columns.now) column named.0) c.as_str.ensures.value named.1, named.2),
+            subst (λ column. IsSourceOf c.args.wanted.now (fields_of c.args.header.now) column c.in_ok-source.source) c.as_str.ensures.value c.in_ok-source.ensures.source,
             subst (λ column. IsScaled (map (λ words. words.now) c.args.wanted.now.scales.now) column c.in_ok-scale.scale) c.as_str-in-loop-column.ensures.value c.in_ok-scale.ensures,
           ) c.in_ok-push.ensures.items;
     }

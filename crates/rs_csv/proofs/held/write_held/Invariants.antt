@@ -5,10 +5,10 @@ use Rattle.rs_csv.proofs.Outputs.{Stays}
 use Rattle.rs_csv.proofs.Taking.{IsReadTo}
 use Rattle.rs_csv.proofs.held.write_held.Given as goal
 
-abbrev pub invariant-loop-text : goal.invariant-loop-text
-invariant-loop-text g l = record {
+abbrev pub invariant-loop-waiting : goal.invariant-loop-waiting
+invariant-loop-waiting g l = record {
   job : l.filter.job ≡ l.fn.job;
   told : Stays l.has_told l.filter.progress.made.has_told;
-  read : (raws : List (List ℕ)) → AreTexts l.fn.job.wanted.separator (map (λ text. text.items) l.held) raws
-      → IsReadTo l.fn.job.wanted (table_of l.fn.job.definition) (map (λ text. text.items) l.held) raws l.text-index (g.W.Write.contents l.fn.output) l.filter.progress (g.W.Write.contents l.output);
+  read : (raws : List (List ℕ)) → AreTexts l.fn.job.wanted.separator (map (λ held. held.text.items) l.held) raws
+      → IsReadTo l.fn.job.wanted (table_of l.fn.job.definition) (map (λ held. held.text.items) l.held) raws l.waiting-index (g.W.Write.contents l.fn.output) l.filter.progress (g.W.Write.contents l.output);
 }

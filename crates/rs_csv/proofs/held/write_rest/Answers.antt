@@ -1,4 +1,4 @@
-use Rattle.std.proofs.Common.{◌∙◌, [], append-nil, map, subst, sym, true}
+use Rattle.std.proofs.Common.{◌∙◌, [], append-nil, map, subst, sym}
 use Rattle.std.specs.Io.KnownBytes.{Appends}
 use Rattle.rs_protocol.specs.Puts.{PutsBut}
 use Rattle.rs_csv.specs.Output.{nothing, table_of}
@@ -19,8 +19,8 @@ returns-in-Err-put_parts-clause-wrote g c = λ before raws taken.
     let output = g.W.Write.contents c.args.output.now in
     let later = g.W.Write.contents c.put_parts.new.writer in
     let fault = c.in-Err-put_parts.ensures.1 in
-    front_routed wanted table raws [] before output later (λ known plan. nothing) (taken.held (rw (← c.job.view_is) c.if-not-job.false)).put
-    (routes_lost wanted table raws c.in-Ok.routes.items fault.0 output later (λ known plan. c.in-Ok.ensures.lines table plan known)
+    front_routed wanted table raws [] before output later (λ plan known number. nothing) (taken.held (rw (← c.job.view_is) c.if-not-job.false)).put
+    (routes_lost wanted table raws c.in-Ok.routes.items fault.0 output later (c.in-Ok.ensures.lines table)
     (subst (λ bytes. PutsBut bytes fault.0 output later) (append-nil c.as_slice.result.now ∙ c.as_slice.ensures.value) fault.2))
 
 pub returns-clause-wrote : goal.returns-clause-wrote
@@ -28,6 +28,6 @@ returns-clause-wrote g c = λ before raws taken.
     let wanted = c.args.job.now.wanted in
     let table = table_of c.args.job.now.definition in
     let held = taken.held (rw (← c.job.view_is) c.if-not-job.false) in
-    ends_held wanted table c.write_held.result raws c.in-Ok.routes.items before _ _ _ (λ known plan. c.in-Ok.ensures.lines table plan known) held.put
+    ends_held wanted table c.write_held.result raws c.in-Ok.routes.items before _ _ _ (c.in-Ok.ensures.lines table) held.put
     (subst (Appends (g.W.Write.contents c.args.output.now) (g.W.Write.contents c.put_parts.new.writer)) (append-nil c.as_slice.result.now ∙ c.as_slice.ensures.value) c.in_default.ensures)
-    (c.write_held.ensures.wrote raws (subst (λ list. AreTexts wanted.separator (map (λ text. text.items) list) raws) (sym c.as_slice-2.ensures.value) held.texts_are))
+    (c.write_held.ensures.wrote raws (subst (λ list. AreTexts wanted.separator (map (λ held. held.text.items) list) raws) (sym c.as_slice-2.ensures.value) held.texts_are))

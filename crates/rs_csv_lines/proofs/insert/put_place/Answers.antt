@@ -12,7 +12,7 @@ returns-in_ok-last-in-Along c =
     let last = c.in_ok-last-in-Along.ensures in (
       along (expression_of c.in_ok-first-in-Along.first) (expression_of c.in_ok-last-in-Along.last),
       codes " FROM " ++ first.0 ++ codes " TO " ++ last.0,
-      puts_along c.args.rounds (fields_of c.args.csv_record.now) c.args.place c.in-Along.from c.in-Along.to _ _ first.0 last.0 c.in-Along.is first.1 last.1,
+      puts_along c.args.measures (fields_of c.args.csv_record.now) c.args.place c.in-Along.from c.in-Along.to _ _ first.0 last.0 c.in-Along.is first.1 last.1,
       four_more (string_bytes c.args.line.now) _ _ _ _ (codes " FROM ") first.0 (codes " TO ") last.0 c.in_ok-push_str-in-Along.ensures.bytes first.2 c.in_ok-push_str-in-Along-2.ensures.bytes last.2,
     )
 
@@ -21,6 +21,6 @@ returns-in_ok-first-in-At c =
     let first = c.in_ok-first-in-At.ensures in (
       at_point (expression_of c.in_ok-first-in-At.first),
       codes " AT " ++ first.0,
-      puts_at c.args.rounds (fields_of c.args.csv_record.now) c.args.place c.in-At.at _ first.0 c.in-At.is first.1,
+      puts_at c.args.measures (fields_of c.args.csv_record.now) c.args.place c.in-At.at _ first.0 c.in-At.is first.1,
       two_more (string_bytes c.args.line.now) _ _ (codes " AT ") first.0 c.in_ok-push_str-in-At.ensures.bytes first.2,
     )

@@ -6,4 +6,4 @@ use Rattle.rs_csv_lines.proofs.insert.put_row.Goals as goal
 
 pub returns : goal.returns
 returns c =
-    on_ok_weaker c.put_further.result (λ more. row_put (fields_of c.args.csv_record.now) c.args.columns.now c.in-Some.column.now c.in-Some.others.now (string_bytes c.args.line.now) _ _ c.in-Some.ensures.cases.0 c.in_ok-put_value-in-Some.ensures more) c.put_further.ensures
+    on_ok_weaker c.put_further.result (λ more. row_put c.args.number (fields_of c.args.csv_record.now) c.args.columns.now c.in-Some.column.now c.in-Some.others.now (string_bytes c.args.line.now) _ _ c.in-Some.ensures.cases.0 c.in_ok-put_value-in-Some.ensures more) c.put_further.ensures

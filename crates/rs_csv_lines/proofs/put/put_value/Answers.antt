@@ -1,19 +1,20 @@
+use Rattle.std.proofs.Common.{◌≡◌, ◌∙◌, decimal, subst}
+use Rattle.std.specs.Prelude.{IsTrue}
+use Rattle.std.proofs.lemmas.Result.{on_ok_weaker}
 use Rattle.csv.specs.Records.{fields_of}
-use Rattle.rs_value.specs.Row.{text}
-use Rattle.rs_value.specs.Text.{datum_text}
-use Rattle.rs_csv_lines.proofs.Putting.{puts_number, puts_text}
+use Rattle.rs_value.specs.Values.{is_text}
+use Rattle.rs_csv_lines.specs.Fields.{content, HasText}
+use Rattle.rs_csv_lines.specs.Texts.{PutsDatum}
+use Rattle.rs_csv_lines.proofs.Putting.{given_number}
 use Rattle.rs_csv_lines.proofs.put.put_value.Goals as goal
 
-pub returns-in_ok-put_number-in-Int : goal.returns-in_ok-put_number-in-Int
-returns-in_ok-put_number-in-Int c =
-    let put = c.in_ok-put_number-in-Int.ensures in
-    (put.0, put.1, puts_number (fields_of c.args.csv_record.now) c.args.place c.args.column_type c.args.scale c.in_ok-field.field.text.now c.in_ok-field.field.is_empty put.0 put.1 c.in_ok-field.ensures c.if-field.false c.in-Int.is put.2, put.3)
-
-pub returns-in_ok-put_text-in-Text : goal.returns-in_ok-put_text-in-Text
-returns-in_ok-put_text-in-Text c =
-    let bytes = c.in_ok-field.field.text.now in (
-      text bytes,
-      datum_text (text bytes),
-      puts_text (fields_of c.args.csv_record.now) c.args.place c.in-Text.field-0 c.args.column_type c.args.scale bytes c.in_ok-field.field.is_empty c.in_ok-field.ensures c.if-field.false c.in-Text.is,
-      c.in_ok-put_text-in-Text.ensures,
-    )
+pub returns-in_ok-field-in-Number : goal.returns-in_ok-field-in-Number
+returns-in_ok-field-in-Number c =
+    let is : c.as_bytes.result.now ≡ decimal c.args.number = c.as_bytes.ensures.value ∙ c.format.ensures.text in
+    let text = c.in_ok-field-in-Number.ensures in
+    let field = c.in_ok-field-in-Number.field in
+    let clean : IsTrue (is_text (content (decimal c.args.number))) = subst (λ bs. IsTrue (is_text (content bs))) is text.0 in
+    let has : HasText field.text.now field.is_empty (decimal c.args.number) = subst (HasText field.text.now field.is_empty) is text.1 in
+    on_ok_weaker c.put_datum-in-Number.result
+    (λ put. (put.0, put.1, given_number c.args.number (fields_of c.args.csv_record.now) c.args.column.now.source (λ f. PutsDatum c.args.column.now.column_type c.args.column.now.scale f put.0 put.1) c.in-Number.is clean (put.2 (decimal c.args.number) has), put.3))
+    c.put_datum-in-Number.ensures

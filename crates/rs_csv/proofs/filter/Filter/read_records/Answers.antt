@@ -4,7 +4,7 @@ use Rattle.csv.specs.Reading.{builder_config, builder_names_headers, builder_tri
 use Rattle.csv.specs.declared.parser.Config.{Config}
 use Rattle.rs_csv.specs.Reading.{config_of}
 use Rattle.rs_csv.specs.Output.{JobParts, Makes, table_of}
-use Rattle.rs_csv.proofs.Outputs.{makes_none, makes_trans, quiet_same, quiet_trans}
+use Rattle.rs_csv.proofs.Outputs.{makes_ended, makes_none, makes_trans, quiet_same, quiet_trans}
 use Rattle.rs_csv.proofs.Readers.{read_all, read_more, read_none}
 use Rattle.rs_csv.proofs.filter.Filter.read_records.Goals as goal
 
@@ -25,7 +25,13 @@ records-init g c =
 pub returns-in-Ok-false-clause-made : goal.returns-in-Ok-false-clause-made
 returns-in-Ok-false-clause-made g c =
     let made = c.records.invariant.made in
-    (made.0, read_all _ c.args.self.now.job.wanted.separator c.args.text.now made.0 _ c.records.reader c.read_byte_record.new.self c.in-Ok-false.field-0 c.in-Ok-false.field-0-test made.1 c.in-Ok-false.ensures.reads, made.2)
+    let wanted = c.args.self.now.job.wanted in
+    let table = table_of c.args.self.now.job.definition in
+    let ended = subst (λ (job : JobParts). Makes job.wanted (table_of job.definition) [] c.records.self.progress c.end_text.new.self.progress) c.records.invariant.job c.end_text.ensures.made in (
+      made.0,
+      read_all _ wanted.separator c.args.text.now made.0 _ c.records.reader c.read_byte_record.new.self c.in-Ok-false.field-0 c.in-Ok-false.field-0-test made.1 c.in-Ok-false.ensures.reads,
+      makes_ended wanted table c.args.self.now.progress c.records.self.progress c.end_text.new.self.progress made.0 made.2 ended,
+    )
 
 pub records-preserved : goal.records-preserved
 records-preserved g c =

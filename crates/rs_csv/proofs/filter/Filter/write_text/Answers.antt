@@ -16,5 +16,5 @@ returns-clause-sent g c = λ more is.
     let table = table_of c.args.self.now.job.definition in
     let made = c.in_default.ensures.made in
     let makes = subst (λ (filter : FilterParts). Makes wanted table made.0 c.args.self.now.progress filter.progress) (sym c.self.view_is) made.2 in
-    sends wanted table c.write_made.result c.args.self.now.progress c.self.inside.progress _ c.args.text.now more made.0 _ _ made.1 is makes refl (known_same c.self.inside.progress.made c.write_made.new.made c.write_made.ensures.told c.write_made.ensures.texts)
+    sends wanted table c.write_made.result c.args.self.now.progress c.self.inside.progress _ c.args.text.now more made.0 _ _ made.1 is makes refl (known_same c.self.inside.progress.made c.write_made.new.made c.write_made.ensures.told c.write_made.ensures.texts) c.write_made.ensures.number
     c.write_made.ensures.sent c.write_made.ensures.fault
