@@ -3,3 +3,7 @@ mod Cutting
 mod Cells
 mod Joining
 mod Turns
+mod OneAnswer
+mod ManyLines
+mod NextLine
+mod FreshReader

@@ -1,5 +1,5 @@
 -- Marks round a text, by the bytes between its quotes.
-use Rattle.std.proofs.Common.{◌≡◌, ◌==◌, ◌||◌, ◌++◌, ◌+◌, ℕ, Bool, true, false, cond, List, [], ◌∷◌, length, refl, ap, subst, eqb-true}
+use Rattle.std.proofs.Common.{◌≡◌, ◌==◌, ◌||◌, ◌++◌, ℕ, Bool, true, false, cond, List, [], ◌∷◌, length, refl, ap, subst, eqb-true}
 use Rattle.std.specs.List.{list_any}
 use Rattle.rs_csv_answers.specs.Records.{calls_for_marks, marks_doubled, needs_marks, quotes_single, text_field}
 

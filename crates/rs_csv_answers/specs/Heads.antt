@@ -5,7 +5,7 @@ use Rattle.rs_facts.specs.Query.{Column, Query, kind_of}
 use Rattle.rs_machine.specs.Checking.{checked, columns_in}
 use Rattle.rs_machine.specs.Checks.{column_names}
 use Rattle.rs_machine.specs.State.{State, world_of}
-use Rattle.rs_syntax.specs.Tree.{CommandTree, QueryTree, select, total}
+use Rattle.rs_syntax.specs.Tree.{CommandTree, QueryTree, open_cursor, select, total, translate}
 use Rattle.rs_value.specs.declared.column.Kind.{Kind}
 use Rattle.rs_value.specs.declared.column.Kind.TheVariants.{Line, Point}
 
@@ -42,8 +42,12 @@ pub record HasShape (state : State) (tree : QueryTree) (kind : Kind) (columns : 
   pub kind_is : kind ≡ kind_of (world_of state) query
   pub columns_are : columns ≡ columns_in state query
 
--- the header of what a command answers in a state: none but that of lines and of totals
+-- The header of what a command answers in a state: that of lines, of totals and of a position. The lines of a cursor have theirs where
+-- it is opened, so that what is fetched goes on under it.
 abbrev pub HasHead : State → CommandTree → List ℕ → Type 0
 HasHead state (select query method) head = (kind : Kind) × (columns : List Column) × HasShape state query kind columns × (head ≡ lines_head kind (column_names columns))
 HasHead state (total query by summed) head = head ≡ total_head by (is_some summed)
+HasHead state (open_cursor name query method) head =
+    (kind : Kind) × (columns : List Column) × HasShape state query kind columns × (head ≡ lines_head kind (column_names columns))
+HasHead state (translate route position method) head = head ≡ codes "position\n"
 HasHead state command head = head ≡ []

@@ -7,11 +7,12 @@ use Rattle.rs_machine.specs.Served.{Reply, done, refused}
 use Rattle.rs_machine.specs.State.{State}
 use Rattle.rs_refusal.specs.declared.refusal.Refusal.{Refusal}
 use Rattle.rs_refusal.specs.declared.refusal.Refusal.TheVariants.{OutOfMemory}
-use Rattle.rs_syntax.specs.Tree.{CommandTree, select}
+use Rattle.rs_syntax.specs.Tree.{CommandTree, open_cursor, select}
 
 -- the lines of a query are refused by its checks
 abbrev pub IsRefusedBy : State → CommandTree → Refusal → Type 0
 IsRefusedBy state (select query method) why = checked state query ≡ Err why
+IsRefusedBy state (open_cursor name query method) why = checked state query ≡ Err why
 IsRefusedBy state command why = ⊥
 
 -- the header of a command's answer, or why there is none

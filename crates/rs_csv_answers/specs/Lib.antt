@@ -4,4 +4,6 @@ pub mod Heads
 pub mod Answers
 pub mod Inner
 pub mod Words
+pub mod Turns
 pub mod Questions
+pub mod Lines

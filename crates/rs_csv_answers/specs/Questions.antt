@@ -1,22 +1,10 @@
 -- Questions that are asked one after another, and what is put of their answers.
-use Rattle.std.specs.Prelude.{◌≡◌, ◌⊎◌, ℕ, Bool, List, [], ◌∷◌, ◌++◌, Option, Result, Ok, Err, MatchResult, codes, is_ok}
-use Rattle.std.specs.Io.KnownBytes.{Appends}
-use Rattle.std.specs.List.{list_all}
+use Rattle.std.specs.Prelude.{◌≡◌, ◌⊎◌, ℕ, Bool, List, ◌++◌, Option, Result, Err, MatchResult, codes}
 use Rattle.rs_csv_answers.specs.Answers.{AnswersAsCsv}
+use Rattle.rs_csv_answers.specs.Turns.{PutsAll, PutsFront, PutsOne, Text}
 use Rattle.rs_machine.specs.Served.{Machine}
-use Rattle.rs_protocol.specs.Puts.{Puts}
 use Rattle.rs_protocol.specs.declared.stream.Fault.{Fault}
-use Rattle.rs_refusal.specs.declared.refusal.Refusal.{Refusal}
 use Rattle.rs_refusal.specs.declared.refusal.Refusal.TheVariants.{OutOfMemory}
-
--- a text, or a refusal
-abbrev pub Text : Type 0
-Text = Result (List ℕ) Refusal
-
--- the bytes of what was answered
-abbrev pub text_result : {T : Type 0} → (T → List ℕ) → Result T Refusal → Text
-text_result items (Ok text) = Ok (items text)
-text_result items (Err why) = Err why
 
 -- the line of session 0 that asks a question
 abbrev pub line_of : List ℕ → List ℕ
@@ -26,47 +14,14 @@ line_of question = codes "0 " ++ question
 abbrev pub IsAnswered : List ℕ → Machine → Text → Machine → Type 0
 IsAnswered question old answer new = AnswersAsCsv (λ (text : List ℕ). text) (line_of question) old answer new ⊎ ((answer ≡ Err OutOfMemory) × (new ≡ old))
 
--- what is put of an answer: nothing where the question is refused
-abbrev pub text_of : Text → List ℕ
-text_of (Ok text) = text
-text_of (Err why) = []
+abbrev pub AnswersQuestion : List ℕ → Machine → Result Bool Fault → Machine → Option (List ℕ) → Option (List ℕ) → Type 0
+AnswersQuestion = PutsOne IsAnswered
 
--- whether none was refused
-abbrev pub are_answered : List Text → Bool
-are_answered answers = list_all is_ok answers
+abbrev pub AnswersAll : List (List ℕ) → Machine → Bool → Machine → Option (List ℕ) → Option (List ℕ) → Type 0
+AnswersAll = PutsAll IsAnswered
 
--- Each question is answered by the machine that the one before left, and their texts are put one after another.
-abbrev pub AnswersEach : Machine → List (List ℕ) → List Text → List ℕ → Machine → Type 0
-AnswersEach old [] [] text new = (new ≡ old) × (text ≡ [])
-AnswersEach old (question ∷ questions) (answer ∷ answers) text new =
-    (between : Machine) × (rest : List ℕ) × IsAnswered question old answer between × AnswersEach between questions answers rest new × (text ≡ text_of answer ++ rest)
-AnswersEach old [] (answer ∷ answers) text new = ⊥
-AnswersEach old (question ∷ questions) [] text new = ⊥
-
--- One question is answered, and its text is put whole, or a front of it with a fault.
-pub record AnswersQuestion (question : List ℕ) (old : Machine) (result : Result Bool Fault) (new : Machine) (before after : Option (List ℕ)) : Type 0 where
-  pub answer : Text
-  pub is : IsAnswered question old answer new
-  pub said : MatchResult result (λ done. done ≡ is_ok answer) (λ _. Unit {0})
-  pub put : Puts result (text_of answer) before after
-
--- All of them are answered, and their texts are put whole.
-pub record AnswersAll (questions : List (List ℕ)) (old : Machine) (none_refused : Bool) (new : Machine) (before after : Option (List ℕ)) : Type 0 where
-  pub answers : List Text
-  pub text : List ℕ
-  pub each : AnswersEach old questions answers text new
-  pub said : none_refused ≡ are_answered answers
-  pub put : Appends before after text
-
--- Some of them are answered, of whose texts a front is put, and those after them are not asked.
-pub record AnswersFront (questions : List (List ℕ)) (old : Machine) (fault : Fault) (new : Machine) (before after : Option (List ℕ)) : Type 0 where
-  pub asked : List (List ℕ)
-  pub left : List (List ℕ)
-  pub whole : questions ≡ asked ++ left
-  pub answers : List Text
-  pub text : List ℕ
-  pub each : AnswersEach old asked answers text new
-  pub put : Puts {T = Bool} (Err fault) text before after
+abbrev pub AnswersFront : List (List ℕ) → Machine → Fault → Machine → Option (List ℕ) → Option (List ℕ) → Type 0
+AnswersFront = PutsFront IsAnswered
 
 abbrev pub AnswersQuestions : List (List ℕ) → Machine → Result Bool Fault → Machine → Option (List ℕ) → Option (List ℕ) → Type 0
 AnswersQuestions questions old result new before after =

@@ -49,7 +49,8 @@ pub fn answer_as_csv<E: Shapes>(
     engine: &mut E,
     line: &[u8],
 ) -> Result<Vec<u8>, Refusal>
-    ensures { (old : Machine) → E.is engine.old old → (new : Machine) × E.is engine.new new × AnswersAsCsv (λ text. text.items) line.now old result new }
+    ensures answers { (old : Machine) → E.is engine.old old → (new : Machine) × E.is engine.new new × AnswersAsCsv (λ text. text.items) line.now old result new }
+    ensures becomes { E.becomes engine.old engine.new }
 {
     match command_in(alloc, line) {
         Ok(requested) => {
@@ -61,7 +62,7 @@ pub fn answer_as_csv<E: Shapes>(
     }
 }
 
-/// The header of what a command is answered; or the refusal of its query.
+/// The header of what a command is answered (decision: header-at-open); or the refusal of its query.
 fn head_of<E: Shapes>(alloc: Global, engine: &E, command: &Command) -> Result<Vec<u8>, Refusal>
     ensures { (machine : Machine) → E.is engine.now machine → IsHeadOf (λ head. head.items) machine.state (tree_of command.now) result }
 {
@@ -71,6 +72,15 @@ fn head_of<E: Shapes>(alloc: Global, engine: &E, command: &Command) -> Result<Ve
             let shape = engine.shape(query)?;
             push_lines_head(&mut head, shape.kind, shape.columns.as_slice())?;
         }
+        Command::Open {
+            cursor: _,
+            query,
+            method: _,
+        } => {
+            let shape = engine.shape(query)?;
+            push_lines_head(&mut head, shape.kind, shape.columns.as_slice())?;
+        }
+        Command::Translate { .. } => head.extend_from_slice(b"position\n")?,
         Command::Total {
             query: _,
             by,

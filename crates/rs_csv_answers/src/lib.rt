@@ -6,11 +6,16 @@
 pub mod asking;
 mod heads;
 pub mod laws;
+pub mod lines;
+mod putting;
 pub mod questions;
 pub mod records;
+pub mod shown;
 pub mod words;
 
 pub use asking::{Shape, Shapes, answer_as_csv};
+pub use lines::{Answered, Ended, answer_input};
 pub use questions::answer_questions;
 pub use records::push_record;
+pub use shown::shown_of;
 pub use words::first_other;

@@ -4,12 +4,13 @@
 
 ghost use Rattle.std.specs.Prelude.{◌≡◌, ◌&&◌, IfOk, Ok, map, string_bytes, true};
 ghost use Rattle.std.specs.Io.KnownBytes.{Keeps};
-ghost use Rattle.rs_csv_answers.specs.Questions.{AnswersQuestion, AnswersQuestions, IsAnswered, line_of, text_result};
+ghost use Rattle.rs_csv_answers.specs.Questions.{AnswersQuestion, AnswersQuestions, IsAnswered, line_of};
+ghost use Rattle.rs_csv_answers.specs.Turns.{text_result};
 ghost use Rattle.rs_machine.specs.Served.{Machine};
 
 use crate::asking::{Shapes, answer_as_csv};
-use itoa::Buffer;
-use rs_protocol::{Fault, put_parts};
+use crate::putting::{Asked, put_answer};
+use rs_protocol::Fault;
 use rs_refusal::Refusal;
 use std::alloc::{AllocError, Global};
 use std::io::Write;
@@ -29,7 +30,8 @@ pub fn answer_questions<S: Shapes, W: Write, E: Write>(
 {
     let mut are_answered = true;
     for place in 0..questions.len() {
-        let is_answered = answer_question(alloc, engine, place, questions[place], output, errors)?;
+        let number = (place as u64).saturating_add(1);
+        let is_answered = answer_question(alloc, engine, number, questions[place], output, errors)?;
         are_answered = are_both(is_answered, are_answered);
     }
     Ok(are_answered)
@@ -46,7 +48,7 @@ fn are_both(one: bool, other: bool) -> bool
 fn answer_question<S: Shapes, W: Write, E: Write>(
     alloc: Global,
     engine: &mut S,
-    place: usize,
+    place: u64,
     question: &str,
     output: &mut W,
     errors: &mut E,
@@ -55,16 +57,15 @@ fn answer_question<S: Shapes, W: Write, E: Write>(
         × AnswersQuestion question.now old result new (W.contents output.old) (W.contents output.new) }
     ensures quiet { result ≡ Ok true → Keeps (E.contents errors.old) (E.contents errors.new) }
 {
-    match answer_to(alloc, engine, question) {
-        Ok(text) => {
-            put_parts(output, &[text.as_slice()])?;
-            Ok(true)
-        }
-        Err(refusal) => {
-            let _ = tell_refused(errors, place, &refusal, question);
-            Ok(false)
-        }
-    }
+    let answer = answer_to(alloc, engine, question);
+    let asked = Asked {
+        kind: b"question ",
+        place,
+        begins: b"0 ",
+        text: question.as_bytes(),
+        ends: b"\n",
+    };
+    put_answer(&answer, asked, output, errors)
 }
 
 /// What a question is answered, as CSV; or its refusal, which may be for want of memory (90).
@@ -86,31 +87,4 @@ fn line_asking(alloc: Global, question: &str) -> Result<String, AllocError>
     line.push_str("0 ")?;
     line.push_str(question)?;
     Ok(line)
-}
-
-/// Tells which of the questions was refused, why, and the line that asked it.
-fn tell_refused<E: Write>(
-    errors: &mut E,
-    place: usize,
-    refusal: &Refusal,
-    question: &str,
-) -> Result<(), Fault> {
-    let mut digits = Buffer::new();
-    let mut number = Buffer::new();
-    let count = digits.format(place.saturating_add(1)).as_bytes();
-    let words = refusal.words();
-    put_parts(
-        errors,
-        &[
-            b"roadseg: question ",
-            count,
-            b": ERR ",
-            number.format(refusal.number()).as_bytes(),
-            b" ",
-            words.as_str().as_bytes(),
-            b": 0 ",
-            question.as_bytes(),
-            b"\n",
-        ],
-    )
 }

@@ -245,18 +245,29 @@ pub fn explain(refusal: &Refusal) -> Explanation {
 /// Which option of `csv` makes lines that are not refused so, or what `csv` does by itself, where one does.
 pub fn cure_by_csv(refusal: &Refusal) -> Option<&'static str> {
     match refusal {
+        Refusal::LineIsNotText => {
+            Some(
+                "without an option it reads UTF-8, and UTF-16 by its mark; --latin1 reads Latin-1.",
+            )
+        }
         Refusal::SessionNumber => {
             Some("--session 7 begins each line with 7; without it they begin with 0.")
         }
-        Refusal::UnknownCharacter => {
-            Some("without an option it puts texts into quotes, and doubles those within.")
-        }
+        Refusal::UnknownCharacter => Some(
+            "without an option it puts texts into quotes, and doubles those within; --names makes names of routes with such a character.",
+        ),
+        Refusal::Syntax(_) => Some(
+            "--names makes names of routes, and of columns of the header, that are none, as I_95 of I-95; --stations 100 reads 12+50.5 as 1250.5.",
+        ),
         Refusal::NumberOutOfRange => {
             Some("--round takes measures with more decimals to the nearest thousandth.")
         }
         Refusal::NoSuchRoute => Some(
             "--routes defines the routes too, each from the least to the greatest measure met on it.",
         ),
+        Refusal::NoSuchColumn => {
+            Some("--column COLUMN=NAME says which name of the header is the column's.")
+        }
         Refusal::NameTaken => {
             Some("--no-define leaves out the line that defines the table, which is there.")
         }
@@ -264,6 +275,9 @@ pub fn cure_by_csv(refusal: &Refusal) -> Option<&'static str> {
             Some("--routes defines routes that are not there yet, as long as the records need.")
         }
         Refusal::EmptySpan => { Some("--at names the column of the measure, for a POINT TABLE.") }
+        Refusal::WrongValues => Some(
+            "without an option it writes values in the order of the table's columns, and takes 2012.0 as 2012; --scale COLUMN=10 takes 115.8 as 1158.",
+        ),
         _ => None,
     }
 }

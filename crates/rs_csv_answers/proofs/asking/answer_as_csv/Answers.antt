@@ -9,8 +9,8 @@ use Rattle.rs_csv_answers.proofs.asking.answer_as_csv.Goals as goal
 pub step-reply-requires : goal.step-reply-requires
 step-reply-requires g c = record { said = record { line = c.args.line.now; asks = c.in-Ok.ensures.asks } }
 
-pub returns-in-Ok : goal.returns-in-Ok
-returns-in-Ok g c old is =
+pub returns-in-Ok-clause-answers : goal.returns-in-Ok-clause-answers
+returns-in-Ok-clause-answers g c old is =
     let served = c.step-reply.ensures.served old is in (
       served.0,
       served.1,
@@ -18,8 +18,14 @@ returns-in-Ok g c old is =
           c.in-Ok.ensures.asks served.2 (c.head_of-head.ensures old is) c.csv_of.ensures,
     )
 
-pub returns-in-Err : goal.returns-in-Err
-returns-in-Err g c old is = (
+pub returns-in-Ok-clause-becomes : goal.returns-in-Ok-clause-becomes
+returns-in-Ok-clause-becomes g c = c.step-reply.ensures.becomes
+
+pub returns-in-Err-clause-becomes : goal.returns-in-Err-clause-becomes
+returns-in-Err-clause-becomes g c = g.met.E.Serve.becomes_itself c.args.engine.now
+
+pub returns-in-Err-clause-answers : goal.returns-in-Err-clause-answers
+returns-in-Err-clause-answers g c old is = (
   old,
   is,
   record {

@@ -2,7 +2,7 @@
 use Rattle.std.proofs.Common.{◌≡◌, ℕ, Bool, Bor, Ok, Err, List, [], Result, ap, arith, length, map, refl, subst, sym}
 use Rattle.std.proofs.KnownBytes.{Appends-nil, Keeps-refl, Keeps-trans}
 use Rattle.std.proofs.lemmas.Result.{err_from_is_err_and}
-use Rattle.rs_csv_answers.specs.Questions.{AnswersQuestions}
+use Rattle.rs_csv_answers.specs.Questions.{AnswersQuestions, IsAnswered}
 use Rattle.rs_csv_answers.proofs.Turns.{all_at, all_there, both_true, stops_at}
 use Rattle.rs_protocol.specs.declared.stream.Fault.{Fault}
 use Rattle.rs_csv_answers.proofs.questions.answer_questions.Goals as goal
@@ -23,7 +23,7 @@ returns-in_err-is_answered-clause-answers g c = λ old is.
       next.1,
       subst (λ (r : Result Bool Fault). AnswersQuestions (map (λ (question : Bor (List ℕ)). question.now) c.args.questions.now) old r next.0
           (g.W.Write.contents c.args.output.now) (g.W.Write.contents c.answer_question.new.output)) (sym is_err)
-          (stops_at (Bor (List ℕ)) (λ question. question.now) c.args.questions.now c.loop-place.place _ c.loop-place-test.true old before.0 next.0 _ _ _ _ _ before.2 next.2),
+          (stops_at IsAnswered (Bor (List ℕ)) (λ question. question.now) c.args.questions.now c.loop-place.place _ c.loop-place-test.true old before.0 next.0 _ _ _ _ _ before.2 next.2),
     )
 
 pub loop-place-preserved : goal.loop-place-preserved
@@ -33,7 +33,7 @@ loop-place-preserved g c = record {
       let next = c.in_ok-is_answered.ensures.answers before.0 before.1 in (
         next.0,
         next.1,
-        all_at (Bor (List ℕ)) (λ question. question.now) c.args.questions.now c.loop-place.place _ c.loop-place-test.true old before.0 next.0 _ _ _ _ _ _
+        all_at IsAnswered (Bor (List ℕ)) (λ question. question.now) c.args.questions.now c.loop-place.place _ c.loop-place-test.true old before.0 next.0 _ _ _ _ _ _
             c.are_both-are_answered.ensures before.2 next.2,
       );
   quiet = λ done.
@@ -47,5 +47,5 @@ returns-clause-answers g c = λ old is.
     let all : c.loop-place.place ≡ length c.args.questions.now = omega (arith, c.loop-place.auto.place-end, c.loop-place-test.false) in (
       before.0,
       before.1,
-      all_there (Bor (List ℕ)) (λ question. question.now) c.args.questions.now c.loop-place.place old before.0 c.loop-place.are_answered _ _ all before.2,
+      all_there IsAnswered (Bor (List ℕ)) (λ question. question.now) c.args.questions.now c.loop-place.place old before.0 c.loop-place.are_answered _ _ all before.2,
     )

@@ -1,0 +1,3 @@
+mod Readers
+mod Portions
+mod Greatest

@@ -1,0 +1,5 @@
+pub mod Fields
+pub mod Columns
+pub mod Records
+pub mod Tables
+pub mod Steps
