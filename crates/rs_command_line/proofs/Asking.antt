@@ -18,7 +18,7 @@ use Rattle.clap.specs.declared.builder.value_parser.Reading.{Reading}
 use Rattle.clap.specs.declared.builder.value_parser.Reading.TheVariants.{WithoutMinus}
 use Rattle.clap.specs.declared.builder.value_parser.ValueParser.TheVariants.{Signed, Unsigned}
 use Rattle.clap.proofs.ValueTestLemmas.{Accepts-accepts, accepts-Accepts}
-use Rattle.rs_command_line.specs.CommandLine.{ask_command, command_line, connections_option, create_command, csv_command, dump_command, explain_command, file_option, flag, listen_option, question_argument, run_command, serve_command, text_option}
+use Rattle.rs_command_line.specs.CommandLine.{ask_command, command_line, connections_option, create_command, csv_command, dump_command, explain_command, file_option, flag, listen_option, question_argument, run_command, serve_command, table_command, text_option}
 use Rattle.rs_command_line.specs.Asked.{address_in, asked_by, asked_of, asks, connections_in, creates, dumps, file_in, flag_in, serves}
 use Rattle.rs_command_line.proofs.Rows.{AllDefaults, AllSound, Full, IsSound, append_sound, default_gives_row, default_keeps_row, defaults_full, flag_sound, found_row, given_row, neither, no_kind, option_sound, request_sound}
 use Rattle.rs_command_line.proofs.Walks.{settle_full, walk_good}
@@ -67,6 +67,9 @@ ask_shape = built_leaf (inherited above ask_command.top)
 
 abbrev csv_shape : Shape
 csv_shape = built_leaf (inherited above csv_command.top)
+
+abbrev table_shape : Shape
+table_shape = built_leaf (inherited above table_command.top)
 
 abbrev dump_shape : Shape
 dump_shape = built_leaf (inherited above dump_command.top)
@@ -296,19 +299,20 @@ no_help_met name other same = go (bytes_eq (codes "help") name) refl same
     go false same e = true≢false (sym e)
 
 -- the command that was met, one of those that there are
-met : (words : List Text) (a b k c d e f g : Bool) → (g ≡ true → ⊥)
-    → option_map_or (λ s. level_fault s [] nothing_held words false []) (cond a (Some create_shape) (cond b (Some run_shape) (cond k (Some ask_shape) (cond c (Some csv_shape) (cond d (Some dump_shape) (cond e (Some explain_shape) (cond f (Some serve_shape) (cond g (Some help_leaf) None)))))))) [] ≡ []
-    → is_some (option_map (λ s. rows_at s words) (cond a (Some create_shape) (cond b (Some run_shape) (cond k (Some ask_shape) (cond c (Some csv_shape) (cond d (Some dump_shape) (cond e (Some explain_shape) (cond f (Some serve_shape) (cond g (Some help_leaf) None))))))))) ≡ true
-    → IsSome (option_and_then asked_by (option_map (λ s. rows_at s words) (cond a (Some create_shape) (cond b (Some run_shape) (cond k (Some ask_shape) (cond c (Some csv_shape) (cond d (Some dump_shape) (cond e (Some explain_shape) (cond f (Some serve_shape) (cond g (Some help_leaf) None))))))))))
-met words true b k c d e f g other fault has = create_asks words fault
-met words false true k c d e f g other fault has = refl
-met words false false true c d e f g other fault has = ask_asks words fault
-met words false false false true d e f g other fault has = refl
-met words false false false false true e f g other fault has = dump_asks words fault
-met words false false false false false true f g other fault has = refl
-met words false false false false false false true g other fault has = serve_asks words fault
-met words false false false false false false false true other fault has = absurd (other refl)
-met words false false false false false false false false other fault has = absurd (true≢false (sym has))
+met : (words : List Text) (a b k c t d e f g : Bool) → (g ≡ true → ⊥)
+    → option_map_or (λ s. level_fault s [] nothing_held words false []) (cond a (Some create_shape) (cond b (Some run_shape) (cond k (Some ask_shape) (cond c (Some csv_shape) (cond t (Some table_shape) (cond d (Some dump_shape) (cond e (Some explain_shape) (cond f (Some serve_shape) (cond g (Some help_leaf) None))))))))) [] ≡ []
+    → is_some (option_map (λ s. rows_at s words) (cond a (Some create_shape) (cond b (Some run_shape) (cond k (Some ask_shape) (cond c (Some csv_shape) (cond t (Some table_shape) (cond d (Some dump_shape) (cond e (Some explain_shape) (cond f (Some serve_shape) (cond g (Some help_leaf) None)))))))))) ≡ true
+    → IsSome (option_and_then asked_by (option_map (λ s. rows_at s words) (cond a (Some create_shape) (cond b (Some run_shape) (cond k (Some ask_shape) (cond c (Some csv_shape) (cond t (Some table_shape) (cond d (Some dump_shape) (cond e (Some explain_shape) (cond f (Some serve_shape) (cond g (Some help_leaf) None)))))))))))
+met words true b k c t d e f g other fault has = create_asks words fault
+met words false true k c t d e f g other fault has = refl
+met words false false true c t d e f g other fault has = ask_asks words fault
+met words false false false true t d e f g other fault has = refl
+met words false false false false true d e f g other fault has = refl
+met words false false false false false true e f g other fault has = dump_asks words fault
+met words false false false false false false true f g other fault has = refl
+met words false false false false false false false true g other fault has = serve_asks words fault
+met words false false false false false false false false true other fault has = absurd (other refl)
+met words false false false false false false false false false other fault has = absurd (true≢false (sym has))
 
 -- a command is demanded
 demanded : (rows : List Row) (has : Bool) → check_fault (built command_line).top rows has ≡ [] → has ≡ true
@@ -319,7 +323,7 @@ entered_asks : (stop : Option (Text × List Text)) → IfSome stop (λ p. bytes_
     → is_some (entered (built command_line) stop) ≡ true → IsSome (option_and_then asked_by (entered (built command_line) stop))
 entered_asks None other e has = absurd (true≢false (sym has))
 entered_asks (Some p) other e has =
-    met p.1 (answers_to p.0 (codes "create", [])) (answers_to p.0 (codes "run", [])) (answers_to p.0 (codes "ask", [])) (answers_to p.0 (codes "csv", [])) (answers_to p.0 (codes "dump", [])) (answers_to p.0 (codes "explain", [])) (answers_to p.0 (codes "serve", [])) (answers_to p.0 (codes "help", []))
+    met p.1 (answers_to p.0 (codes "create", [])) (answers_to p.0 (codes "run", [])) (answers_to p.0 (codes "ask", [])) (answers_to p.0 (codes "csv", [])) (answers_to p.0 (codes "table", [])) (answers_to p.0 (codes "dump", [])) (answers_to p.0 (codes "explain", [])) (answers_to p.0 (codes "serve", [])) (answers_to p.0 (codes "help", []))
     (no_help_met p.0 other) e has
 
 pub words_ask : (words : List Text) → fault_of command_line words ≡ [] → IsSome (asked_of words)

@@ -3,3 +3,4 @@ pub mod Walks
 pub mod Asking
 pub mod Reading
 pub mod Values
+pub mod Range

@@ -21,23 +21,30 @@ pub record CsvSaid : Type 0 where
   pub at : Option Text
   pub session : Option Text
   pub separator : Option Text
+  pub number : Option Text
+  pub rejects : Option Text
+  pub names_file : Option Text
+  pub stations : Option Text
   pub columns : List Text
   pub scales : List Text
   pub omits_definition : Bool
   pub defines_routes : Bool
   pub rounds : Bool
   pub makes_names : Bool
+  pub is_latin1 : Bool
 
 -- What is asked, with its texts and its number: a file is made, lines are answered over memory or over a file, questions are answered
--- from a file as CSV, CSV is made into lines, the lines that rebuild a file or a table of it are written, with its rows or without, a refusal is explained, or so many
+-- from a file as CSV, lines are answered as CSV, CSV is made into lines or into a table for the eye, the lines that rebuild a file or a table of it are written, with its rows or without, a refusal is explained, or so many
 -- connections on an address are served over a file.
 pub data Said : Type 0 where
   creates : Text → Said
   runs : Said
   runs_over : Text → Said
   watches : Option Text → (bails : Bool) → (reports : Bool) → Said
+  answers : Option Text → (bails : Bool) → (reports : Bool) → Said
   asks : (file : Text) → (questions : List Text) → Said
   converts : CsvSaid → Said
+  aligns : Option Text → Said
   dumps : (file : Text) → (table : Option Text) → (omits_rows : Bool) → Said
   explains : Option Text → Said
   serves : Text → Text → ℕ → Said
@@ -71,7 +78,8 @@ flag_in id rows = is_true (first_of id rows)
 
 abbrev pub asked_by_run : List Row → Option Said
 asked_by_run rows =
-    Some (if flag_in (codes "bail") rows || flag_in (codes "report") rows then watches (file_in rows) (flag_in (codes "bail") rows) (flag_in (codes "report") rows)
+    Some (if flag_in (codes "csv") rows then answers (file_in rows) (flag_in (codes "bail") rows) (flag_in (codes "report") rows)
+    else if flag_in (codes "bail") rows || flag_in (codes "report") rows then watches (file_in rows) (flag_in (codes "bail") rows) (flag_in (codes "report") rows)
     else option_map_or runs_over (file_in rows) runs)
 
 abbrev pub asked_by_ask : List Row → Option Said
@@ -86,13 +94,21 @@ asked_by_csv rows = Some (converts (record {
   at = first_of (codes "at") rows;
   session = first_of (codes "session") rows;
   separator = first_of (codes "separator") rows;
+  number = first_of (codes "number") rows;
+  rejects = first_of (codes "rejects") rows;
+  names_file = first_of (codes "names-file") rows;
+  stations = first_of (codes "stations") rows;
   columns = unwrap_or (all_of (codes "column") rows) [];
   scales = unwrap_or (all_of (codes "scale") rows) [];
   omits_definition = flag_in (codes "no-define") rows;
   defines_routes = flag_in (codes "routes") rows;
   rounds = flag_in (codes "round") rows;
   makes_names = flag_in (codes "names") rows;
+  is_latin1 = flag_in (codes "latin1") rows;
 }))
+
+abbrev pub asked_by_table : List Row → Option Said
+asked_by_table rows = Some (aligns (first_of (codes "separator") rows))
 
 abbrev pub asked_by_dump : List Row → Option Said
 asked_by_dump rows = option_map (λ file. dumps file (first_of (codes "table") rows) (flag_in (codes "definitions") rows)) (file_in rows)
@@ -110,9 +126,10 @@ asked_by command = if bytes_eq command.0 (codes "create") then asked_by_create c
     else (if bytes_eq command.0 (codes "run") then asked_by_run command.1
     else (if bytes_eq command.0 (codes "ask") then asked_by_ask command.1
     else (if bytes_eq command.0 (codes "csv") then asked_by_csv command.1
+    else (if bytes_eq command.0 (codes "table") then asked_by_table command.1
     else (if bytes_eq command.0 (codes "dump") then asked_by_dump command.1
     else (if bytes_eq command.0 (codes "explain") then asked_by_explain command.1
-    else (if bytes_eq command.0 (codes "serve") then asked_by_serve command.1 else None))))))
+    else (if bytes_eq command.0 (codes "serve") then asked_by_serve command.1 else None)))))))
 
 -- what the words ask, the program's own name first: that of the command that they name
 abbrev pub asked_of : List Text → Option Said
@@ -131,12 +148,17 @@ csv_said words = record {
   at = given_text words.at;
   session = given_text words.session;
   separator = given_text words.separator;
+  number = given_text words.number;
+  rejects = given_text words.rejects;
+  names_file = given_text words.names_file;
+  stations = given_text words.stations;
   columns = map (λ t. t.now) words.columns.items;
   scales = map (λ t. t.now) words.scales.items;
   omits_definition = words.omits_definition;
   defines_routes = words.defines_routes;
   rounds = words.rounds;
   makes_names = words.makes_names;
+  is_latin1 = words.is_latin1;
 }
 
 -- what an answer says is asked
@@ -145,8 +167,10 @@ said_by (asked.Create file) = creates file.now
 said_by asked.Run = runs
 said_by (asked.RunFile file) = runs_over file.now
 said_by (asked.RunWatched file bails reports) = watches (given_text file) bails reports
+said_by (asked.RunAsCsv file bails reports) = answers (given_text file) bails reports
 said_by (asked.Ask file questions) = asks file.now (map (λ t. t.now) questions.items)
 said_by (asked.Csv words) = converts (csv_said words)
+said_by (asked.Table separator) = aligns (given_text separator)
 said_by (asked.Dump file table omits_rows) = dumps file.now (given_text table) omits_rows
 said_by (asked.Explain refusal) = explains (given_text refusal)
 said_by (asked.Serve file address connections) = serves file.now address.now connections

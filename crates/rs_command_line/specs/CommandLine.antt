@@ -59,7 +59,7 @@ abbrev pub refusal_argument : Rule
 refusal_argument = record (new_rule (codes "refusal")) { value_names = 1 }
 
 abbrev pub run_command : App
-run_command = with_rule (with_rule (with_rule (new_app (codes "run")) (file_option false)) (flag (codes "bail"))) (flag (codes "report"))
+run_command = with_rule (with_rule (with_rule (with_rule (new_app (codes "run")) (file_option false)) (flag (codes "bail"))) (flag (codes "report"))) (flag (codes "csv"))
 
 abbrev pub ask_command : App
 ask_command = with_rule (with_rule (new_app (codes "ask")) (file_option true)) question_argument
@@ -69,7 +69,11 @@ csv_command =
     let fields = with_rule (with_rule (with_rule (with_rule (with_rule (new_app (codes "csv")) define_argument) (text_option (codes "route"))) (text_option (codes "from")))
     (text_option (codes "to"))) (text_option (codes "at")) in
     let lines = with_rule (with_rule (with_rule (with_rule fields column_option) (text_option (codes "session"))) (flag (codes "no-define"))) (flag (codes "routes")) in
-    with_rule (with_rule (with_rule (with_rule lines (flag (codes "round"))) (text_option (codes "separator"))) scale_option) (flag (codes "names"))
+    let options = with_rule (with_rule (with_rule (with_rule (with_rule lines (flag (codes "round"))) (text_option (codes "separator"))) scale_option) (flag (codes "names"))) (flag (codes "latin1")) in
+    with_rule (with_rule (with_rule (with_rule options (text_option (codes "number"))) (text_option (codes "rejects"))) (text_option (codes "names-file"))) (text_option (codes "stations"))
+
+abbrev pub table_command : App
+table_command = with_rule (new_app (codes "table")) (text_option (codes "separator"))
 
 abbrev pub dump_command : App
 dump_command = with_rule (with_rule (with_rule (new_app (codes "dump")) (file_option true)) (flag (codes "definitions"))) (text_option (codes "table"))
@@ -87,5 +91,5 @@ abbrev pub command_line : App
 command_line =
     let top = on_top (λ top. record top { has_version = true; subcommand_required = true })
     (new_app (codes "roadseg")) in
-    with_subcommand (with_subcommand (with_subcommand (with_subcommand (with_subcommand (with_subcommand (with_subcommand top create_command.top) run_command.top)
-    ask_command.top) csv_command.top) dump_command.top) explain_command.top) serve_command.top
+    with_subcommand (with_subcommand (with_subcommand (with_subcommand (with_subcommand (with_subcommand (with_subcommand (with_subcommand top create_command.top) run_command.top)
+    ask_command.top) csv_command.top) table_command.top) dump_command.top) explain_command.top) serve_command.top

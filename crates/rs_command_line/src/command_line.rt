@@ -1,4 +1,4 @@
-//! The words are read: `create`, `run`, `ask`, `csv`, `dump`, `explain` and `serve`, each with its own arguments.
+//! The words are read: `create`, `run`, `ask`, `csv`, `table`, `dump`, `explain` and `serve`, each with its own arguments.
 //!
 //! `clap` writes the help and the messages, fills in the defaults, and checks the number of
 //! connections.
@@ -8,7 +8,7 @@ ghost use Rattle.clap.specs.Words.{all_of, app_of, FailsBy, fault_of, first_of, 
 ghost use Rattle.clap.specs.Words.{subcommand_rows_of};
 ghost use Rattle.rs_command_line.specs.CommandLine.{command_line, file_option, listen_option};
 ghost use Rattle.rs_command_line.specs.CommandLine.{connections_option};
-ghost use Rattle.rs_command_line.specs.CommandLine.{create_command, run_command, serve_command};
+ghost use Rattle.rs_command_line.specs.CommandLine.{create_command, run_command, serve_command, table_command};
 ghost use Rattle.rs_command_line.specs.CommandLine.{ask_command, csv_command, dump_command, explain_command, text_option};
 ghost use Rattle.rs_command_line.specs.CommandLine.{column_option, scale_option, flag, define_argument, question_argument, refusal_argument};
 ghost use Rattle.rs_command_line.specs.Asked.{asked_of, asked_by, asked_by_ask, asked_by_csv, asked_by_dump, asked_by_run, flag_in};
@@ -35,6 +35,14 @@ pub struct CsvWords<'a> {
     pub session: Option<&'a str>,
     /// `--separator`.
     pub separator: Option<&'a str>,
+    /// `--number`.
+    pub number: Option<&'a str>,
+    /// `--rejects`.
+    pub rejects: Option<&'a str>,
+    /// `--names-file`.
+    pub names_file: Option<&'a str>,
+    /// `--stations`.
+    pub stations: Option<&'a str>,
     /// Each `--column`.
     pub columns: Vec<&'a str>,
     /// Each `--scale`.
@@ -47,6 +55,8 @@ pub struct CsvWords<'a> {
     pub rounds: bool,
     /// Whether `--names` is given.
     pub makes_names: bool,
+    /// Whether `--latin1` is given.
+    pub is_latin1: bool,
 }
 
 /// What the words ask.
@@ -68,6 +78,12 @@ pub enum Asked<'a> {
         bails: bool,
         reports: bool,
     },
+    /// `run --csv`, over memory or over a file: the rows of answers are written as CSV.
+    RunAsCsv {
+        file: Option<&'a str>,
+        bails: bool,
+        reports: bool,
+    },
     /// `ask --file F QUESTION ..`: questions are answered from a file as CSV.
     Ask {
         file: &'a str,
@@ -75,6 +91,10 @@ pub enum Asked<'a> {
     },
     /// `csv ..`: the CSV of standard input is made into lines.
     Csv(CsvWords<'a>),
+    /// `table`: the columns of the CSV of standard input are aligned.
+    Table {
+        separator: Option<&'a str>,
+    },
     /// `dump --file F ..`: the lines that rebuild what a file holds are written, or those of one table.
     Dump {
         file: &'a str,
@@ -135,6 +155,9 @@ fn asked_of_command<'a>(
         "run" => Ok(asked_of_run(given)),
         "ask" => asked_of_ask(alloc, given),
         "csv" => asked_of_csv(alloc, given),
+        "table" => Ok(Asked::Table {
+            separator: given.get_str("separator"),
+        }),
         "dump" => Ok(asked_of_dump(given)),
         "explain" => Ok(Asked::Explain {
             refusal: given.get_str("refusal"),
@@ -155,6 +178,14 @@ fn asked_of_run<'a>(given: &ArgMatches<'a>) -> Asked<'a>
     let file = given.get_str("file");
     let bails = has_flag(given, "bail");
     let reports = has_flag(given, "report");
+    let as_csv = has_flag(given, "csv");
+    if as_csv {
+        return Asked::RunAsCsv {
+            file,
+            bails,
+            reports,
+        };
+    }
     if bails || reports {
         return Asked::RunWatched {
             file,
@@ -194,12 +225,17 @@ fn asked_of_csv<'a>(alloc: Global, given: &ArgMatches<'a>) -> Result<Asked<'a>, 
         at: given.get_str("at"),
         session: given.get_str("session"),
         separator: given.get_str("separator"),
+        number: given.get_str("number"),
+        rejects: given.get_str("rejects"),
+        names_file: given.get_str("names-file"),
+        stations: given.get_str("stations"),
         columns,
         scales,
         omits_definition: has_flag(given, "no-define"),
         defines_routes: has_flag(given, "routes"),
         rounds: has_flag(given, "round"),
         makes_names: has_flag(given, "names"),
+        is_latin1: has_flag(given, "latin1"),
     }))
 }
 
@@ -243,6 +279,7 @@ fn text_of<'a>(given: &ArgMatches<'a>, id: &str) -> &'a str
     given.get_str(id).unwrap()
 }
 
+// decision: one-growing-version
 /// The commands of the program.
 fn roadseg_command<'a>(alloc: Global) -> Result<Command<'a>, AllocError>
     ensures { IfOk result (λ command. app_of command ≡ command_line) }
@@ -251,12 +288,13 @@ fn roadseg_command<'a>(alloc: Global) -> Result<Command<'a>, AllocError>
         .about(
             "Answers queries on routes and events by linear reference. A line is a session from 0 to 63 and a command, as: 0 DEFINE ROUTE SR12 FROM 0 TO 18.5, or: 0 SELECT WHERE(pavement, surface = 'gravel'). The page docs/LANGUAGE.md has them all",
         )
-        .version("0.5.0 (for rattle-kit-13f logic dac8208d650f15bf)")
+        .version("0.6.0 (for rattle-kit-13f logic dac8208d650f15bf)")
         .subcommand_required(true)
         .subcommand(create_command(alloc)?)?
         .subcommand(run_command(alloc)?)?
         .subcommand(ask_command(alloc)?)?
         .subcommand(csv_command(alloc)?)?
+        .subcommand(table_command(alloc)?)?
         .subcommand(dump_command(alloc)?)?
         .subcommand(explain_command(alloc)?)?
         .subcommand(serve_command(alloc)?)
@@ -294,6 +332,11 @@ fn run_command<'a>(alloc: Global) -> Result<Command<'a>, AllocError>
             alloc,
             "report",
             "Show each refused line, of each number the first ten, and count them at the end; with status 1 where there are any",
+        ))?
+        .arg(flag(
+            alloc,
+            "csv",
+            "Write the rows of each answer as CSV with a header, and say of refused lines on standard error",
         ))
 }
 
@@ -368,6 +411,45 @@ fn csv_command<'a>(alloc: Global) -> Result<Command<'a>, AllocError>
             alloc,
             "names",
             "Make names of routes, and of columns of the header, that are none: each byte that no name has becomes _, so that I-95 is I_95; R is put before what begins with no letter, and _ after a reserved word; past 32 bytes it is cut. Of two that would become one name the second is refused",
+        ))?
+        .arg(flag(
+            alloc,
+            "latin1",
+            "Read the input as Latin-1, each byte a character. Without it the input is UTF-8, or UTF-16 where it begins with its byte order mark",
+        ))?
+        .arg(text_option(
+            alloc,
+            "number",
+            "The INT column of the table that takes the number of each record, from 1, and not a field: equal records stay apart, and a refused line leads back to its record",
+        ))?
+        .arg(text_option(
+            alloc,
+            "rejects",
+            "A file to write the records into that are left out, as CSV with the reason in a last column; mended, they are read again",
+        ))?
+        .arg(text_option(
+            alloc,
+            "names-file",
+            "A file to write the names into that are made, as CSV: the text and the name of each; makes names as --names does",
+        ))?
+        .arg(text_option(
+            alloc,
+            "stations",
+            "How many units a station has, 1 to 1000000, so that with 100 the measure 12+50.5 is 1250.5",
+        ))
+}
+
+fn table_command<'a>(alloc: Global) -> Result<Command<'a>, AllocError>
+    ensures { IfOk result (λ command. app_of command ≡ table_command) }
+{
+    Command::new(alloc, "table")
+        .about(
+            "Aligns the columns of the CSV of standard input for the eye, numbers to the right, as: roadseg ask --file roads.seg 'SELECT pavement' | roadseg table",
+        )
+        .arg(text_option(
+            alloc,
+            "separator",
+            "The byte between two fields, as ';', or the word tab [default: ,]",
         ))
 }
 

@@ -94,7 +94,7 @@ quiet_watched file bails false a b keeps = keeps refl
 
 -- where it rounds, it says of how many
 quiet_csv : (words : Option Said) (said : CsvWords) (a b : Option (List ℕ)) → words ≡ Some (said_by (asked.Csv said)) → (said.rounds ≡ false → Keeps a b) → (rounds : Bool) → said.rounds ≡ rounds → Keeps a b ⊎ SaysMore words
-quiet_csv words said a b asks quiet true is = inr (inr (csv_said said, asks, is))
+quiet_csv words said a b asks quiet true is = inr (inr (inr (csv_said said, asks, is)))
 quiet_csv words said a b asks quiet false is = inl (quiet is)
 
 pub quiet_as : (words : Option Said) (read : Result Asked Error) (a b : Option (List ℕ)) → IfOk read (λ it. words ≡ Some (said_by it)) → IsQuietAs read a b
@@ -102,6 +102,9 @@ pub quiet_as : (words : Option Said) (read : Result Asked Error) (a b : Option (
 quiet_as words (Err error) a b asks quiet = inl quiet
 quiet_as words (Ok (asked.RunWatched file bails true)) a b asks quiet = inr (inl (given_text file, bails, asks))
 quiet_as words (Ok (asked.RunWatched file bails false)) a b asks quiet = inl quiet
+quiet_as words (Ok (asked.RunAsCsv file bails true)) a b asks quiet = inr (inr (inl (given_text file, bails, asks)))
+quiet_as words (Ok (asked.RunAsCsv file bails false)) a b asks quiet = inl quiet
+quiet_as words (Ok (asked.Table separator)) a b asks quiet = inl quiet
 quiet_as words (Ok (asked.Create file)) a b asks quiet = inl quiet
 quiet_as words (Ok asked.Run) a b asks quiet = inl quiet
 quiet_as words (Ok (asked.RunFile file)) a b asks quiet = inl quiet

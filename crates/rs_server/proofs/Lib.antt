@@ -9,3 +9,4 @@ mod Surviving
 mod Openings
 mod Peers
 mod Questions
+mod Answering

@@ -29,7 +29,7 @@ quiet_after (Ok true) a b c first then done = Keeps-trans a b c (first refl) the
 quiet_after (Ok false) a b c first then done = let wrong : FAILED ≡ SUCCESS = done in cc
 quiet_after (Err fault) a b c first then done = let wrong : FAILED ≡ SUCCESS = done in cc
 
-no_success : FAILED ≡ SUCCESS → ⊥
+pub no_success : FAILED ≡ SUCCESS → ⊥
 no_success wrong = cc
 
 no_failure : SUCCESS ≡ FAILED → ⊥

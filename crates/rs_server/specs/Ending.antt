@@ -7,13 +7,16 @@ use Rattle.clap.specs.declared.error.kind.ErrorKind.{ErrorKind}
 use Rattle.clap.specs.declared.error.kind.ErrorKind.TheVariants.{DisplayHelp, DisplayVersion, OutOfMemory}
 use Rattle.clap.specs.declared.error.Error.{Error}
 use Rattle.clap.specs.Values.{kind_of}
-use Rattle.rs_command_line.specs.Asked.{CsvSaid, Said, converts, watches}
+use Rattle.rs_command_line.specs.Asked.{CsvSaid, Said, answers, converts, watches}
 use Rattle.rs_command_line.specs.declared.command_line.Asked.{Asked}
-use Rattle.rs_command_line.specs.declared.command_line.Asked.TheVariants.{Ask, Create, Csv, Dump, Explain, Run, RunFile, RunWatched, Serve}
+use Rattle.rs_command_line.specs.declared.command_line.Asked.TheVariants.{Ask, Create, Csv, Dump, Explain, Run, RunAsCsv, RunFile, RunWatched, Serve, Table}
 use Rattle.rs_csv.specs.Output.{Ends, IsAsked}
 use Rattle.rs_csv.specs.declared.filter.Stop.{Stop}
 use Rattle.rs_csv.specs.declared.filter.Wanted.{Wanted}
 use Rattle.rs_disk.specs.declared.disk.Disk as disk
+use Rattle.rs_encodings.specs.Texts.{decoded}
+use Rattle.rs_encodings.specs.declared.encoding.Encoding.{Encoding}
+use Rattle.rs_encodings.specs.declared.encoding.Encoding.TheVariants.{ByMark, Latin1}
 use Rattle.rs_machine.specs.Served.{Machine}
 use Rattle.rs_machine.specs.State.{fresh}
 use Rattle.rs_protocol.specs.declared.stream.End.{End}
@@ -21,8 +24,10 @@ use Rattle.rs_protocol.specs.declared.stream.Fault.{Fault}
 use Rattle.rs_protocol.specs.declared.stream.Fault.TheVariants.{Write}
 use Rattle.rs_refusal.specs.declared.refusal.Refusal.{Refusal}
 use Rattle.rs_refusal.specs.declared.refusal.Refusal.TheVariants as refusals
+use Rattle.rs_server.specs.Aligning.{AlignsInput}
+use Rattle.rs_server.specs.AsCsv.{AnswersInMemory, Outcome, status_after}
 use Rattle.rs_server.specs.Disks.{ServesInput, failure_of}
-use Rattle.rs_server.specs.Opened.{AsksNamed, CreatesNamed, DumpsNamed, ServesNamed, ServesNamedAt}
+use Rattle.rs_server.specs.Opened.{AnswersNamed, AsksNamed, CreatesNamed, DumpsNamed, ServesNamed, ServesNamedAt}
 use Rattle.rs_server.specs.Saying.{SaysFront, failure_line}
 use Rattle.rs_server.specs.declared.file_system.Opening.{Opening}
 use Rattle.rs_server.specs.declared.report.Failure.{Failure}
@@ -74,13 +79,18 @@ pub record LacksMachine (failure : Option Failure) (unread unread_now before aft
 abbrev pub Runs : Option Failure → Option (List ℕ) → Option (List ℕ) → Option (List ℕ) → Option (List ℕ) → Type 0
 Runs failure unread unread_now before after = ServesLines failure unread unread_now before after ⊎ LacksMachine failure unread unread_now before after
 
--- `csv` writes what is made of the records of what the input told, or a front of it, as lines of the table that some words define; of the
--- whole input, and nothing was told and left out, where the status is 0. With another status it may read and write nothing.
-abbrev pub WritesLines : ℕ → Option (List ℕ) → Option (List ℕ) → Option (List ℕ) → Option (List ℕ) → Type 0
-WritesLines status unread unread_now before after =
+-- how the input of `csv` is encoded
+abbrev pub encoding_of : Bool → Encoding
+encoding_of true = Latin1
+encoding_of false = ByMark
+
+-- `csv` writes what is made of the records of what was told of the input's text, or a front of it, as lines of the table that some words
+-- define; of the whole text, and nothing was told and left out, where the status is 0. With another status it may read and write nothing.
+abbrev pub WritesLines : Encoding → ℕ → Option (List ℕ) → Option (List ℕ) → Option (List ℕ) → Option (List ℕ) → Type 0
+WritesLines encoding status unread unread_now before after =
     ((status ≢ SUCCESS) × Keeps unread unread_now × Keeps before after)
-    ⊎ ((wanted : Wanted) × (table : CommandTree) × (IsAsked wanted table ⊎ Keeps before after) × (outcome : Result Bool Stop) × (told : List ℕ) × Consumes unread unread_now told
-    × Ends wanted table outcome told unread_now before after × (status ≡ SUCCESS → outcome ≡ Ok false))
+    ⊎ ((wanted : Wanted) × (table : CommandTree) × (IsAsked wanted table ⊎ Keeps before after) × (outcome : Result Bool Stop) × (told : List ℕ) × (untold : Option (List ℕ))
+    × Consumes (option_map (decoded encoding) unread) untold told × Ends wanted table outcome told untold before after × (status ≡ SUCCESS → outcome ≡ Ok false))
 
 -- ---- what is done, where this is what opening a file of a name may give
 
@@ -101,6 +111,18 @@ module _ {D : Type 0} (d : disk.Ghosts D) (Gives : Opening → List ℕ → Resu
     pub runs : RunsWatched file failure
     pub status_is : (status ≡ status_of failure) ⊎ (status ≡ FAILED)
 
+  -- `run --csv` over a file, where there is one
+  abbrev pub AnswersOver : Option (List ℕ) → Outcome → Option Failure → Option (List ℕ) → Option (List ℕ) → Option (List ℕ) → Type 0
+  AnswersOver None outcome failure unread before after = AnswersInMemory outcome failure unread before after
+  AnswersOver (Some file) outcome failure unread before after = AnswersNamed d Gives file outcome failure unread before after
+
+  -- the status is that of how the lines were answered, and of the first failure
+  pub record EndsAnswering (file : Option (List ℕ)) (status : ℕ) (unread before after : Option (List ℕ)) : Type 0 where
+    pub outcome : Outcome
+    pub failure : Option Failure
+    pub answers : AnswersOver file outcome failure unread before after
+    pub status_is : status ≡ status_after outcome failure
+
   -- What is done as it is asked, where this failed or nothing did. What a peer tells and is told is not known.
   abbrev pub Does : Asked → Option Failure → Option (List ℕ) → Option (List ℕ) → Option (List ℕ) → Option (List ℕ) → Type 0
   Does Run failure unread unread_now before after = Runs failure unread unread_now before after
@@ -109,18 +131,22 @@ module _ {D : Type 0} (d : disk.Ghosts D) (Gives : Opening → List ℕ → Resu
   Does (Serve file address connections) failure unread unread_now before after =
       ServesNamedAt d Gives file.now address connections failure before after × Keeps unread unread_now
   Does (RunWatched file bails reports) failure unread unread_now before after = Unit {0}
+  Does (RunAsCsv file bails reports) failure unread unread_now before after = Unit {0}
+  Does (Table separator) failure unread unread_now before after = Unit {0}
   Does (Ask file questions) failure unread unread_now before after = Keeps unread unread_now
-  Does (Csv words) failure unread unread_now before after = (status : ℕ) × WritesLines status unread unread_now before after
+  Does (Csv words) failure unread unread_now before after = (status : ℕ) × WritesLines (encoding_of words.is_latin1) status unread unread_now before after
   Does (Dump file table omits_rows) failure unread unread_now before after = Keeps unread unread_now
   Does (Explain refusal) failure unread unread_now before after = Keeps unread unread_now
 
   -- The program does what is asked, and its status and the errors stream say what failed. What is said on the errors stream by `run` with
-  -- options, `csv` and `explain` is not known, nor by `dump` and `ask` of a file that was opened.
+  -- options, `csv`, `table` and `explain` is not known, nor by `dump` and `ask` of a file that was opened.
   abbrev pub EndsDoing : Asked → ℕ → Option (List ℕ) → Option (List ℕ) → Option (List ℕ) → Option (List ℕ) → Option (List ℕ) → Option (List ℕ) → Type 0
   EndsDoing (RunWatched file bails reports) status unread unread_now before after errors errors_now = EndsWatched (option_map (λ t. t.now) file) status
+  EndsDoing (RunAsCsv file bails reports) status unread unread_now before after errors errors_now = EndsAnswering (option_map (λ t. t.now) file) status unread before after
+  EndsDoing (Table separator) status unread unread_now before after errors errors_now = AlignsInput (option_map (λ t. t.now) separator) status unread unread_now before after
   EndsDoing (Ask file questions) status unread unread_now before after errors errors_now =
       AsksNamed d Gives file.now (map (λ question. question.now) questions.items) status before after errors errors_now × Keeps unread unread_now
-  EndsDoing (Csv words) status unread unread_now before after errors errors_now = WritesLines status unread unread_now before after
+  EndsDoing (Csv words) status unread unread_now before after errors errors_now = WritesLines (encoding_of words.is_latin1) status unread unread_now before after
   EndsDoing (Dump file table omits_rows) status unread unread_now before after errors errors_now =
       DumpsNamed d Gives file.now (option_map (λ t. t.now) table) omits_rows status before after errors errors_now × Keeps unread unread_now
   EndsDoing (Explain refusal) status unread unread_now before after errors errors_now = Keeps unread unread_now
@@ -130,12 +156,14 @@ module _ {D : Type 0} (d : disk.Ghosts D) (Gives : Opening → List ℕ → Resu
 -- it says nothing on the errors stream, but where it is asked to report, or to round
 abbrev pub IsQuiet : Asked → Option (List ℕ) → Option (List ℕ) → Type 0
 IsQuiet (RunWatched file bails true) errors errors_now = Unit {0}
+IsQuiet (RunAsCsv file bails true) errors errors_now = Unit {0}
 IsQuiet (Csv words) errors errors_now = words.rounds ≡ false → Keeps errors errors_now
 IsQuiet asked errors errors_now = Keeps errors errors_now
 
 -- the words ask to report, or to round
 abbrev pub SaysMore : Option Said → Type 0
 SaysMore asked = ((file : Option (List ℕ)) × (bails : Bool) × (asked ≡ Some (watches file bails true)))
+    ⊎ ((file : Option (List ℕ)) × (bails : Bool) × (asked ≡ Some (answers file bails true)))
     ⊎ ((said : CsvSaid) × (asked ≡ Some (converts said)) × (said.rounds ≡ true))
 
 abbrev pub IsQuietAs : Result Asked Error → Option (List ℕ) → Option (List ℕ) → Type 0

@@ -8,3 +8,5 @@ pub mod Dumping
 pub mod Opened
 pub mod Files
 pub mod Asking
+pub mod AsCsv
+pub mod Aligning

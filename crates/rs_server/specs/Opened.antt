@@ -1,5 +1,5 @@
 -- What comes of a file as it was opened: of a disk, or of the failure that says why there is none.
-use Rattle.std.specs.Prelude.{◌≡◌, ◌⊎◌, ℕ, Bool, true, false, List, Option, Some, Result, Ok, Err, IsTrue}
+use Rattle.std.specs.Prelude.{◌≡◌, ◌⊎◌, ℕ, Bool, true, false, List, Option, Some, None, Result, Ok, Err, IsTrue}
 use Rattle.std.specs.Borrow.{Bor}
 use Rattle.std.specs.Io.KnownBytes.{Keeps}
 use Rattle.std.specs.List.{list_all}
@@ -7,6 +7,7 @@ use Rattle.rs_csv_answers.specs.Words.{asks_rows}
 use Rattle.rs_disk.specs.declared.disk.Disk as disk
 use Rattle.rs_file_dump.specs.Files.{DumpsDisk}
 use Rattle.rs_pages.specs.declared.pages.TheConstants.{GREATEST_LIMIT}
+use Rattle.rs_server.specs.AsCsv.{AnswersFile, Outcome}
 use Rattle.rs_server.specs.Asking.{AsksDisk, FailsToAsk}
 use Rattle.rs_server.specs.Disks.{CreatesFile, ServesFile, ServesFileAt, told_of}
 use Rattle.rs_server.specs.Dumping.{FailsToDump}
@@ -36,6 +37,12 @@ module _ {D : Type 0} (d : disk.Ghosts D) where
   ServesOpenedAt address connections (Err failure) told before after = (told ≡ Some failure) × Keeps before after
   ServesOpenedAt address connections (Ok disk) told before after = IsTrue (d.is_honest disk)
       → (ended : Result D (Option D × Failure)) × ServesFileAt d GREATEST_LIMIT address connections disk ended before after × (told ≡ told_of ended)
+
+  -- There is no disk: the failure is told, and nothing was put. Or lines were answered over it as CSV, and what came of it is told.
+  abbrev pub AnswersOpened : Result D Failure → Outcome → Option Failure → Option (List ℕ) → Option (List ℕ) → Option (List ℕ) → Type 0
+  AnswersOpened (Err failure) outcome told unread before after = (told ≡ Some failure) × (outcome ≡ None) × Keeps before after
+  AnswersOpened (Ok disk) outcome told unread before after = IsTrue (d.is_honest disk)
+      → (ended : Result D (Option D × Failure)) × AnswersFile d GREATEST_LIMIT disk outcome ended unread before after × (told ≡ told_of ended)
 
   -- The status is one of these two: with 0 all that was wanted of an honest disk was written, with 1 something of it was left out, or it stopped.
   pub record Dumps (table : Option (List ℕ)) (omits_rows : Bool) (disk : D) (status : ℕ) (before after : Option (List ℕ)) : Type 0 where
@@ -72,6 +79,10 @@ module _ {D : Type 0} (d : disk.Ghosts D) where
     abbrev pub ServesNamedAt : List ℕ → Bor (List ℕ) → ℕ → Option Failure → Option (List ℕ) → Option (List ℕ) → Type 0
     ServesNamedAt file address connections told before after =
         (opened : Result D Failure) × Gives Writing file opened × ServesOpenedAt address connections opened told before after
+
+    abbrev pub AnswersNamed : List ℕ → Outcome → Option Failure → Option (List ℕ) → Option (List ℕ) → Option (List ℕ) → Type 0
+    AnswersNamed file outcome told unread before after =
+        (opened : Result D Failure) × Gives Writing file opened × AnswersOpened opened outcome told unread before after
 
     abbrev pub DumpsNamed : List ℕ → Option (List ℕ) → Bool → ℕ → Option (List ℕ) → Option (List ℕ) → Option (List ℕ) → Option (List ℕ) → Type 0
     DumpsNamed file table omits_rows status before after errors errors_now =

@@ -2,10 +2,10 @@
 //!
 //! The file is looked at, and nothing is written to it: the engine that answers works on what stands after recovery.
 
-ghost use Rattle.std.specs.Prelude.{◌≡◌, ◌⊎◌, IfOk, IsTrue, map, true};
+ghost use Rattle.std.specs.Prelude.{◌≡◌, IfOk, map};
 ghost use Rattle.std.specs.Io.KnownBytes.{Keeps};
-ghost use Rattle.rs_pages.specs.declared.pages.TheConstants.{GREATEST_LIMIT};
-ghost use Rattle.rs_server.specs.Asking.{AsksDisk, FailsToAsk, status_of_answers};
+ghost use Rattle.rs_server.specs.Asking.{status_of_answers};
+ghost use Rattle.rs_server.specs.Opened.{Asks};
 
 use crate::report::{FAILED, Failure, MISUSE, SUCCESS, report_failure};
 use crate::shown::Shown;
@@ -30,12 +30,7 @@ pub fn ask_on<D: Disk + Drop, W: Write, E: Write>(
     output: &mut W,
     errors: &mut E,
 ) -> u8
-    ensures asks { IsTrue (D.is_honest disk) → result ≡ SUCCESS
-        → AsksDisk GREATEST_LIMIT (D.seen disk) (map (λ question. question.now) questions.now) true (W.contents output.old) (W.contents output.new) }
-    ensures fails { IsTrue (D.is_honest disk) → result ≡ FAILED
-        → FailsToAsk GREATEST_LIMIT (D.seen disk) (map (λ question. question.now) questions.now) (W.contents output.old) (W.contents output.new)
-        (E.contents errors.old) (E.contents errors.new) }
-    ensures status { (result ≡ SUCCESS) ⊎ (result ≡ FAILED) }
+    ensures asks { Asks D.Disk (map (λ question. question.now) questions.now) disk result (W.contents output.old) (W.contents output.new) (E.contents errors.old) (E.contents errors.new) }
     ensures quiet { result ≡ SUCCESS → Keeps (E.contents errors.old) (E.contents errors.new) }
 {
     look_stands_for_the_state();
@@ -53,12 +48,7 @@ fn ask_disk<D: Disk + Drop, W: Write, E: Write>(
     output: &mut W,
     errors: &mut E,
 ) -> u8
-    ensures asks { IsTrue (D.is_honest disk) → result ≡ SUCCESS
-        → AsksDisk GREATEST_LIMIT (D.seen disk) (map (λ question. question.now) questions.now) true (W.contents output.old) (W.contents output.new) }
-    ensures fails { IsTrue (D.is_honest disk) → result ≡ FAILED
-        → FailsToAsk GREATEST_LIMIT (D.seen disk) (map (λ question. question.now) questions.now) (W.contents output.old) (W.contents output.new)
-        (E.contents errors.old) (E.contents errors.new) }
-    ensures status { (result ≡ SUCCESS) ⊎ (result ≡ FAILED) }
+    ensures asks { Asks D.Disk (map (λ question. question.now) questions.now) disk result (W.contents output.old) (W.contents output.new) (E.contents errors.old) (E.contents errors.new) }
     ensures quiet { result ≡ SUCCESS → Keeps (E.contents errors.old) (E.contents errors.new) }
 {
     machine_is_the_only_one::<D>();

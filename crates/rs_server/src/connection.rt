@@ -53,6 +53,7 @@ impl<'a> Connection<&'a TcpStream, &'a TcpStream> {
     }
 }
 
+// decision: two-halves-of-a-stream
 /// Serves the lines of one connection, until its end or a fault.
 ///
 /// It is `rs_protocol::run` over the two halves: the same replies, the same end or fault, and the same engine after it.
@@ -134,6 +135,7 @@ fn next_stream<C: Clock>(
     Err(CannotAccept)
 }
 
+// decision: lack-is-no-connection
 /// Whether a call failed since the system lacks descriptors or memory.
 fn is_lack(error: &io::Error) -> bool
     ensures { IsTrue result ↔ IsLack (raw_os_error error.now) }

@@ -71,6 +71,7 @@ fn serve_and_close<D: Disk + Drop, R: Read, W: Write>(
     close_after(engine, failure)
 }
 
+// decision: port-told-where-chosen
 /// Opens the file that the disk holds, serves so many connections at the address, one after another, and closes it, after a failure too.
 pub fn serve_disk_at<
     'a,
@@ -128,7 +129,7 @@ pub(crate) fn failure_after(outcome: Result<End, Fault>) -> Option<Failure<'stat
 }
 
 /// Closes the file. Where that is refused (90, 91) the disk is not handed back, and the refusal is told where nothing failed before.
-fn close_after<'a, D: Disk + Drop>(
+pub(crate) fn close_after<'a, D: Disk + Drop>(
     engine: Engine<D>,
     failure: Option<Failure<'a>>,
 ) -> Result<D, (Option<D>, Failure<'a>)>

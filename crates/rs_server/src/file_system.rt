@@ -7,9 +7,11 @@ ghost use Rattle.std.specs.Prelude.{List, ℕ, Result};
 ghost use Rattle.rs_server.specs.declared.file_system.Opening.{Opening};
 ghost use Rattle.rs_server.specs.declared.report.Failure.{Failure};
 
+use crate::reasons::why_text_not_made;
 use crate::report::{Failure, failure_to_make, failure_to_open};
 use rs_disk::{Disk, FileDisk};
 use std::fs::File;
+use std::io::Write;
 use std::rt::Files;
 
 /// How a file is opened.
@@ -31,6 +33,12 @@ pub trait FileSystem {
     /// What opening the file of a name so may give.
     ghost gives: { Self → Opening → List ℕ → Result Self.Held Failure → Type 0 };
 
+    /// A file of text that is being written.
+    type Text: Write + Drop;
+
+    /// Makes the file of this name for text, or empties the one that is there; or says why it is not open.
+    fn make_text<'a>(&self, file: &'a str) -> Result<Self::Text, Failure<'a>>;
+
     /// Opens the file of this name, or says why it is not open.
     fn open_file<'a>(&self, file: &'a str, opening: Opening) -> Result<Self::Held, Failure<'a>>
         ensures { gives self.now opening file.now result };
@@ -42,7 +50,19 @@ impl<P: Files<File = File>> FileSystem for P {
 
     type Held = FileDisk;
 
+    type Text = File;
+
     ghost gives = { λ _. GivesFile };
+
+    fn make_text<'a>(&self, file: &'a str) -> Result<File, Failure<'a>> {
+        match File::create(self, file) {
+            Ok(made) => Ok(made),
+            Err(_) => {
+                let why = why_text_not_made(self, file);
+                Err(Failure::CannotOpen { file, why })
+            }
+        }
+    }
 
     fn open_file<'a>(&self, file: &'a str, opening: Opening) -> Result<FileDisk, Failure<'a>> {
         match opening {

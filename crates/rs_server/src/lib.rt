@@ -4,6 +4,8 @@
 //! a file, `serve_one` the two halves of one connection. All of them can be called over memory.
 #![tactic(auto)]
 
+pub mod aligning;
+pub mod as_csv;
 pub mod asking;
 pub mod connection;
 pub mod disks;
@@ -21,6 +23,8 @@ pub mod tally;
 pub mod watch;
 pub mod words;
 
+pub use aligning::align;
+pub use as_csv::{Outcome, answer_disk};
 pub use asking::ask_on;
 pub use connection::{CannotAccept, Connection, serve_connections, serve_one};
 pub use disks::{create_on, serve_disk, serve_disk_at};

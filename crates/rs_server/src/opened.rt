@@ -103,7 +103,9 @@ pub(crate) fn ask_opened<D: Disk + Drop, W: Write, E: Write>(
 }
 
 /// What failed, if anything did.
-fn failure_in<'a, D: Drop>(ended: Result<D, (Option<D>, Failure<'a>)>) -> Option<Failure<'a>>
+pub(crate) fn failure_in<'a, D: Drop>(
+    ended: Result<D, (Option<D>, Failure<'a>)>,
+) -> Option<Failure<'a>>
     ensures { result ≡ told_of ended.entry }
 {
     match ended {

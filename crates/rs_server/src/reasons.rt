@@ -78,6 +78,15 @@ fn why_not_written<R: Files<File = File>>(rt: &R, file: &str) -> Reason {
     }
 }
 
+/// Why a file for text was not made, nor emptied.
+pub(crate) fn why_text_not_made<R: Files<File = File>>(rt: &R, file: &str) -> Reason {
+    match metadata(rt, file) {
+        Ok(found) if found.is_dir() => Reason::Folder,
+        Ok(_) => Reason::Refused,
+        Err(_) => why_not_made(rt, file),
+    }
+}
+
 /// Why a file was not made.
 pub(crate) fn why_not_made<R: Files<File = File>>(rt: &R, file: &str) -> Reason {
     let folder = match Path::new(file).parent() {

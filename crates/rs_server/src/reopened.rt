@@ -10,10 +10,12 @@ ghost use Rattle.rs_server.specs.Damage.{IsSound, asks_to_reopen, failure_with, 
 ghost use Rattle.rs_syntax.specs.View.{tree_of};
 
 use crate::report::Failure;
+use rs_csv_answers::{Shape, Shapes};
 use rs_refusal::Refusal;
 use rs_serve::{Finish, Reply, Serve, Session};
-use rs_syntax::Command;
+use rs_syntax::{Command, Query};
 
+// decision: found-damaged
 /// An engine, and whether a REOPEN was refused 94 and none was accepted since.
 #[derive(Drop)]
 pub(crate) struct Reopened<E> {
@@ -67,6 +69,13 @@ impl<E: Serve> Serve for Reopened<E> {
     ghost becomes_itself = { λ it. E.becomes_itself it.engine };
 
     ghost becomes_later = { λ first second third one other. E.becomes_later first.engine second.engine third.engine one other };
+}
+
+impl<E: Shapes> Shapes for Reopened<E> {
+    /// As the engine says.
+    fn shape(&self, query: &Query) -> Result<Shape, Refusal> {
+        self.engine.shape(query)
+    }
 }
 
 /// Whether a command is REOPEN.

@@ -27,6 +27,7 @@ pub const FAILED: u8 = 1;
 /// The status of a program whose command line is refused.
 pub const MISUSE: u8 = 2;
 
+// decision: first-failure
 /// Why the program did not do all that its words ask.
 #[derive(Drop)]
 pub enum Failure<'a> {

@@ -12,6 +12,8 @@ ghost use Rattle.rs_command_line.specs.declared.command_line.Asked.{Asked};
 ghost use Rattle.rs_server.specs.Ending.{EndsAs, EndsBy, EndsDoing, EndsWatched, EndsWith, IsQuiet, IsQuietAs, Runs, RunsOver, RunsWatched, SaysMore};
 ghost use Rattle.rs_server.specs.Opened.{AsksNamed, CreatesNamed, DumpsNamed, ServesNamed, ServesNamedAt};
 
+use crate::aligning::align;
+use crate::as_csv::run_as_csv;
 use crate::asking::refuse_question;
 use crate::disks::failure_after;
 use crate::file_system::{FileSystem, Opening};
@@ -39,6 +41,7 @@ use std::io::{Read, Write};
 use std::net::{Net, TcpListener, TcpStream};
 use std::time::Clock;
 
+// decision: one-engine
 /// Runs the program on its words, the program's own name first, and gives its exit status.
 ///
 /// 0 also after help or the version, which are shown on the output, and after an input that ends inside a line; 1 for a failure, which
@@ -128,10 +131,16 @@ fn do_it<
             bails,
             reports,
         } => run_watched(rt, file, (bails, reports), input, output, errors),
+        Asked::RunAsCsv {
+            file,
+            bails,
+            reports,
+        } => run_as_csv(rt, file, (bails, reports), input, output, errors),
         Asked::Ask { file, questions } => {
             ask_file(rt, file, questions.as_slice(), output, errors)
         }
-        Asked::Csv(words) => convert(rt.alloc(), &words, input, output, errors),
+        Asked::Csv(words) => convert(rt, &words, input, output, errors),
+        Asked::Table { separator } => align(rt.alloc(), separator, input, output, errors),
         Asked::Dump {
             file,
             table,
@@ -209,6 +218,7 @@ fn run_watched<P: AllocGlobal + FileSystem<Held = D>, D: Disk + Drop, R: Read, W
     if has_refused { FAILED } else { status }
 }
 
+// decision: watched-streams
 /// Serves the input on the output, stops at the first refused line where that is asked, and reports on the errors stream where that is.
 /// It gives whether a line was refused, and what failed.
 fn watch<'a, P: AllocGlobal + FileSystem<Held = D>, D: Disk + Drop, R: Read, W: Write, E: Write>(
@@ -342,7 +352,7 @@ fn serve_file<
 }
 
 /// Says what failed, if anything did, and gives the exit status.
-fn end_with<E: Write>(errors: &mut E, failure: Option<Failure<'_>>) -> u8
+pub(crate) fn end_with<E: Write>(errors: &mut E, failure: Option<Failure<'_>>) -> u8
     ensures ends { EndsWith failure.entry result (E.contents errors.old) (E.contents errors.new) }
     ensures quiet { result ≡ SUCCESS → Keeps (E.contents errors.old) (E.contents errors.new) }
 {
@@ -367,18 +377,33 @@ fn refuse_words<S: AsStr, E: Write>(error: &Error, words: &[S], errors: &mut E) 
     MISUSE
 }
 
-/// Whether a word has a point or a slash, as a file's name may, and none begins with `--file`. `csv` and `explain` take no file, and a
-/// question of `ask` may have a point.
+/// Whether a word may be a file's name, and none begins with `--file`. `csv`, `table` and `explain` take no file, and a question of `ask`
+/// may have a point.
 fn lacks_file_option<S: AsStr>(words: &[S]) -> bool {
     let mut has_path = false;
-    for word in words.iter().skip(1) {
-        let text = word.as_str();
-        if text == "ask" || text == "csv" || text == "explain" || text.starts_with("--file") {
+    for place in 1..words.len() {
+        let text = words[place].as_str();
+        if takes_no_file(text) || text.starts_with("--file") {
             return false;
         }
-        has_path = has_path || text.contains('.') || text.contains('/');
+        has_path = has_path || may_be_path(text, words[place - 1].as_str());
     }
     has_path
+}
+
+/// Whether a word may be a file's name: it has a point or a slash, or comes right after a command that takes a file.
+fn may_be_path(text: &str, before: &str) -> bool {
+    text.contains('.') || text.contains('/') || (takes_file(before) && !text.starts_with('-'))
+}
+
+/// Whether a command takes a file.
+fn takes_file(command: &str) -> bool {
+    command == "create" || command == "run" || command == "dump" || command == "serve"
+}
+
+/// Whether a command takes no file, or a word after it may look like a file's name.
+fn takes_no_file(command: &str) -> bool {
+    command == "ask" || command == "csv" || command == "table" || command == "explain"
 }
 
 /// Shows the help or the version that was asked for. It is a write fault where it is not out whole.

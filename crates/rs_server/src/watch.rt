@@ -7,9 +7,10 @@ ghost use Rattle.std.specs.Prelude.{◌≡◌, ◌≤◌, length};
 
 use crate::tally::Tally;
 use arrayvec::ArrayVec;
+use rs_csv_answers::shown_of;
 use std::cell::RefCell;
+use std::io;
 use std::io::{Read, Write};
-use std::{io, str};
 
 /// How many bytes are read at once, at the most.
 const PIECE_BYTES: usize = 4_096;
@@ -44,9 +45,8 @@ impl Line {
 
     /// Its text, up to the first byte that is none, and whether it has more.
     pub fn shown(&self) -> (&[u8], bool) {
-        let text = without_return(self.text.as_slice());
-        let shown = front_of_text(text);
-        (shown, self.is_longer || shown.len() < text.len())
+        let (shown, is_cut) = shown_of(self.text.as_slice());
+        (shown, self.is_longer || is_cut)
     }
 
     // Takes bytes of this line or, after its line feed, of the next one.
@@ -69,26 +69,6 @@ impl Line {
                 self.text.push(byte);
             }
         }
-    }
-}
-
-// The bytes without a CR at their end.
-fn without_return(bytes: &[u8]) -> &[u8] {
-    match bytes {
-        [rest @ .., b'\r'] => rest,
-        _ => bytes,
-    }
-}
-
-// The bytes before the first that is no text of a line: no UTF-8, or a control character.
-fn front_of_text(bytes: &[u8]) -> &[u8] {
-    let plain = match bytes.iter().position(|byte| *byte < b' ' || *byte == 127) {
-        Some(place) => bytes.get(..place).unwrap_or(bytes),
-        None => bytes,
-    };
-    match str::from_utf8(plain) {
-        Ok(_) => plain,
-        Err(error) => plain.get(..error.valid_up_to()).unwrap_or(plain),
     }
 }
 

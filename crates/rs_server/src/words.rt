@@ -1,49 +1,118 @@
 //! The words `csv` and `explain`: what they do, and how they end.
 
-ghost use Rattle.std.specs.Prelude.{◌≡◌, ◌<◌, IfOk, IfSome, false};
+ghost use Rattle.std.specs.Prelude.{◌≡◌, ◌≢◌, ◌<◌, IfOk, IfSome, false};
 ghost use Rattle.std.specs.Io.KnownBytes.{Keeps};
-ghost use Rattle.rs_server.specs.Ending.{WritesLines};
+ghost use Rattle.rs_server.specs.Ending.{WritesLines, encoding_of};
 
+use crate::file_system::FileSystem;
 use crate::report::{FAILED, Failure, MISUSE, SUCCESS, report_failure};
 use itoa::Buffer;
 use rs_command_line::{CsvWords, separator_of};
-use rs_csv::{Stop, Wanted, write_lines};
+use rs_csv::{Stop, Texts, Wanted, no_texts, write_lines, write_names};
+use rs_encodings::{Decoded, Encoding};
 use rs_explain::{ALL, cure_by_csv, explain};
 use rs_protocol::{Fault, put_parts};
 use rs_refusal::Refusal;
-use std::alloc::Global;
+use std::alloc::{AllocGlobal, Global};
 use std::io::{Read, Write};
 
 /// Makes the CSV of the input into lines on the output, and gives the exit status.
 ///
 /// 0 where nothing was told and left out; 1 where something was told and left out, where the header lacks a column, or for a failure; 2 where the
-/// words define no table, or name no session or no separator.
-pub(crate) fn convert<R: Read, W: Write, E: Write>(
-    alloc: Global,
+/// words define no table, or name no session or no separator. Records that are left out, and names that are made, go into files where the
+/// words name such.
+pub(crate) fn convert<P: AllocGlobal + FileSystem, R: Read, W: Write, E: Write>(
+    rt: &P,
     words: &CsvWords<'_>,
     input: &mut R,
     output: &mut W,
     errors: &mut E,
 ) -> u8
-    ensures lines { WritesLines result (R.remaining input.old) (R.remaining input.new) (W.contents output.old) (W.contents output.new) }
+    ensures lines { WritesLines (encoding_of words.now.is_latin1) result (R.remaining input.old) (R.remaining input.new) (W.contents output.old) (W.contents output.new) }
     ensures quiet { result ≡ SUCCESS → words.now.rounds ≡ false → Keeps (E.contents errors.old) (E.contents errors.new) }
 {
     let wanted = match wanted_by(words) {
         Ok(wanted) => wanted,
         Err(line) => return refuse(errors, line),
     };
-    match write_lines(alloc, wanted, input, output, errors) {
-        Ok(false) => SUCCESS,
-        Ok(true) | Err(Stop::NoColumn) => FAILED,
-        Err(Stop::NoTable) => refuse(errors, b"error: the words define no table\n"),
-        Err(Stop::NoScale) => refuse(
+    let mut rejects = match text_file(rt, words.rejects) {
+        Ok(rejects) => rejects,
+        Err(failure) => return report_failure(errors, &failure),
+    };
+    let names = match text_file(rt, words.names_file) {
+        Ok(names) => names,
+        Err(failure) => return report_failure(errors, &failure),
+    };
+    let mut text = Decoded::new(input, encoding_of(words.is_latin1));
+    let mut texts = no_texts(rt.alloc());
+    let result = write_lines(
+        rt.alloc(),
+        wanted,
+        &mut text,
+        output,
+        errors,
+        &mut rejects,
+        &mut texts,
+    );
+    let named = put_names(rt.alloc(), &texts, names);
+    match result {
+        Ok(lacks) => match named {
+            Ok(()) if lacks => FAILED,
+            Ok(()) => SUCCESS,
+            Err(stop) => tell_stop(errors, words, stop),
+        },
+        Err(stop) => tell_stop(errors, words, stop),
+    }
+}
+
+// The file of a name, where one is given, made for text.
+fn text_file<'a, P: FileSystem>(
+    rt: &P,
+    file: Option<&'a str>,
+) -> Result<Option<P::Text>, Failure<'a>> {
+    match file {
+        Some(file) => Ok(Some(rt.make_text(file)?)),
+        None => Ok(None),
+    }
+}
+
+// Writes the names that were made, where a file for them is given.
+fn put_names<X: Write + Drop>(alloc: Global, texts: &Texts, names: Option<X>) -> Result<(), Stop> {
+    match names {
+        Some(mut names) => write_names(alloc, texts, &mut names),
+        None => Ok(()),
+    }
+}
+
+// Says why not all was done, and gives the exit status. What the header lacks was told.
+fn tell_stop<E: Write>(errors: &mut E, words: &CsvWords<'_>, stop: Stop) -> u8
+    ensures { result ≢ SUCCESS }
+{
+    match stop {
+        Stop::NoColumn => FAILED,
+        Stop::NoTable => refuse(errors, b"error: the words define no table\n"),
+        Stop::Refused(refusal) => refuse_definition(errors, words, &refusal),
+        Stop::NoScale => refuse(
             errors,
             b"error: a scale is no column of numbers with 1, 10, 100 and so on up to 1000000\n",
         ),
-        Err(Stop::OutOfMemory) => {
-            report_failure(errors, &Failure::Refused(Refusal::OutOfMemory))
-        }
-        Err(Stop::Stream(fault)) => report_failure(errors, &Failure::Stream(fault)),
+        Stop::NoNumber => refuse(
+            errors,
+            b"error: --number names no column of numbers of the table\n",
+        ),
+        Stop::OutOfMemory => { report_failure(errors, &Failure::Refused(Refusal::OutOfMemory)) }
+        Stop::Stream(fault) => report_failure(errors, &Failure::Stream(fault)),
+    }
+}
+
+// How the input is encoded.
+fn encoding_of(is_latin1: bool) -> Encoding
+    ensures { result ≡ encoding_of is_latin1 }
+{
+    if is_latin1 {
+        Encoding::Latin1
+    } else {
+        Encoding::ByMark
     }
 }
 
@@ -58,6 +127,7 @@ fn wanted_by<'a>(words: &'a CsvWords<'a>) -> Result<Wanted<'a>, &'static [u8]>
     let Some(separator) = separator_of(words.separator.unwrap_or(",")) else {
         return Err(b"error: the separator is no byte that parts fields, nor tab\n");
     };
+    let stations = stations_of(words.stations)?;
     Ok(Wanted {
         define: words.define.unwrap_or(""),
         session,
@@ -68,11 +138,41 @@ fn wanted_by<'a>(words: &'a CsvWords<'a>) -> Result<Wanted<'a>, &'static [u8]>
         separator,
         columns: words.columns.as_slice(),
         scales: words.scales.as_slice(),
+        number: words.number,
         defines_table: !words.omits_definition,
         defines_routes: words.defines_routes,
         rounds: words.rounds,
-        makes_names: words.makes_names,
+        stations,
+        makes_names: words.makes_names || words.names_file.is_some(),
     })
+}
+
+// Says how `run` refuses the line that defines the table.
+fn refuse_definition<E: Write>(errors: &mut E, words: &CsvWords<'_>, refusal: &Refusal) -> u8
+    ensures { result ≡ MISUSE }
+{
+    let mut digits = Buffer::new();
+    let number = digits.format(refusal.number()).as_bytes();
+    let said = refusal.words();
+    let session = words.session.unwrap_or("0").as_bytes();
+    let define = words.define.unwrap_or("").as_bytes();
+    let _ = put_parts(
+        errors,
+        &[b"error: ERR ", number, b" ", said.as_str().as_bytes()],
+    );
+    let _ = put_parts(errors, &[b": ", session, b" ", define, b"\n"]);
+    MISUSE
+}
+
+// How many units a station has, where a text says so.
+fn stations_of(text: Option<&str>) -> Result<Option<u32>, &'static [u8]> {
+    let Some(text) = text else {
+        return Ok(None);
+    };
+    match text.parse::<u32>() {
+        Ok(units) if units >= 1 && units <= 1_000_000 => Ok(Some(units)),
+        _ => Err(b"error: a station has a whole number of units from 1 to 1000000\n"),
+    }
 }
 
 // The session that a text names.

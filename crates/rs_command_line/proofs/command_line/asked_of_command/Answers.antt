@@ -4,7 +4,7 @@ use Rattle.std.proofs.lemmas.Result.{IfOk-weaker}
 use Rattle.std.specs.Str.Parse.{ExplainsUnsignedError, HasUnsignedDigitsIfOk, ParsesUnsigned}
 use Rattle.clap.specs.Words.{Text, found_of, rows_of}
 use Rattle.clap.proofs.WalkLemmas.{first_value-rows, one_text-rows}
-use Rattle.rs_command_line.specs.Asked.{asked_by, connections_in, explains, file_in, address_in, given_text, number_in, said_by, serves}
+use Rattle.rs_command_line.specs.Asked.{aligns, asked_by, connections_in, explains, file_in, address_in, given_text, number_in, said_by, serves}
 use Rattle.rs_command_line.proofs.Reading.{last_of_three, number_read, number_text, number_worth}
 use Rattle.rs_command_line.proofs.command_line.asked_of_command.Goals as goal
 
@@ -27,6 +27,12 @@ returns-in-csv c =
     let rows = rows_of (found_of c.args.given.now) in
     IfOk-weaker c.asked_of_csv.result _ _ (λ a h. subst (λ (name : Text). asked_by (name, rows) ≡ Some (said_by a)) (sym c.in-csv.is) h) c.asked_of_csv.ensures
 
+pub returns-in-table : goal.returns-in-table
+returns-in-table c =
+    let rows = rows_of (found_of c.args.given.now) in
+    let given = c.get_str.ensures ∙ first_value-rows (found_of c.args.given.now) (codes "separator") in
+    subst (λ (name : Text). asked_by (name, rows) ≡ Some (aligns (given_text c.get_str.result))) (sym c.in-table.is) (ap (λ (o : Option Text). Some (aligns o)) (sym given))
+
 pub asked_of_dump-requires : goal.asked_of_dump-requires
 asked_of_dump-requires c =
     subst (λ (name : Text). IsSome (asked_by (name, rows_of (found_of c.args.given.now)))) c.in-dump.is c.requires
@@ -39,8 +45,8 @@ returns-in-dump c =
 pub returns-in-explain : goal.returns-in-explain
 returns-in-explain c =
     let rows = rows_of (found_of c.args.given.now) in
-    let given = c.get_str.ensures ∙ first_value-rows (found_of c.args.given.now) (codes "refusal") in
-    subst (λ (name : Text). asked_by (name, rows) ≡ Some (explains (given_text c.get_str.result))) (sym c.in-explain.is) (ap (λ (o : Option Text). Some (explains o)) (sym given))
+    let given = c.get_str-in-explain.ensures ∙ first_value-rows (found_of c.args.given.now) (codes "refusal") in
+    subst (λ (name : Text). asked_by (name, rows) ≡ Some (explains (given_text c.get_str-in-explain.result))) (sym c.in-explain.is) (ap (λ (o : Option Text). Some (explains o)) (sym given))
 
 pub unwrap-requires : goal.unwrap-requires
 unwrap-requires c =

@@ -19,4 +19,9 @@ returns c =
     let ten = c.in_ok-arg-10.ensures.shape c.flag-3.ensures.local ∙ ap₂ with_rule nine c.flag-3.ensures.rule in
     let eleven = c.in_ok-arg-11.ensures.shape c.text_option-6.ensures.local ∙ ap₂ with_rule ten c.text_option-6.ensures.rule in
     let twelve = c.in_ok-arg-12.ensures.shape c.scale_option.ensures.local ∙ ap₂ with_rule eleven c.scale_option.ensures.rule in
-    IfOk-weaker c.arg-13.result _ _ (λ r adds. adds.shape c.flag-4.ensures.local ∙ ap₂ with_rule twelve c.flag-4.ensures.rule) c.arg-13.ensures
+    let thirteen = c.in_ok-arg-13.ensures.shape c.flag-4.ensures.local ∙ ap₂ with_rule twelve c.flag-4.ensures.rule in
+    let fourteen = c.in_ok-arg-14.ensures.shape c.flag-5.ensures.local ∙ ap₂ with_rule thirteen c.flag-5.ensures.rule in
+    let fifteen = c.in_ok-arg-15.ensures.shape c.text_option-7.ensures.local ∙ ap₂ with_rule fourteen c.text_option-7.ensures.rule in
+    let sixteen = c.in_ok-arg-16.ensures.shape c.text_option-8.ensures.local ∙ ap₂ with_rule fifteen c.text_option-8.ensures.rule in
+    let seventeen = c.in_ok-arg-17.ensures.shape c.text_option-9.ensures.local ∙ ap₂ with_rule sixteen c.text_option-9.ensures.rule in
+    IfOk-weaker c.arg-18.result _ _ (λ r adds. adds.shape c.text_option-10.ensures.local ∙ ap₂ with_rule seventeen c.text_option-10.ensures.rule) c.arg-18.ensures

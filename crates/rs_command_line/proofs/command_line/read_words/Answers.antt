@@ -7,6 +7,7 @@ use Rattle.clap.proofs.OnLiterals.{clap_on_literals}
 use Rattle.rs_command_line.specs.CommandLine.{command_line}
 use Rattle.rs_command_line.specs.Asked.{asked_by}
 use Rattle.rs_command_line.proofs.Asking.{words_ask}
+use Rattle.rs_command_line.proofs.Range.{asked_in_range}
 use Rattle.rs_command_line.proofs.command_line.read_words.Goals as goal
 
 is_plain : is_simple_and_free command_line ≡ true
@@ -45,3 +46,6 @@ returns-clause-asks g c =
     let M : App → Type 0 = λ a. is_simple a ≡ true → subcommand_rows_of c.in_ok-matches.matches ≡ subcommand_of a words in
     let met = subst M c.in_ok-command.ensures (λ easy. (c.in_ok-matches.ensures.matches easy).1) is_easy in
     ap (option_and_then asked_by) (sym met) ∙ c.in_ok-asked.ensures
+
+pub returns-clause-range : goal.returns-clause-range
+returns-clause-range g c = asked_in_range (subcommand_rows_of c.in_ok-matches.matches) c.in_ok-asked.asked c.in_ok-asked.ensures

@@ -30,6 +30,7 @@ returns c =
     let run_is = c.in_ok-run_command.ensures in
     let ask_is = c.in_ok-ask_command.ensures in
     let csv_is = c.in_ok-csv_command.ensures in
+    let table_is = c.in_ok-table_command.ensures in
     let dump_is = c.in_ok-dump_command.ensures in
     let explain_is = c.in_ok-explain_command.ensures in
     let serve_is = c.in_ok-serve_command.ensures in
@@ -37,6 +38,7 @@ returns c =
     let runs = c.in_ok-subcommand-2.ensures.shape (local _ _ run_is refl) ∙ ap₂ with_subcommand creates (ap top_of run_is) in
     let asks = c.in_ok-subcommand-3.ensures.shape (local _ _ ask_is refl) ∙ ap₂ with_subcommand runs (ap top_of ask_is) in
     let converts = c.in_ok-subcommand-4.ensures.shape (local _ _ csv_is refl) ∙ ap₂ with_subcommand asks (ap top_of csv_is) in
-    let dumps = c.in_ok-subcommand-5.ensures.shape (local _ _ dump_is refl) ∙ ap₂ with_subcommand converts (ap top_of dump_is) in
-    let explains = c.in_ok-subcommand-6.ensures.shape (local _ _ explain_is refl) ∙ ap₂ with_subcommand dumps (ap top_of explain_is) in
-    IfOk-weaker c.subcommand-7.result _ _ (λ r adds. adds.shape (local _ _ serve_is refl) ∙ ap₂ with_subcommand explains (ap top_of serve_is)) c.subcommand-7.ensures
+    let aligns = c.in_ok-subcommand-5.ensures.shape (local _ _ table_is refl) ∙ ap₂ with_subcommand converts (ap top_of table_is) in
+    let dumps = c.in_ok-subcommand-6.ensures.shape (local _ _ dump_is refl) ∙ ap₂ with_subcommand aligns (ap top_of dump_is) in
+    let explains = c.in_ok-subcommand-7.ensures.shape (local _ _ explain_is refl) ∙ ap₂ with_subcommand dumps (ap top_of explain_is) in
+    IfOk-weaker c.subcommand-8.result _ _ (λ r adds. adds.shape (local _ _ serve_is refl) ∙ ap₂ with_subcommand explains (ap top_of serve_is)) c.subcommand-8.ensures

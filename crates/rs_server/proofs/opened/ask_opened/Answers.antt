@@ -4,9 +4,8 @@ use Rattle.rs_server.proofs.opened.ask_opened.Goals as goal
 
 pub returns-in-Ok-clause-asks : goal.returns-in-Ok-clause-asks
 returns-in-Ok-clause-asks g c =
-    let ended = c.ask_on.ensures in
     asks_disk g.D.Disk _ (g.W.Write.contents c.args.output.now) (g.W.Write.contents c.ask_on.new.output) (g.E.Write.contents c.args.errors.now)
-    (g.E.Write.contents c.ask_on.new.errors) _ c.in-Ok.disk c.ask_on.result c.in-Ok.is (record { is = ended.status; asks = ended.asks; fails = ended.fails })
+    (g.E.Write.contents c.ask_on.new.errors) _ c.in-Ok.disk c.ask_on.result c.in-Ok.is c.ask_on.ensures.asks
 
 pub returns-in-Err-clause-asks : goal.returns-in-Err-clause-asks
 returns-in-Err-clause-asks g c =
