@@ -12,6 +12,8 @@ where `EndsBy` speaks of a file that was opened: what is said of one has a secti
 
 `--reached` prints the words that have to be believed, by file, helpers in brackets. Else each difference is printed with what to do, and
 at last `N passed, M failed`, counted in words and files.
+
+decision: model-lists-by-hand
 """
 
 import argparse

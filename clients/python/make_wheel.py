@@ -3,6 +3,8 @@
 setuptools makes wheels with the package `wheel`, or since version 70 by itself; where pip may fetch nothing, neither need be
 there. The names and words are those of pyproject.toml, of which the few forms that stand there are read; the version is the
 package's own.
+
+decision: own-wheel
 """
 
 import base64

@@ -32,7 +32,6 @@ from client_speed import SPEED_TESTS, WORK_TESTS
 from client_values import VALUE_TESTS
 from diagrams import DIAGRAM_TESTS
 from document_scripts import DOCUMENT_TESTS
-from runs import LONGEST, NO_FILE, Program, not_opened, put, serving
 from harness import expect, run_tests
 from page_browser import BROWSER_TESTS, PAGE_SPEED_TESTS
 from page_pictures import PICTURE_TESTS
@@ -41,6 +40,7 @@ from pages import PAGE_TESTS
 from programs import PROGRAM
 from prompts import PROMPT_TESTS
 from reckonings import COST_TESTS, RECKONING_TESTS
+from runs import LONGEST, NO_FILE, Program, not_opened, put, serving
 
 # Runs of the program.
 

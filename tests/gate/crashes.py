@@ -216,7 +216,7 @@ def tasks_of(words):
     whats = {
         "planted": [None, *PLANTS],
         "created": [None],
-        "migrations": sorted(name for name in os.listdir(KEPT) if name.endswith(".road")),
+        "migrations": sorted(name for name in os.listdir(KEPT) if name.endswith(".seg")),
         "journals": range(words.jobs),
         "rows": [None],
         "replays": [talks.pop("many pages"), *talks.values()],

@@ -1,8 +1,8 @@
-"""`roadseg ask`; scripts/test.sh runs it.
+"""`roadseg ask`, `roadseg run --csv` and `roadseg table`; scripts/test.sh runs it.
 
-What it prints is read by the module `csv` of Python and compared with the replies of `run` to the same lines, which are read here by a
-reader of their own, over pseudo-random texts with quotes, commas, marks and spaces. Files are read as they are: closed, with an open gate,
-only readable, in use, or none.
+What the first two print is read by the module `csv` of Python and compared with the replies of `run` to the same lines, which are read here
+by a reader of their own, over pseudo-random texts with quotes, commas, marks and spaces. Files are read as they are: closed, with an open
+gate, only readable, in use, or none. Tables are aligned by Python too, over pseudo-random records.
 """
 
 import csv
@@ -15,6 +15,7 @@ import sys
 import tempfile
 
 import folders  # noqa: F401, the path of modules
+import refusing
 from programs import PROGRAM, ROOT, ended_as_nobody
 from slow_checkpoint import being_written
 
@@ -180,7 +181,171 @@ def files_are_read_as_they_are(folder):
     expect("a full output", (done.returncode, done.stderr), (1, b"roadseg: write fault\n"))
 
 
-TESTS = [the_rows_are_those_of_run, a_table_goes_in_again, refused_questions_are_told, other_words_are_refused, files_are_read_as_they_are]
+def last_lines(replies):
+    """The replies to the lines of a run, each as its lines."""
+    reply, found = [], []
+    for line in replies.splitlines():
+        reply.append(line)
+        if not re.match("[0-9]+ ROW ", line):
+            found.append(reply)
+            reply = []
+    return found
+
+
+def asked_lines(chance, count):
+    """Pseudo-random lines of sessions, each with the header of its answer."""
+    lines = [("0 %s" % line, []) for line in SETUP]
+    for place in range(count):
+        start = chance.randrange(99_000)
+        session = chance.randrange(3)
+        question, header = chance.choice(QUESTIONS)
+        way = chance.randrange(12)
+        if way < 4:
+            lines.append(("%d INSERT INTO t ON A FROM %.3f TO %.3f VALUES (%s, %d)" % (session, start / 1000, (start + 500) / 1000, text_of(chance), chance.randrange(-9, 9)), []))
+        elif way < 6:
+            lines.append(("%d INSERT INTO p ON A AT %.3f VALUES (%d, %s)" % (session, start / 1000, place, text_of(chance)), []))
+        elif way < 8:
+            lines.append(("%d %s" % (session, question.strip()), header))
+        elif way == 8:
+            lines.append(("%d TRANSLATE A %s AS RELATIVE" % (session, chance.choice(["7", "50%", "@BRIDGE", "101"])), ["position"]))
+        elif way == 9 and question.strip().startswith("SELECT"):
+            lines.append(("%d OPEN %s FOR %s" % (session, chance.choice("cd"), question.strip()[7:]), header))
+        elif way == 10:
+            lines.append(("%d FETCH %s %d" % (session, chance.choice("cd"), chance.randrange(1, 9)), []))
+        else:
+            lines.append((chance.choice(["%d CLOSE c", "%d SELECT none", "%d DROP TABLE q", "%d", "%d SELECT t;", "%d REOPEN", "64 SAVE%.0d", "%d SELECT t \t", "%d " + "x" * 5000]) % session, []))
+    return lines
+
+
+def told_of(number, line, reply):
+    """What is told of a refused line."""
+    front = re.split("[\\x00-\\x1f\\x7f]", line[:4096])[0]
+    return "roadseg: line %d: %s: %s%s\n" % (number, reply.split(" ", 1)[1], front, "" if front == line else "..")
+
+
+def lines_are_answered_as_csv(folder):
+    lines = asked_lines(random.Random(69), 1_500)
+    data = "".join("%s\n" % line for line, _ in lines).encode()
+    file, other = os.path.join(folder, "file.seg"), os.path.join(folder, "other.seg")
+    created(file, [])
+    created(other, [])
+    replies = last_lines(run("run", "--file", file, data=data)[1].decode())
+    expect("how many replies", len(replies), len(lines))
+    text, told, refused = io.StringIO(), "", 0
+    writer = csv.writer(text, lineterminator="\n")
+    for number, ((line, header), reply) in enumerate(zip(lines, replies), 1):
+        if " ERR " in reply[-1]:
+            told += told_of(number, line, reply[-1])
+            refused += 1
+            continue
+        if header:
+            writer.writerow(header)
+        writer.writerows([[field_of(cell) for cell in CELL.findall(row.split(" ROW ", 1)[1])] for row in reply[:-1]])
+    for words in (["--file", other], []):
+        status, out, errors = run("run", "--csv", *words, data=data)
+        expect("the records", list(csv.reader(io.StringIO(out.decode(), newline=""))), list(csv.reader(io.StringIO(text.getvalue(), newline=""))))
+        expect("what is told", errors.decode(), told)
+        expect("the status", status, 1)
+    expect("the files", run("dump", "--file", file), run("dump", "--file", other))
+    counted = told + "roadseg: lines answered: %d, refused: %d\n" % (len(lines), refused)
+    expect("with a report", run("run", "--csv", "--report", data=data)[2].decode(), counted)
+    first = told.splitlines(True)[0]
+    status, out, errors = run("run", "--csv", "--bail", "--report", data=data)
+    expect("up to the first refused line", (status, errors.decode().startswith(first), errors.count(b"\n")), (1, True, 2))
+    number = int(re.match("roadseg: line ([0-9]+)", first).group(1))
+    accepted = "".join("%s\n" % line for line, _ in lines[: number - 1]).encode()
+    expect("what was answered by then", run("run", "--csv", data=accepted), (0, out, b""))
+
+
+def a_cursor_has_one_header(folder):
+    file = filled(folder, 900)
+    whole = run("ask", "--file", file, "SELECT OVERLAY(p, t)")[1]
+    fetches = "".join("5 FETCH c 100\n" for _ in range(whole.count(b"\n") // 100 + 1))
+    expect("the parts", run("run", "--csv", "--file", file, data=("5 OPEN c FOR OVERLAY(p, t)\n%s" % fetches).encode()), (0, whole, b""))
+
+
+def inputs_end_as_they_do(folder):
+    file = os.path.join(folder, "file.seg")
+    created(file, SETUP)
+    head = b"route,from,to,name,n\n"
+    expect("no line", run("run", "--csv", "--file", file), (0, b"", b""))
+    expect("a cut line", run("run", "--csv", "--file", file, data=b"0 SELECT t\n0 SELECT p"), (0, head, b""))
+    told = b"roadseg: lines answered: 1, refused: 0\nroadseg: the last line lacks its line feed and was not answered\n"
+    expect("a cut line, reported", run("run", "--csv", "--report", "--file", file, data=b"0 SELECT t\r\n0 SELECT p"), (0, head, told))
+    expect("a long line", run("run", "--csv", data=b"0 " + b"x" * 100_000 + b"\n")[2], b"roadseg: line 1: ERR 2 line too long: 0 " + b"x" * 4094 + b"..\n")
+    absent = os.path.join(folder, "absent.seg")
+    expect("no file", run("run", "--csv", "--file", absent), (1, b"", ("roadseg: cannot open file\nroadseg: %s: no such file\n" % absent).encode()))
+    with open("/dev/full", "wb") as full:
+        done = subprocess.run([PROGRAM, "run", "--csv", "--file", file], input=b"0 SELECT t\n", stdout=full, stderr=subprocess.PIPE, timeout=LONGEST)
+    expect("a full output", (done.returncode, done.stderr), (1, b"roadseg: write fault\n"))
+
+
+def aligned(records):
+    """Records as lines, with their columns aligned."""
+    shown = [[re.sub("[\\x00-\\x1f\\x7f]", " ", field) for field in record] for record in records]
+    widths = [max(len(record[place]) if place < len(record) else 0 for record in shown) for place in range(max(map(len, shown)))]
+    right = [all(place >= len(row) or row[place] == "" or re.fullmatch("[0-9.+%-]*[0-9][0-9.+%-]*", row[place]) for row in records[1:]) for place in range(len(widths))]
+    lines = []
+    for record in shown:
+        cells = [field.rjust(widths[place]) if right[place] else field.ljust(widths[place]) for place, field in enumerate(record)]
+        if record and not right[len(record) - 1]:
+            cells[-1] = record[-1]
+        lines.append("  ".join(cells) + "\n")
+    return "".join(lines)
+
+
+def table_of(records):
+    """The table of some records, a portion of 1,000 at a time."""
+    rows = records[1:]
+    return "\n".join(aligned(records[:1] + rows[place : place + 1000]) for place in range(0, max(len(rows), 1), 1000)) if records else ""
+
+
+def columns_are_aligned(folder):
+    chance = random.Random(70)
+    letters = "ab 7.,\"é;'語\n-"
+    for count, separator in ((0, ","), (1, ","), (999, ","), (1000, ";"), (1001, ","), (3_500, "\t")):
+        records = [["route", "from", "é,\"", "n"]]
+        for _ in range(count):
+            fields = ["SR%d" % chance.randrange(200), "%.3f" % (chance.randrange(10**6) / 1000), "".join(chance.choice(letters) for _ in range(chance.randrange(9))), chance.choice(["", "12", "-3.5", "28.07%", "12+50.5"])]
+            records.append(fields + ["x"] * (chance.randrange(50) == 0) if chance.randrange(40) else fields[: chance.randrange(1, 4)])
+        text = io.StringIO()
+        csv.writer(text, delimiter=separator, lineterminator=chance.choice(["\n", "\r\n"])).writerows(records)
+        words = [] if separator == "," else ["--separator", "tab" if separator == "\t" else separator]
+        wanted = table_of([record for record in csv.reader(io.StringIO(text.getvalue(), newline=""), delimiter=separator) if record])
+        expect("a table of %d" % count, run("table", *words, data=text.getvalue().encode()), (0, wanted.encode(), b""))
+    expect("no record", run("table"), (0, b"", b""))
+    expect("no separator", run("table", "--separator", "ab"), (2, b"", b"error: the separator is no byte that parts fields, nor tab\n"))
+    shown = b"route   from     to  name\nA      0.000  1.000  ab\nA      9.500      1  c\n"
+    expect("a small one", run("table", data=b"route,from,to,name\nA,0.000,1.000,ab\nA,9.500,1,c\n"), (0, shown, b""))
+    with open("/dev/full", "wb") as full:
+        done = subprocess.run([PROGRAM, "table"], input=b"a,b\n1,2\n", stdout=full, stderr=subprocess.PIPE, timeout=LONGEST)
+    expect("a full output", (done.returncode, done.stderr), (1, b"roadseg: write fault\n"))
+
+
+def each_growth_is_refused(folder):
+    """Whichever growth is refused, what is out is a front, or lacks what was refused, and want of memory is told."""
+    library, file = refusing.build(folder), filled(folder, 20)
+    lines = b"0 SELECT t\n1 OPEN c FOR p\n1 FETCH c 9\n0 TOTAL t BY (name)\n"
+    records = run("ask", "--file", file, "SELECT t")[1]
+    for words, data in ((["table"], records), (["ask", "--file", file, "SELECT t", "TOTAL p BY (w)"], b""), (["run", "--csv", "--file", file], lines)):
+        whole, told = run(*words, data=data)[1], set()
+        for number in range(1, 1_000):
+            settings = dict(os.environ, LD_PRELOAD=library, **refusing.Refusal(growth=number).settings())
+            done = subprocess.run([PROGRAM, *words], input=data, capture_output=True, env=settings, timeout=LONGEST)
+            if (done.stdout, done.returncode, done.stderr) == (whole, 0, b""):
+                break
+            what = "growth %d of %s" % (number, words[0])
+            told.add(re.sub(b"(line|question) [0-9]+: ERR 90.*", rb"\1", done.stderr))
+            expect(what, (done.returncode, set(done.stdout.splitlines()) <= set(whole.splitlines())), (1, True))
+        expect("the last growth of %s" % words[0], done.stdout, whole)
+        allowed = {b"roadseg: ERR 90 out of memory\n", b"roadseg: line\n", b"roadseg: question\n", b"roadseg: read fault\n"}
+        expect("what is told of %s" % words[0], told - allowed, set())
+
+
+TESTS = [
+    the_rows_are_those_of_run, a_table_goes_in_again, refused_questions_are_told, other_words_are_refused, files_are_read_as_they_are, lines_are_answered_as_csv, a_cursor_has_one_header,
+    inputs_end_as_they_do, columns_are_aligned, each_growth_is_refused,
+]
 
 
 def main():

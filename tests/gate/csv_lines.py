@@ -156,19 +156,22 @@ def number_of(field):
 
 
 def line_of(fields, session=0, rounds=False):
-    """The line of a record and how many of its measures were rounded, or which field of it is wrong: its place and the words for it."""
+    """The line of a record and how many of its measures were rounded, or which fields of it are wrong: the place of each, and the words for it."""
     route, begin, end, surface, year = fields
+    wrong = []
     if not re.fullmatch("[A-Za-z][A-Za-z0-9_]{0,31}", route) or route == "SELECT":
-        return (0, told_of(route, "is not a name"))
+        wrong.append((0, told_of(route, "is not a name")))
     positions = []
     for place, field in ((1, begin), (2, end)):
         position = position_of(field, rounds)
         if isinstance(position, str):
-            return (place, told_of(field, position))
+            wrong.append((place, told_of(field, position)))
         positions.append(position)
     number = number_of(year) if year else ("NULL",)
     if isinstance(number, str):
-        return (4, told_of(year, number))
+        wrong.append((4, told_of(year, number)))
+    if wrong:
+        return (wrong, None)
     text = "'%s'" % surface.replace("'", "''") if surface else "NULL"
     (begin, first), (end, last) = positions
     return "%d INSERT INTO pavement ON %s FROM %s TO %s VALUES (%s, %s)\n" % (session, route, begin, end, text, number[0]), first + last
@@ -177,6 +180,88 @@ def line_of(fields, session=0, rounds=False):
 def told_of(field, words):
     """What is told of a field."""
     return "%s %s" % (shown(field) if field else "an empty field", words)
+
+
+KINDS = [
+    "no such field", "not text", "not a name", "not a position", "not a number", "not a whole number", "past 10^12", "too many decimals", "below 0", "past 999999.999",
+    "line past 4096 bytes", "longer than 65536 bytes", "more fields than the header", "one name of two texts", "no measure met on the route",
+]
+
+
+def kind_of(words):
+    """The kind of a fault that is told in these words."""
+    if re.search(" has [a-z0-9]+ decimals$", words):
+        return "too many decimals"
+    if re.search(" would be .*, as .* is$", words):
+        return "one name of two texts"
+    return next(kind for kind in sorted(KINDS, key=len, reverse=True) if words.endswith(kind))
+
+
+class Told:
+    """What is told of records that are left out: the first twenty faults of a kind, and counts at the end."""
+
+    def __init__(self):
+        self.lines, self.counts, self.records = [], dict.fromkeys(KINDS, 0), 0
+
+    def meet(self, words, told):
+        """Meets a fault."""
+        kind = kind_of(words)
+        self.counts[kind] += 1
+        if self.counts[kind] <= 20:
+            self.lines.append(told)
+
+    def leave_out(self, number, line, faults):
+        """Leaves out the record of this number, which begins on this line, for faults of its fields, or for one without a field."""
+        self.records += 1
+        for name, words in faults:
+            self.meet(words, "roadseg: record %d, line %d%s: %s\n" % (number, line, ", " + name if name else "", words))
+
+    def text(self):
+        """All that is told."""
+        if not any(self.counts.values()):
+            return ""
+        counts = ["roadseg: records left out: %d\n" % self.records]
+        for kind, count in self.counts.items():
+            if count:
+                counts.append("roadseg: %s: %d%s\n" % (kind, count, ", of which 20 are told" if count > 20 else ""))
+        return "".join(self.lines + counts)
+
+
+def told_once(line, *faults, number=1):
+    """What is told where one record is left out."""
+    told = Told()
+    told.leave_out(number, line, faults)
+    return told.text().encode()
+
+
+class Lines:
+    """The lines of a text, and how many line feeds were in those that were taken."""
+
+    def __init__(self, text):
+        self.lines, self.feeds = io.StringIO(text, newline=""), 0
+
+    def __iter__(self):
+        return self
+
+    def __next__(self):
+        line = next(self.lines)
+        self.feeds += line.count("\n")
+        return line
+
+
+def records_of(text, separator=","):
+    """The records of a text, as Python reads them: the number of each, the line on which it begins, and its fields. The header has 0."""
+    lines = Lines(text)
+    reader = csv.reader(lines, delimiter=separator)
+    number = 0
+    while True:
+        line = lines.feeds + 1
+        fields = next(reader, None)
+        if fields is None:
+            return
+        if fields:
+            yield number, line, fields
+            number += 1
 
 
 MEASURE = r"[0-9]{1,6}(\.[0-9]{1,3})?"
@@ -197,18 +282,18 @@ def csv_of(records, ending, header=HEADER, separator=","):
 
 def wanted_of(data, rounds=False, separator=","):
     """What Python reads in the text: the lines of its records, and what is told."""
-    lines, told, rounded = ["0 %s\n" % DEFINE], [], 0
-    records = csv.reader(io.StringIO(data.decode("utf-8-sig"), newline=""), delimiter=separator)
-    next(records)
-    for number, fields in enumerate((fields for fields in records if fields), 1):
+    lines, told, rounded = ["0 %s\n" % DEFINE], Told(), 0
+    for number, begins, fields in records_of(data.decode("utf-8-sig"), separator):
+        if not number:
+            continue
         line = line_of(fields, rounds=rounds)
         if isinstance(line[0], str):
             lines.append(line[0])
             rounded += line[1]
         else:
-            told.append("roadseg: record %d, %s: %s\n" % (number, HEADER[line[0]], line[1]))
+            told.leave_out(number, begins, [(HEADER[place], words) for place, words in line[0]])
     count = "roadseg: measures rounded: %d\n" % rounded if rounds else ""
-    return "".join(lines).encode(), "".join(told).encode(), count.encode()
+    return "".join(lines).encode(), told.text().encode(), count.encode()
 
 
 def check_random():
@@ -246,7 +331,7 @@ def check_numbers():
         ("é" * 70, "is not a position"),
     ):
         got = run("csv", DEFINE, "--no-define", data=head + ("SR1,0,%s,a,1\n" % measure).encode())
-        expect(measure, got, (1, b"", ("roadseg: record 1, to: %s %s\n" % (shown(measure), words)).encode()))
+        expect(measure, got, (1, b"", told_once(2, ("to", "%s %s" % (shown(measure), words)))))
     for measure, rounded, count in (
         ("2.1622", "2.162", 1), ("2.1625", "2.162", 1), ("2.1635", "2.164", 1), ("2.16250000001", "2.163", 1), ("2.1624999", "2.162", 1), ("0.0005", "0.000", 1),
         ("0.00051", "0.001", 1), ("1.9995", "2.000", 1), ("1.1000", "1.100", 0), ("999999.9994", "999999.999", 1), ("2.16", "2.16", 0),
@@ -255,7 +340,7 @@ def check_numbers():
         line = "0 INSERT INTO crash ON SR1 AT %s VALUES (NULL)\n" % rounded
         expect("%s, rounded" % measure, got, (0, line.encode(), b"roadseg: measures rounded: %d\n" % count))
     got = run("csv", POINTS, "--no-define", "--round", data=b"route,at,year\nSR1,999999.9995,\n")
-    told = b"roadseg: record 1, at: 999999.9995 is past 999999.999\nroadseg: measures rounded: 0\n"
+    told = told_once(2, ("at", "999999.9995 is past 999999.999")) + b"roadseg: measures rounded: 0\n"
     expect("rounded past the greatest", got, (1, b"", told))
     data = b"route,from,to,surface,year\nSR2,1.00004,2.00006,c,3\nSR2,5,9.5001,a,1\n"
     status, out, errors = run("csv", DEFINE, "--routes", "--round", data=data)
@@ -286,45 +371,59 @@ def check_fields():
         (b"SR1,0,1,a,1;", "year: 1; is not a number"),
     ):
         got = run("csv", DEFINE, "--no-define", data=head + record + b"\n")
-        expect(repr(record), got, (1, b"", ("roadseg: record 1, %s\n" % told).encode()))
+        expect(repr(record), got, (1, b"", told_once(2, tuple(told.split(": ", 1)))))
+    got = run("csv", DEFINE, "--no-define", data=head + b"\n\nI-95,-1,2.16225,a,x\n")
+    faults = [("route", "I-95 is not a name"), ("from", "-1 is below 0"), ("to", "2.16225 has five decimals"), ("year", "x is not a number")]
+    expect("all faults of a record", got, (1, b"", told_once(4, *faults)))
     more = head + b"SR1,0,1,Main St, North,2011\nSR1,1,2,a,1\n"
     after = b"0 INSERT INTO pavement ON SR1 FROM 1 TO 2 VALUES ('a', 1)\n"
-    told = b"roadseg: record 1: more fields than the header\n"
+    told = told_once(2, ("", "more fields than the header"))
     expect("an unquoted comma", run("csv", DEFINE, "--no-define", data=more), (1, after, told))
-    long = head + b"SR1,0,1,%s,1\nSR1,1,2,a,1\n" % (b"x" * 70_000)
-    told = b"roadseg: record 1: longer than 65536 bytes\n"
-    expect("a long record", run("csv", DEFINE, "--no-define", data=long), (1, after, told))
+    long = head + b'SR1,0,1,"%s\n\n%s\n",1\nSR1,1,2,a,1\n,1,2,a,1\n' % (b"x\n" * 10_000, b"x" * 70_000)
+    told = Told()
+    told.leave_out(1, 2, [("", "longer than 65536 bytes")])
+    told.leave_out(3, 10_007, [("route", "an empty field is not a name")])
+    for words in ((), ("--routes",)):
+        status, out, errors = run("csv", DEFINE, "--no-define", *words, data=long)
+        expect("a long record", (status, out[-len(after):], errors), (1, after, told.text().encode()))
 
 
 NOTES = "DEFINE POINT TABLE notes (note TEXT(40))"
 NOTE_COLUMNS = ["route", "at", "note"]
 
 
-def note_of(number, fields):
-    """What is made of a record of notes: its line, or what is told."""
+def note_of(fields):
+    """What is made of a record of notes: its line, or what is wrong with it."""
     if len(fields) > len(NOTE_COLUMNS):
-        return "roadseg: record %d: more fields than the header\n" % number
+        return [("", "more fields than the header")]
+    faults = []
     for place, (name, wrong) in enumerate(zip(NOTE_COLUMNS, ("is not a name", "is not a position", ""))):
         if place >= len(fields):
-            return "roadseg: record %d, %s: no such field\n" % (number, name)
-        if re.search(r"[\r\n\t]", fields[place]):
-            return "roadseg: record %d, %s: not text\n" % (number, name)
-        if not re.fullmatch(("[A-Za-z][A-Za-z0-9_]*", "1", ".*")[place], fields[place]):
-            return "roadseg: record %d, %s: %s\n" % (number, name, told_of(fields[place], wrong))
+            faults.append((name, "no such field"))
+        elif re.search(r"[\r\n\t]", fields[place]):
+            faults.append((name, "not text"))
+        elif not re.fullmatch(("[A-Za-z][A-Za-z0-9_]*", "1", ".*")[place], fields[place]):
+            faults.append((name, told_of(fields[place], wrong)))
+    if faults:
+        return faults
     return "0 INSERT INTO notes ON %s AT 1 VALUES (%s)\n" % (fields[0], "'%s'" % fields[2] if fields[2] else "NULL")
 
 
 def check_quotes(rounds=3_000):
     """Quotes, separators and ends of lines wherever they stand, read as Python reads them. An empty text is as good as NULL here."""
     chance = random.Random(5)
-    for number in range(rounds):
-        separator = ",;\t"[0 if number % 2 else chance.randrange(3)]
+    for turn in range(rounds):
+        separator = ",;\t"[0 if turn % 2 else chance.randrange(3)]
         tail = "".join(chance.choice('""",;%s\n\rab' % separator) for _ in range(chance.randrange(12)))
         text = "route,at,note\nSR1,1,".replace(",", separator) + tail + chance.choice(["\n", "\r\n", ""]) + "SR1,1,b".replace(",", separator)
-        records = list(csv.reader(io.StringIO(text, newline=""), delimiter=separator))[1:]
-        made = [note_of(number, fields) for number, fields in enumerate((one for one in records if one), 1)]
-        lines = "".join(one for one in made if one[0] == "0")
-        told = "".join(one for one in made if one[0] == "r")
+        lines, told = "", Told()
+        for number, begins, fields in records_of(text, separator):
+            made = note_of(fields) if number else ""
+            if isinstance(made, str):
+                lines += made
+            else:
+                told.leave_out(number, begins, made)
+        told = told.text()
         words = [] if separator == "," else ["--separator", separator]
         status, out, errors = run("csv", NOTES, "--no-define", *words, data=text.encode())
         got = (status, out.decode().replace("('')", "(NULL)"), errors.decode())
@@ -347,7 +446,11 @@ def check_words():
     routes = b"0 DEFINE ROUTE SR1 FROM 3.000 TO 4.000\n0 DEFINE ROUTE SR2 FROM 1.000 TO 9.500\n"
     expect("the status with --routes", got[0], 1)
     expect("the routes", got[1][: len(routes)], routes)
-    expect("the route that is told", got[2], b"roadseg: SR3: no measure met on the route\n")
+    told = b"roadseg: SR3: no measure met on the route\nroadseg: records left out: 0\nroadseg: no measure met on the route: 1\n"
+    expect("the route that is told", got[2], told)
+    records = "".join("SR%d,50%%,60%%,d,4\n" % number for number in range(30))
+    errors = run("csv", DEFINE, "--routes", data=("route,from,to,surface,year\n" + records).encode())[2].decode()
+    expect("many routes that are told", (errors.count(": no measure met on the route\n"), errors.splitlines()[-1]), (20, "roadseg: no measure met on the route: 30, of which 20 are told"))
 
 
 def check_names():
@@ -386,7 +489,7 @@ def check_scales():
         ("10", "115.83", "is not a whole number"), ("10", "100000000000.1", "is past 10^12"), ("10", "x", "is not a number"), ("10", "- 5", "is not a number"),
     ):
         got = run("csv", DEFINE, "--no-define", "--scale", "year=" + scale, data=head + ("SR1,0,1,,%s\n" % number).encode())
-        expect("%s times %s" % (number, scale), got, (1, b"", ("roadseg: record 1, year: %s %s\n" % (number, words)).encode()))
+        expect("%s times %s" % (number, scale), got, (1, b"", told_once(2, ("year", "%s %s" % (number, words)))))
     told = b"error: a scale is no column of numbers with 1, 10, 100 and so on up to 1000000\n"
     for words in ("year", "year=", "year=7", "year=10000000", "year=010", "surface=10", "built=10", "=10"):
         expect("--scale %s" % words, run("csv", DEFINE, "--scale", words, data=head), (2, b"", told))
@@ -415,10 +518,10 @@ def check_made_names(count=20_000):
         expect("the name of %r" % text, run("csv", POINTS, "--no-define", "--names", data=("route,at,year\n%s,1,\n" % text).encode()), (0, line.encode(), b""))
     for text in ("", " ", '""'):
         shown_text = " is not a name" if text == " " else "an empty field is not a name"
-        told = "roadseg: record 1, route: %s\n" % (" " + shown_text if text == " " else shown_text)
-        expect("no name of %r" % text, run("csv", POINTS, "--no-define", "--names", data=("route,at,year\n%s,1,\n" % text).encode()), (1, b"", told.encode()))
+        told = told_once(2, ("route", " " + shown_text if text == " " else shown_text))
+        expect("no name of %r" % text, run("csv", POINTS, "--no-define", "--names", data=("route,at,year\n%s,1,\n" % text).encode()), (1, b"", told))
     chance = random.Random(12)
-    made, lines, told, records = {}, [], [], []
+    made, lines, told, records = {}, [], Told(), []
     for number in range(1, count + 1):
         route = "".join(chance.choice(["I", "US", "SR", "", "LINE", "\u00c9"]) + chance.choice(["-", " ", "_", ""]) + str(chance.randrange(1, 400)))
         records.append([route, "1", ""])
@@ -427,11 +530,11 @@ def check_made_names(count=20_000):
         if first == text:
             lines.append("0 INSERT INTO crash ON %s AT 1 VALUES (NULL)\n" % name)
         else:
-            told.append("roadseg: record %d: %s would be %s, as %s is\n" % (number, text, name, first))
+            told.leave_out(number, number + 1, [("", "%s would be %s, as %s is" % (text, name, first))])
     data = csv_of(records, "\n", ["route", "at", "year"])
-    expect("made names", run("csv", POINTS, "--no-define", "--names", data=data), (1, "".join(lines).encode(), "".join(told).encode()))
+    expect("made names", run("csv", POINTS, "--no-define", "--names", data=data), (1, "".join(lines).encode(), told.text().encode()))
     status, out, errors = run("csv", POINTS, "--no-define", "--names", "--routes", data=data)
-    expect("made names with --routes", (status, out[-len("".join(lines).encode()):], errors), (1, "".join(lines).encode(), "".join(told).encode()))
+    expect("made names with --routes", (status, out[-len("".join(lines).encode()):], errors), (1, "".join(lines).encode(), told.text().encode()))
     expect("the routes", sorted(re.findall(rb"DEFINE ROUTE ([^ ]*)", out)), sorted(name.encode() for name in made))
     line = b"0 INSERT INTO crash ON SR1 AT 3.5 VALUES (1999)\n"
     for header, words in (
@@ -441,6 +544,125 @@ def check_made_names(count=20_000):
         expect(header.decode(), got, (0, line, b""))
     told = b"roadseg: mp_1: column twice in the header once names are made: route, mp 1, mp-1, year\n"
     expect("two columns", run("csv", POINTS, "--names", "--at", "mp_1", data=b"route,mp 1,mp-1,year\n"), (1, b"", told))
+
+
+def check_numbered():
+    """The number of a record in a column of the table: of all records, also after some that are left out or too long, and with --routes."""
+    define = "DEFINE POINT TABLE crash (id INT, year INT)"
+    long = "SR1,1,%s\n" % ("9" * 70_000)
+    text = "route,at,year\nSR1,1,\nSR1,1,\nI-95,1,\n" + long + "SR1,2,1999\n" + "SR1,3,1\n" * 5_000 + long + "SR1,4,\n"
+    numbers = [1, 2, 5, *range(6, 5_006), 5_007]
+    ats = [("1", "NULL"), ("1", "NULL"), ("2", "1999"), *[("3", "1")] * 5_000, ("4", "NULL")]
+    lines = "".join("0 INSERT INTO crash ON SR1 AT %s VALUES (%d, %s)\n" % (at, number, year) for number, (at, year) in zip(numbers, ats))
+    told = Told()
+    told.leave_out(3, 4, [("route", "I-95 is not a name")])
+    told.leave_out(4, 5, [("", "longer than 65536 bytes")])
+    told.leave_out(5_006, 5_007, [("", "longer than 65536 bytes")])
+    got = run("csv", define, "--no-define", "--number", "id", data=text.encode())
+    expect("numbered records", got, (1, lines.encode(), told.text().encode()))
+    route = "0 DEFINE ROUTE SR1 FROM 1.000 TO 4.000\n"
+    got = run("csv", define, "--no-define", "--routes", "--number", "id", data=text.encode())
+    expect("numbered records with --routes", got, (1, (route + lines).encode(), told.text().encode()))
+    data = b"route,at,id,year\nSR1,1,77,2\n"
+    for words in (["id"], ["id", "--column", "id=year"]):
+        line = b"0 INSERT INTO crash ON SR1 AT 1 VALUES (1, 2)\n"
+        expect("a field of that name", run("csv", define, "--no-define", "--number", *words, data=data), (0, line, b""))
+    told = b"error: --number names no column of numbers of the table\n"
+    for number in ("year", "note", "ID", ""):
+        expect("--number %s" % number, run("csv", NOTES, "--number", number, data=data), (2, b"", told))
+    told = b"error: a scale is no column of numbers with 1, 10, 100 and so on up to 1000000\n"
+    expect("a scale of numbers", run("csv", define, "--number", "id", "--scale", "id=10", data=data), (2, b"", told))
+
+
+def reasons_of(faults):
+    """The reason that stands after a record with these faults."""
+    return "; ".join("%s: %s" % (name, words) if name else words for name, words in faults)
+
+
+def check_rejects(count=3_000):
+    """Records that are left out are written as they stood, with the reason after them, and go in again once they are mended."""
+    with tempfile.TemporaryDirectory() as folder:
+        file = os.path.join(folder, "left.csv")
+        for ending, separator, words in (("\n", ",", []), ("\r\n", ";", ["--separator", ";"])):
+            chance = random.Random(14)
+            records = [some_record(chance, True) for _ in range(count)]
+            data = csv_of(records, ending, separator=separator)
+            lines, told, _ = wanted_of(data, False, separator)
+            expect("with --rejects", run(*WORDS, *words, "--rejects", file, data=data), (1, lines, told))
+            with open(file, newline="") as left:
+                rows = list(csv.reader(left, delimiter=separator))
+            wrong = [(fields, line_of(fields)[0]) for fields in records if not isinstance(line_of(fields)[0], str)]
+            wanted = [[*fields, reasons_of([(HEADER[place], said) for place, said in faults])] for fields, faults in wrong]
+            expect("the rejects", rows, [[*HEADER, "left_out_because"], *wanted])
+            expect("some records are wrong", len(wrong) > count // 60, True)
+            for row, (fields, faults) in zip(rows[1:], wrong):
+                for place, _ in faults:
+                    row[place] = ["SR1", "0", "1", "", "1"][place]
+            mended = csv_of(rows[1:], ending, rows[0], separator)
+            lines = "".join(line_of(row[:5])[0] for row in rows[1:])
+            again = os.path.join(folder, "again.csv")
+            expect("mended rejects", run(*WORDS, "--no-define", *words, "--rejects", again, data=mended), (0, lines.encode(), b""))
+            expect("no more rejects", os.path.getsize(again), 0)
+        data = b'route,at,"no""te"\nSR1,1,""\n"S ",x,""\nSR1,2\nSR1,3,a,b\nSR1,x,"a, ""b"""\n'
+        header = b'route,at,"no""te","left_out_because"\n'
+        wrong = b'"S ",x,"","at: x is not a position"\nSR1,2,,"no""te: no such field"\nSR1,3,a,b,"more fields than the header"\nSR1,x,"a, ""b""","at: x is not a position"\n'
+        words = ["csv", NOTES, "--no-define", "--column", 'note=no"te', "--rejects", file]
+        expect("rejects one by one", run(*words, data=data)[:2], (1, b"0 INSERT INTO notes ON SR1 AT 1 VALUES ('')\n"))
+        with open(file, "rb") as left:
+            data = left.read()
+        expect("their rows", data, header + wrong)
+        expect("read again", run(*words, data=data)[:2], (1, b"0 INSERT INTO notes ON SR1 AT 2 VALUES (NULL)\n"))
+        with open(file, "rb") as left:
+            expect("their rows", left.read(), header + b"".join(row for row in wrong.splitlines(True) if b"SR1,2" not in row))
+        names = os.path.join(folder, "names.csv")
+        data = b'route,at,year\nI-95,1,\n"US ""40""",1,\nSR1,1,\n'
+        expect("the status with --names-file", run("csv", POINTS, "--names-file", names, data=data)[0], 0)
+        with open(names, "rb") as made:
+            expect("the names", made.read(), b'old,new\n"I-95",I_95\n"SR1",SR1\n"US ""40""",US__40_\n')
+        for option in ("--rejects", "--names-file"):
+            told = ("roadseg: cannot open file\nroadseg: %s: a folder\n" % folder).encode()
+            expect("%s to a folder" % option, run("csv", POINTS, option, folder, data=data), (1, b"", told))
+            got = run("csv", POINTS, option, "/dev/full", data=b"route,at,year\nSR 1,x,\n")
+            expect("%s without room" % option, (got[0], got[2].splitlines()[-1]), (1, b"roadseg: write fault"))
+
+
+def check_stations():
+    """Measures in stations, one by one."""
+    for units, measure, made in (
+        (100, "12+50.5", "1250.500"), (1000, "0+000", "0.000"), (100, " 012+5. ", "1205.000"), (1, "7+.5", "7.500"), (100, "12.5", "12.5"), (100, "+3", "3.000"), (30, "2+61.1000", "121.100"),
+        (1_000_000, "0+999999.999", "999999.999"), (100, "@B+2", "@B+2"), (100, "9999+99.999", "999999.999"),
+    ):
+        got = run("csv", POINTS, "--no-define", "--stations", str(units), data=("route,at,year\nSR1,%s,\n" % measure).encode())
+        expect("%s by %d" % (measure, units), got, (0, ("0 INSERT INTO crash ON SR1 AT %s VALUES (NULL)\n" % made).encode(), b""))
+    for units, measure, words in (
+        (100, "12+1.2345", "has four decimals"), (100, "9999+100", "is past 999999.999"), (100, "-1+5", "is not a position"), (100, "1.5+5", "is not a position"), (100, "1+", "is not a position"),
+        (100, "+5+5+5", "is not a position"), (100, "1+-5", "is below 0"), (1000, "4294967296+0", "is not a position"), (None, "12+50.5", "is not a position"),
+    ):
+        got = run("csv", POINTS, "--no-define", *(["--stations", str(units)] if units else []), data=("route,at,year\nSR1,%s,\n" % measure).encode())
+        expect("%s by %s" % (measure, units), got, (1, b"", told_once(2, ("at", "%s %s" % (measure, words)))))
+    got = run("csv", POINTS, "--no-define", "--stations", "100", "--round", data=b"route,at,year\nSR1,12+50.0005,\n")
+    expect("rounded stations", got, (0, b"0 INSERT INTO crash ON SR1 AT 1250.000 VALUES (NULL)\n", b"roadseg: measures rounded: 1\n"))
+    told = b"error: a station has a whole number of units from 1 to 1000000\n"
+    for text in ("0", "1000001", "-1", "1.5", "", "x"):
+        expect("--stations %s" % text, run("csv", POINTS, "--stations=" + text, data=b""), (2, b"", told))
+
+
+def check_definitions():
+    """A definition is refused as `run` refuses its line."""
+    wide = ", ".join("c%d TEXT(120)" % number for number in range(8))
+    for define in (
+        "DEFINE POINT TABLE crash", "DEFINE POINT TABLE crash (year INT", "DEFINE POINT TABLE (a INT)", "DEFINE TABLE a (b INT)", "DEFINE POINT TABLE crash (year INT) x", "DEFINE POINT TABLE c (a INT, a INT)",
+        "DEFINE POINT TABLE c (a TEXT(121))", "DEFINE POINT TABLE c (a TEXT(0))", "DEFINE POINT TABLE c (%s)" % ", ".join("a%d INT" % number for number in range(17)), "DEFINE POINT TABLE c (%s, x TEXT(1))" % wide,
+        "DEFINE POINT TABLE c (%s)" % wide, "DEFINE POINT TABLE c (a INT) ?", "DEFINE POINT TABLE c (a INT'", "", "x" * 5_000, "DEFINE POINT TABLE %s (a INT)" % ("n" * 33), POINTS, "\tDEFINE",
+    ):
+        for session in ("0", "17"):
+            reply = run("run", data=("%s %s\n" % (session, define)).encode())[1].decode()
+            status, out, errors = run("csv", define, "--session", session, data=b"")
+            if " OK " in reply:
+                expect("a definition", (status, out, errors), (0, b"", b""))
+            else:
+                told = "error: %s: %s %s\n" % (reply[reply.index("ERR"):-1], session, define)
+                expect("refused: %.60s" % define, (status, out, errors.decode()), (2, b"", told))
 
 
 def check_separators():
@@ -457,17 +679,21 @@ def check_separators():
 
 
 def check_widest():
-    """Sixteen columns with texts of 120 bytes, whose rows take 960 bytes. A table of 961 is refused by `run`, and each of its rows then."""
+    """Sixteen columns with texts of 120 bytes, whose rows take 960 bytes. A table of 961 is refused, as `run` does it."""
     head = ",".join(["route", "from", "to", *("c%d" % number for number in range(16))])
     texts = ["é" * 60, "'" * 120, '"' * 120, "€" * 40, "𝄞" * 30, "", " " * 120]
     values = ["'%s'" % text.replace("'", "''") if text else "NULL" for text in texts] + ["%d" % (number - 4) for number in range(8)]
-    for bytes_left, replies in ((40, b"0 OK 0\n0 OK 0\n0 OK 1000\n"), (41, b"0 OK 0\n0 ERR 27 limit\n0 ERR 21 no such name\n")):
+    for bytes_left in (40, 41):
         types = ["TEXT(120)"] * 7 + ["INT"] * 8 + ["TEXT(%d)" % bytes_left]
         define = "DEFINE LINE TABLE wide (%s)" % ", ".join("c%d %s" % one for one in enumerate(types))
         records = [["A", "0", "1", *texts, *values[7:], "z" * bytes_left]]
         lines = ("0 %s\n0 INSERT INTO wide ON A FROM 0 TO 1 VALUES (%s, '%s')\n" % (define, ", ".join(values), "z" * bytes_left)).encode()
-        expect("the widest record", run("csv", define, data=csv_of(records, "\n", head.split(","))), (0, lines, b""))
-        expect("its replies", run("run", data=b"0 DEFINE ROUTE A FROM 0 TO 10\n" + lines), (0, replies, b""))
+        got = run("csv", define, data=csv_of(records, "\n", head.split(",")))
+        if bytes_left == 41:
+            expect("a wider table", got, (2, b"", ("error: ERR 27 limit: 0 %s\n" % define).encode()))
+            continue
+        expect("the widest record", got, (0, lines, b""))
+        expect("its replies", run("run", data=b"0 DEFINE ROUTE A FROM 0 TO 10\n" + lines), (0, b"0 OK 0\n0 OK 0\n0 OK 1000\n", b""))
     expect("a text of 121 bytes", run("csv", "DEFINE LINE TABLE wide (c0 TEXT(121))", data=b"")[:2], (2, b""))
 
 
@@ -511,10 +737,13 @@ def check_explained():
 
 def check_options(explained):
     """Each option of `csv` that an explanation leads to is one of its help, and each line that is shown as refused is refused so."""
-    options = set(re.findall(r"--[a-z-]+", run("csv", "--help")[1].decode()))
+    options = set(re.findall(r"--[a-z0-9-]+", run("csv", "--help")[1].decode()))
     parts = dict(re.findall(r"^([0-9]+) (.*(?:\n    .*)+)", explained, re.MULTILINE))
-    led = {number: re.findall(r"^    By csv:  .*?(--[a-z-]+)", part, re.MULTILINE) for number, part in parts.items()}
-    wanted = {"3": "--session", "12": "--round", "20": "--routes", "24": "--no-define", "30": "--routes", "31": "--at"}
+    led = {number: re.findall(r"^    By csv:  .*?(--[a-z0-9-]+)", part, re.MULTILINE) for number, part in parts.items()}
+    wanted = {
+        "1": "--latin1", "3": "--session", "10": "--names", "11": "--names", "12": "--round", "20": "--routes", "22": "--column", "24": "--no-define", "30": "--routes", "31": "--at",
+        "33": "--scale",
+    }
     expect("the options", {number: found[0] for number, found in led.items() if found}, wanted)
     expect("options of csv", set(wanted.values()) - options, set())
     for number, words in (("10", [" ; ", " * ", ' " ', " != ", " . "]), ("33", ["comparison", "SUM"]), ("3", ["Comments", "blank lines", "quit"])):
@@ -657,6 +886,10 @@ def main():
         check_names()
         check_scales()
         check_made_names()
+        check_numbered()
+        check_rejects()
+        check_stations()
+        check_definitions()
         check_separators()
         check_widest()
         check_loading()

@@ -395,8 +395,8 @@ def a_file_of_each_kind_of_definition_is_opened(program):
 
 
 def files_of_earlier_builds_are_answered_from(program):
-    names = sorted(name[: -len(".road")] for name in os.listdir(KEPT) if name.endswith(".road"))
-    kept = {name: bytes_at(os.path.join(KEPT, name + ".road")) for name in names}
+    names = sorted(name[: -len(".seg")] for name in os.listdir(KEPT) if name.endswith(".seg"))
+    kept = {name: bytes_at(os.path.join(KEPT, name + ".seg")) for name in names}
     expect("how many files are kept", len(names) >= 4, True)
     expect("dead records in kept files", [Pages(data).directory().dead() for data in kept.values()], [0, 6, 0, 0])
     for name in names:
@@ -413,7 +413,7 @@ def files_of_earlier_builds_are_answered_from(program):
 
 def a_file_of_an_earlier_build_is_refused_where_it_is_damaged(program):
     """The closed file of a row that was entered four times. What is refused keeps its bytes."""
-    data = bytes_at(os.path.join(KEPT, "one-row.road"))
+    data = bytes_at(os.path.join(KEPT, "one-row.seg"))
     route = b"\1A" + b"".join(number.to_bytes(4, "big") for number in (0, 0, 10_000))  # before its birth
     birth = data.index(route) + len(route)
     for name, changes, said in (

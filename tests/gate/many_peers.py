@@ -15,9 +15,9 @@ import tempfile
 import time
 
 import folders  # noqa: F401, the path of modules
-from runs import LONGEST, Program, line_sent_to, received, reset, serving
 from harness import Wrong, expect, named, parser_of, summary
 from programs import PROGRAM
+from runs import LONGEST, Program, line_sent_to, received, reset, serving
 
 SHARE, ALL = 800, 10_000
 FIRST = 100  # peers, after which memory is looked at first

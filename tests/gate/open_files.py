@@ -34,6 +34,7 @@ from typing import NamedTuple
 import folders  # noqa: F401, the path of modules
 from file_questions import Exchange
 from file_writer import DAMAGED, NOT_CLOSED, OK
+from files_by_hand import files, in_version, inserted
 from forked import Forked, Job
 from harness import Wrong, summary
 from programs import PROGRAM, library_of, replies_of, scratch_folder
@@ -42,7 +43,6 @@ from read_again import Readings, Talk
 from slow_checkpoint import after_opening, is_at_rest
 from slow_file import lines_of
 from slow_journal import FIRST_VERSION, LAST_VERSION, PAGE_BYTES
-from files_by_hand import files, in_version, inserted
 
 BATCH = 25  # files that a process compares before it gives its counts
 LONGEST_RUN = 120  # seconds

@@ -10,9 +10,9 @@ from typing import NamedTuple
 
 from conversation_files import exchanges_of
 from file_writer import Alignment, Description, Route, Table, View, written
+from files_by_hand import SOUND
 from random_files import RandomFile
 from random_lines import RandomLines
-from files_by_hand import SOUND
 
 # Conversations that leave something long, much or odd.
 LIMITS = (

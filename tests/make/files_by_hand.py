@@ -6,7 +6,6 @@ inserted four times, and one with something of each kind; legal oddities of thes
 each. What is wanted is OK, ERR 94 for a file that stands for no state, ERR 95 for one of version 1 that was not closed.
 """
 
-from files_by_field import changed_fields
 from file_writer import (
     DAMAGED,
     LIVING,
@@ -25,6 +24,7 @@ from file_writer import (
     View,
     written,
 )
+from files_by_field import changed_fields
 
 MOST_CHANGES = 2**63 - 1
 LONGEST_LINE = 4096

@@ -10,9 +10,9 @@ import random
 from functools import lru_cache
 
 from file_writer import LIVING, PAGE_BYTES, Alignment, Index, Record, Referent, Table, written
+from files_by_hand import SOUND
 from random_files import NUMBERS
 from slow_checkpoint import in_first_version, with_journal
-from files_by_hand import SOUND
 
 SIZES = (5, 8, 13, 20, 35, 60, 120, 300, 1_000, 3_000)  # pages
 ROWS_OF_A_PAGE = 4

@@ -10,8 +10,8 @@ from copy import copy
 from functools import partial
 
 from file_writer import LIVING, PAGE_BYTES, Alignment, Index, Record, Referent, Route, View, written
-from slow_checkpoint import pages_of, with_journal
 from files_by_hand import SOUND
+from slow_checkpoint import pages_of, with_journal
 
 NUMBERS = [0, 1, 2, 3, 4, 6, 7, 16, 20, 63, 64, 127, 128, 255, 256, 1_000, 4_080, 4_081, 4_095, 4_096, 10_000]
 NUMBERS += [999_999_999, 10**9]

@@ -9,9 +9,9 @@ from typing import NamedTuple
 
 from device_calls import SYNC, Write, applied
 from file_writer import DAMAGED, NOT_CLOSED, OK, Description, Record, Referent, Route, Table, written
+from files_by_hand import various
 from slow_checkpoint import FIELDS, changed_pages, fields_of, migration, number, with_journal
 from slow_journal import GATE, NO_PAGES, OPEN, PAGE_BYTES, VERSION
-from files_by_hand import various
 
 BEFORE, AFTER = 7, 8  # accepted changes
 MANY = 1_025

@@ -20,6 +20,8 @@ The state is a line for each thing, measures in thousandths, all names in the or
     piece ROUTE FROM TO ROUTE ONTO                    of the alignment before it
     referent ROUTE NAME MEASURE
     span TABLE ROUTE FROM TO VALUE ..                 by table and route in printing order; values as in ROW lines
+
+decision: slow-machine-in-python
 """
 
 import argparse

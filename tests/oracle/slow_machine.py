@@ -16,6 +16,8 @@ A further command is a class in slow_commands.py, a function that reads it, and 
 case of `serve` and a function. A further operator is a class there, a line of the
 reader's `operators`, a case of `node` with a class of its own in slow_queries.py, and a
 case of `place` in slow_plans.py.
+
+decision: slow-machine-in-python
 """
 
 import sys

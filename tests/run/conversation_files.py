@@ -15,6 +15,8 @@ Each line of a conversation begins with a mark:
 An empty line says nothing. `>` alone sends an empty line. Escapes are `\\xHH` for a byte, `\\r`, `\\t`, `\\\\`, and
 `\\{N:text}` for N times the text; none of them makes an LF. Inside `@for`, `${EXPR}` is the value of EXPR, made of i,
 digits, + - * ( ), and `${m:EXPR}` is that number of thousandths as a measure.
+
+decision: conversations
 """
 
 import os

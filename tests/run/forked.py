@@ -2,6 +2,8 @@
 
 It is the same program that runs, from where it opens its file; but the system does not start it anew for each run, nor load and
 bind its libraries, nor does it look at its words again. Some runs are asked for at once, and made one after another.
+
+decision: forks-of-one-start
 """
 
 import os

@@ -1,5 +1,8 @@
 """Runs of the program in which a growth is refused, a device call fails, or the disk lies: refusing.c is loaded before it, and
-tells of it."""
+tells of it.
+
+decision: refused-in-what-runs
+"""
 
 import mmap
 import os

@@ -1,4 +1,7 @@
-"""The client: it sends lines to a RoadSeg, one after another, and reads what is answered."""
+"""The client: it sends lines to a RoadSeg, one after another, and reads what is answered.
+
+decision: whole-answers
+"""
 
 from __future__ import annotations
 

@@ -2,6 +2,8 @@
 
 Texts are told apart by colours and, where they are more than colours, by hatches; numbers by classes, from light to dark. All
 goes by the sorted values of the whole column. A colour may also be given: `surface:asphalt=#4477AA`.
+
+decision: colours-by-column
 """
 
 from __future__ import annotations

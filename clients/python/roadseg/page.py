@@ -5,6 +5,8 @@
 
 Each table has a band, and so has each query. The page has all rows, packed, and a script that draws them: `page.html`,
 `page.css` and the scripts beside this module. The same file gives the same bytes.
+
+decision: page-with-all-rows
 """
 
 from __future__ import annotations

@@ -55,6 +55,7 @@ class Process:
 
     def __init__(self, words: Sequence[str]) -> None:
         pipe = subprocess.PIPE
+        # decision: own-session-of-the-system
         self._process = subprocess.Popen(words, bufsize=0, stdin=pipe, stdout=pipe, stderr=pipe, start_new_session=True)
         assert self._process.stdin and self._process.stdout
         self._input, self._output = self._process.stdin.fileno(), self._process.stdout.fileno()

@@ -8,8 +8,8 @@ import sys
 from contextlib import suppress
 
 from client_parts import CLIENTS, DEFINED, expect_error, measures, roadseg, running
-from runs import LONGEST
 from harness import bytes_at, expect
+from runs import LONGEST
 
 LINE = "INSERT INTO pave ON A FROM %d TO %d VALUES ('AC')"
 

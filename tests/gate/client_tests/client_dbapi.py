@@ -6,9 +6,9 @@ from decimal import Decimal as D
 
 from client_parts import DEFINED, NETWORK, expect_error, measures, roadseg
 from client_peers import played
-from runs import LONGEST, serving
 from harness import expect
 from roadseg import dbapi
+from runs import LONGEST, serving
 
 NAMES = "Warning Error InterfaceError DatabaseError DataError OperationalError IntegrityError InternalError ProgrammingError NotSupportedError"
 

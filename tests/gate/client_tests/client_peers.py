@@ -10,11 +10,11 @@ from contextlib import contextmanager, suppress
 from decimal import Decimal as D
 
 from client_parts import SEED, expect_error, expect_refused, roadseg
-from runs import LONGEST
 from harness import Wrong, expect
 from prepared import Prepared
 from roadseg import dbapi, diagram
 from roadseg.replies import Ending
+from runs import LONGEST
 
 # Servers that fail.
 

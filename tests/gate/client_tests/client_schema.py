@@ -3,9 +3,9 @@
 from decimal import Decimal as D
 
 from client_parts import DEFINED, NETWORK, expect_error, measures, network, roadseg, running
-from runs import LONGEST, serving
 from harness import expect
 from roadseg.schema import Alignment, Column, Index, Piece, Route, Table, View
+from runs import LONGEST, serving
 
 MORE = (
     "DEFINE INDEX by_surface ON pavement (surface)",

@@ -17,8 +17,8 @@ from decimal import Decimal as D
 from typing import NamedTuple
 
 from client_parts import CLIENTS, NETWORK, SEED, expect_error, network, roadseg
-from runs import LONGEST
 from harness import Wrong, expect
+from runs import LONGEST
 
 import diagram  # of the clients, whose folder client_parts names
 import labels

@@ -1,22 +1,27 @@
 """Runs the scripts of README and COOKBOOK that use the clients: tests/gate/clients.py runs these tests beside its own.
 
 The scripts of a section are its blocks of `python` and of `sh`. They run in order, in a folder with the cookbook's network
-in `roads.seg`, and each has to print what the next block has, where that is of no language, and else nothing.
+in `network.seg`, and each has to print what the next block has, where that is of no language, and else nothing.
 """
 
 import os
+import socket
 import subprocess
 import sys
 from typing import NamedTuple
 
 from client_parts import CLIENTS, NETWORK
-from runs import LONGEST, serving
 from harness import Wrong, bytes_at, expect
 from programs import ROOT
+from runs import LONGEST, received, serving
 
 COOKBOOK = os.path.join(ROOT, "docs", "COOKBOOK.md")
 README = os.path.join(ROOT, "README.md")
 PACKAGE = os.path.join(CLIENTS, "README.md")
+NETWORK_IN = "How does an office's network go in?"
+CSV_IN = "How does an office's CSV go in, and what was left out again?"
+LATER = "How does the inventory move to a later version?"
+LOCKED = "Does the lock hold on a shared drive?"
 ASKED = "How is the inventory asked from Python?"
 DRAWN = "How is a diagram of a road drawn?"
 LOOKED_AT = "How is a network looked at in a browser?"
@@ -24,6 +29,7 @@ PAGED = "How does an office's CSV become a page to look at?"
 FROM_CSV = "How do two CSV files become a payment table and a diagram?"
 BY_SHELL = "How does a CSV become a table, and that a payment table, in the shell?"
 BY_NAMES = "How do routes such as I-95, and numbers with decimals, go in?"
+BY_STATIONS = "How do measures in stations go in, and two crashes at one place?"
 ASKED_AS_CSV = "How does an answer become a CSV for a spreadsheet?"
 AS_TEXT = "How is the inventory kept as plain text, and what changed between two days?"
 KEPT = "How does an office keep its inventory?"
@@ -88,7 +94,7 @@ def run_section(program, path, heading):
 def run_block(program, block):
     if "roadseg.connect(" not in block.text:
         return run_script(program, block)
-    with serving(program, program.file("roads.seg"), 1) as server:
+    with serving(program, program.file("network.seg"), 1) as server:
         done = run_script(program, block._replace(text=block.text.replace(SERVED, str(server.port))))
         server.expect_end()
     return done
@@ -97,7 +103,7 @@ def run_block(program, block):
 def run_script(program, block, options="-euo"):
     words = [sys.executable, "-c"] if block.language == "python" else ["bash", options, "pipefail", "-c"]
     path = os.pathsep.join([program.folder, os.path.dirname(program.path), os.path.dirname(sys.executable), os.environ["PATH"]])
-    variables = {**os.environ, "PATH": path, "PYTHONPATH": CLIENTS}
+    variables = {**os.environ, "PATH": path, "PYTHONPATH": CLIENTS, "ROADSEG": ROOT}
     return subprocess.run([*words, block.text], cwd=program.folder, env=variables, capture_output=True, timeout=PATIENCE)
 
 
@@ -114,16 +120,32 @@ def prepare(program):
     """The folder of a reader of the documents, who has entered the network."""
     for name in ("clients", "examples"):
         os.symlink(os.path.join(ROOT, name), program.file(name))
-    file = program.file("roads.seg")
+    file = program.file("network.seg")
     program.expect(["create", "--file", file], b"", b"")
     done = program.run("run", "--file", file, sent=bytes_at(NETWORK))
     expect("the network", (done.status, done.errors, b" ERR " in done.out), (0, b"", False))
 
 
+def in_checkout():
+    """The files and folders of the repository but for what is built."""
+    found = set()
+    for at, names, files in os.walk(ROOT):
+        names[:] = [name for name in names if name not in (".git", "out", "__pycache__")]
+        found.update(os.path.join(at, name) for name in [*names, *files])
+    return found
+
+
+def what_the_readme_says_is_so(program):
+    """Its scripts are followed in a folder of the reader's own, and leave nothing in the checkout."""
+    before = in_checkout()
+    expect("scripts", run_section(program, README, "Try it") + run_section(program, README, "From Python"), 2)
+    expect("what is left in the checkout", in_checkout() - before, set())
+
+
 def the_inventory_is_asked_from_python(program):
     prepare(program)
-    expect("scripts of README", run_section(program, README, "From Python"), 1)
     expect("scripts of COOKBOOK", run_section(program, COOKBOOK, ASKED), 4)
+    os.rename(program.file("network.seg"), program.file("roads.seg"))
     for heading in ("Lines and rows", "DB-API 2", "What lines can't ask"):
         expect("scripts of the package", run_section(program, PACKAGE, heading), 1)
 
@@ -165,14 +187,41 @@ def csv_becomes_a_payment_table_in_the_shell(program):
     expect("scripts", run_section(program, COOKBOOK, BY_SHELL), 1)
 
 
-def names_are_made_and_numbers_scaled_in_the_shell(program):
+def names_are_made_numbers_scaled_and_stations_read_in_the_shell(program):
     prepare(program)
-    expect("scripts", run_section(program, COOKBOOK, BY_NAMES), 1)
+    expect("scripts", run_section(program, COOKBOOK, BY_NAMES) + run_section(program, COOKBOOK, BY_STATIONS), 2)
+
+
+def an_office_enters_its_network_and_its_csv(program):
+    expect("scripts", run_section(program, COOKBOOK, NETWORK_IN) + run_section(program, COOKBOOK, CSV_IN), 3)
+
+
+def a_file_moves_and_is_locked(program):
+    prepare(program)
+    expect("scripts", run_section(program, COOKBOOK, LATER) + run_section(program, COOKBOOK, LOCKED), 2)
+
+
+def a_run_answers_a_socket(program):
+    """As a service manager starts it, with the connection as both of its streams."""
+    prepare(program)
+    with socket.create_server(("127.0.0.1", 0)) as listener:
+        peer = socket.create_connection(listener.getsockname(), timeout=LONGEST)
+        connection, _ = listener.accept()
+    words = [program.path, "run", "--file", program.file("network.seg")]
+    with connection, subprocess.Popen(words, stdin=connection, stdout=connection, stderr=subprocess.PIPE) as process:
+        connection.close()
+        with peer:
+            peer.sendall(b"0 REMOVE speed ON SR12\n0 TOTAL pavement BY (surface)\n")
+            peer.shutdown(socket.SHUT_WR)
+            answers = received(peer)
+        expect("its end", (process.wait(LONGEST), process.stderr.read()), (0, b""))
+    expect("its answers", answers.split(b"\n", 1)[1], b"0 ROW 'asphalt' 19.725\n0 ROW 'concrete' 35.300\n0 OK 2\n")
+    program.expect(["run", "--file", program.file("network.seg")], b"0 SELECT WINDOW(speed, SR12)\n", b"0 OK 0\n")
 
 
 def an_answer_becomes_a_csv(program):
     prepare(program)
-    expect("scripts", run_section(program, COOKBOOK, ASKED_AS_CSV), 1)
+    expect("scripts", run_section(program, COOKBOOK, ASKED_AS_CSV), 3)
 
 
 def the_inventory_is_kept_as_plain_text(program):
@@ -195,11 +244,11 @@ def an_office_keeps_a_file_its_copies_and_a_longer_one(program):
     expect_printed(program, LONGER, ["longer\n"])
     asked = b"0 TRANSLATE US40 100% AS ABSOLUTE\n0 TOTAL speed BY ()\n"
     program.expect(["run", "--file", program.file("longer.seg")], asked, b"0 ROW 150.000\n0 OK 1\n0 ROW 56.625\n0 OK 1\n")
-    with open(program.file("roads.seg"), "r+b") as file:
+    with open(program.file("network.seg"), "r+b") as file:
         file.truncate(5_000)
-    program.expect(["run", "--file", program.file("roads.seg")], b"", b"", b"roadseg: ERR 94 damaged file\n")
+    program.expect(["run", "--file", program.file("network.seg")], b"", b"", b"roadseg: ERR 94 damaged file\n")
     expect_printed(program, REFUSED, [""])
-    program.expect(["run", "--file", program.file("roads.seg")], asked[34:], b"0 ROW 56.625\n0 OK 1\n")
+    program.expect(["run", "--file", program.file("network.seg")], asked[34:], b"0 ROW 56.625\n0 OK 1\n")
 
 
 def a_report_is_asked_for_over_the_network(program):
@@ -210,8 +259,8 @@ def a_report_is_asked_for_over_the_network(program):
     os.chmod(program.file("nc"), 0o755)
     serve, asked = [block for block in blocks_of(COOKBOOK, NETWORKED) if block.language == "sh"]
     [printed] = [block for block in blocks_of(COOKBOOK, NETWORKED) if not block.language]
-    expect("what serves", serve.text, "roadseg serve --file roads.seg --connections 2\n")
-    with serving(program, program.file("roads.seg"), 2) as server:
+    expect("what serves", serve.text, "roadseg serve --file network.seg --connections 2\n")
+    with serving(program, program.file("network.seg"), 2) as server:
         done = run_script(program, asked._replace(text=asked.text.replace(SERVED, str(server.port))))
         totals = "3 ROW 'asphalt' 19.725\n3 ROW 'concrete' 35.300\n3 OK 2\n"
         expect("what is printed", (done.stdout.decode(), done.stderr), (printed.text + totals, b""))
@@ -223,11 +272,15 @@ def each_script_of_the_cookbook_is_run(_program):
     with open(COOKBOOK, encoding="utf-8") as file:
         headings = [line[3:].rstrip("\n") for line in file if line.startswith("## ")]
     with_scripts = [one for one in headings if any(block.language in ("python", "sh") for block in blocks_of(COOKBOOK, one))]
-    run = {ASKED, DRAWN, LOOKED_AT, PAGED, FROM_CSV, BY_SHELL, BY_NAMES, ASKED_AS_CSV, AS_TEXT, KEPT, SENT_AGAIN, BACKED_UP, LONGER, REFUSED, NETWORKED}
+    run = {NETWORK_IN, CSV_IN, LATER, LOCKED, ASKED, DRAWN, LOOKED_AT, PAGED, FROM_CSV, BY_SHELL, BY_NAMES, BY_STATIONS, ASKED_AS_CSV, AS_TEXT, KEPT, SENT_AGAIN, BACKED_UP, LONGER, REFUSED, NETWORKED}
     expect("sections with scripts", set(with_scripts), run)
 
 
 DOCUMENT_TESTS = [
+    an_office_enters_its_network_and_its_csv,
+    a_file_moves_and_is_locked,
+    a_run_answers_a_socket,
+    what_the_readme_says_is_so,
     an_office_keeps_a_file_its_copies_and_a_longer_one,
     refused_lines_are_mended_and_sent_again,
     a_report_is_asked_for_over_the_network,
@@ -238,7 +291,7 @@ DOCUMENT_TESTS = [
     csv_becomes_a_page_in_five_commands,
     two_csv_files_become_a_payment_table_and_a_diagram,
     csv_becomes_a_payment_table_in_the_shell,
-    names_are_made_and_numbers_scaled_in_the_shell,
+    names_are_made_numbers_scaled_and_stations_read_in_the_shell,
     an_answer_becomes_a_csv,
     the_inventory_is_kept_as_plain_text,
 ]

@@ -9,9 +9,9 @@ import subprocess
 from decimal import Decimal as D
 
 from client_parts import HERE, network, running
-from runs import LONGEST
 from harness import expect
 from pages import NODE, QUESTIONS, asked_of, dense, page_of
+from runs import LONGEST
 
 STEPS = os.path.join(HERE, "page_steps.js")
 SR12 = "#SR12"

@@ -20,10 +20,10 @@ from html.parser import HTMLParser
 
 from client_parts import CLIENTS, HERE, NETWORK, SEED, expect_error, network, roadseg, running
 from diagrams import NASTY
-from runs import LONGEST, serving
 from harness import bytes_at, expect
 from prepared import client_of_answers, lines_run, measure
 from roadseg import colours, page
+from runs import LONGEST, serving
 
 CALLS = os.path.join(HERE, "page_calls.js")
 NODE = shutil.which("node")

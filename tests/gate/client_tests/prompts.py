@@ -10,8 +10,8 @@ import sys
 import time
 
 from client_parts import CLIENTS, DEFINED, NETWORK, measures, running
-from runs import LONGEST, serving
 from harness import Wrong, bytes_at, expect
+from runs import LONGEST, serving
 
 PROMPT, MORE = "roadseg> ", "    ...> "
 # Takes the terminal as its own, as a shell's child has it, so that Ctrl-C reaches it; and becomes the prompt.

@@ -1,5 +1,7 @@
 """The slow checkpoint itself, judged as a program's is, and the same with a fault planted in the order of its calls: each of these
 has to be found by some image. So what the judge of crashes can find is known without a program.
+
+decision: judge-tried-first
 """
 
 import random
