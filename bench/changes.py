@@ -69,7 +69,7 @@ class Program:
     """The built program, in memory or over a file."""
 
     def __init__(self, program, folder):
-        self.program, self.path = os.path.abspath(program), os.path.join(folder, "f.road")
+        self.program, self.path = os.path.abspath(program), os.path.join(folder, "f.seg")
 
     def run(self, lines, is_in_file):
         words = [self.program, "run"]

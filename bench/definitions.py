@@ -4,7 +4,7 @@
     bench/definitions.py [--program crates/roadseg/out/roadseg] [--before PROGRAM] [--routes 4096] [--tables 128]
         [--referents 500,999] [--stops 4000] [--fetches 2000]
 
-It counts by `valgrind --tool=callgrind`, in memory, so many DEFINE ROUTE lines, so many DEFINE TABLE lines with four columns,
+It counts by `valgrind --tool=cachegrind`, in memory, so many DEFINE ROUTE lines, so many DEFINE TABLE lines with four columns,
 and so many DEFINE REFERENT lines on one route; and, over a file with so many routes of one span each, so many FETCHes of
 one row, beside the opening of the file and of the cursor. With --before the same is counted of another build, and the
 ratio is printed. Counts are the same in each run.
@@ -15,7 +15,7 @@ import subprocess
 import sys
 import tempfile
 
-from copies import instructions_of
+import measuring
 from measuring import PROGRAM, exponent_of, parser_of
 
 
@@ -37,45 +37,41 @@ def stops_of(count):
     return routes_of(count) + ["0 DEFINE LINE TABLE t (n INT)"] + spans
 
 
-def written(folder, name, lines):
-    path = os.path.join(folder, name)
-    with open(path, "w", encoding="ascii") as file:
-        file.write("".join(line + "\n" for line in lines))
-    return path
+def text(lines):
+    return "".join(line + "\n" for line in lines).encode()
 
 
 def file_with(program, folder, lines):
     """A file that the program made of these lines."""
-    path = os.path.join(folder, "stops.road")
+    path = os.path.join(folder, "stops.seg")
     subprocess.run([program, "create", "--file", path], check=True)
-    with open(written(folder, "stops", lines), encoding="ascii") as source:
-        answer = subprocess.run([program, "run", "--file", path], stdin=source, stdout=subprocess.PIPE, check=True).stdout
+    answer = subprocess.run([program, "run", "--file", path], input=text(lines), stdout=subprocess.PIPE, check=True).stdout
     assert b" ERR " not in answer, answer[:200]
     return path
 
 
-def of_lines(program, folder, lines):
-    """The instructions of a run in memory over these lines."""
-    return instructions_of([program, "run"], folder, written(folder, "lines", lines))
+def of_lines(command, lines):
+    """The instructions of a run over these lines."""
+    count, answer = measuring.counted(command, text(lines), tool="cachegrind")
+    assert b" ERR " not in answer, answer[answer.index(b" ERR ") :][:100]
+    return count
 
 
 def of_fetches(program, folder, stops, fetches):
     """The instructions of FETCHes of one row each, beside those of a run that opens the cursor alone."""
-    path = file_with(program, folder, stops_of(stops))
+    command = [program, "run", "--file", file_with(program, folder, stops_of(stops))]
     opened = ["0 OPEN c FOR t"]
-    command = [program, "run", "--file", path]
-    alone = instructions_of(command, folder, written(folder, "lines", opened))
-    return instructions_of(command, folder, written(folder, "lines", opened + ["0 FETCH c 1"] * fetches)) - alone
+    return of_lines(command, opened + ["0 FETCH c 1"] * fetches) - of_lines(command, opened)
 
 
 def counted(program, words):
     """What is counted, by its name."""
     counts = {}
     with tempfile.TemporaryDirectory() as folder:
-        counts["%d DEFINE ROUTE" % words.routes] = of_lines(program, folder, routes_of(words.routes))
-        counts["%d DEFINE TABLE" % words.tables] = of_lines(program, folder, tables_of(words.tables))
+        counts["%d DEFINE ROUTE" % words.routes] = of_lines([program, "run"], routes_of(words.routes))
+        counts["%d DEFINE TABLE" % words.tables] = of_lines([program, "run"], tables_of(words.tables))
         for count in words.referents:
-            counts["%d DEFINE REFERENT" % count] = of_lines(program, folder, referents_of(count))
+            counts["%d DEFINE REFERENT" % count] = of_lines([program, "run"], referents_of(count))
         counts["%d FETCHes over %d routes" % (words.fetches, words.stops)] = of_fetches(program, folder, words.stops, words.fetches)
     return counts
 

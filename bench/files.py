@@ -51,7 +51,7 @@ class Files:
     """The program's file and the shell's, in a folder."""
 
     def __init__(self, program, folder):
-        self.program, self.road, self.lite = program, os.path.join(folder, "f.road"), os.path.join(folder, "f.db")
+        self.program, self.road, self.lite = program, os.path.join(folder, "f.seg"), os.path.join(folder, "f.db")
 
     def clear(self):
         for path in (self.road, self.lite, self.lite + "-wal", self.lite + "-shm"):

@@ -166,7 +166,7 @@ def main():
     parser.add_argument("--before", help="another build of the program")
     words = parser.parse_args()
     with tempfile.TemporaryDirectory(dir=words.folder or ".") as folder:
-        road, lite = Road(words.program, os.path.join(folder, "f.road")), Lite(os.path.join(folder, "f.db"))
+        road, lite = Road(words.program, os.path.join(folder, "f.seg")), Lite(os.path.join(folder, "f.db"))
         found = [save_one_by_one(road, lite, words.saved) for _ in range(words.rounds)]
         tell("%d rows saved one by one" % words.saved, *best_of(found))
         spans = loads_of(words.pages)
@@ -176,7 +176,7 @@ def main():
         print("pages then: %d, sqlite3 %d" % tuple(os.path.getsize(file.path) // PAGE_BYTES for file in (road, lite)))
         roads = [road]
         if words.before:
-            roads.append(Road(words.before, os.path.join(folder, "before.road")))
+            roads.append(Road(words.before, os.path.join(folder, "before.seg")))
             roads[1].create([ROUTE % (1 + max(map(max, spans[0])) // 1_000), TABLE])
             for some in spans:
                 roads[1].answered([*(wide_line(*span) for span in some), SAVE])

@@ -5,9 +5,10 @@
                              [--jobs loads,removal,operators,totals,windows,window,dump,reopen,memory,csv,cursors,turns]
 
 It prints a table: a row for each job, with the tool beside it, the ratio that is wanted (and the aim), the ratio by instructions, the
-millions of instructions of both, and the milliseconds of one run of both. Instructions are counted by `valgrind --tool=callgrind`: the
-same in each run, whatever runs beside it; time is only told. Of a question that is the question alone, over a file, less opening and
-closing the file, and of sqlite3's windows and check likewise; else it is the whole process, and of a pipe all its processes.
+millions of instructions of both, and the milliseconds of a processor (user and system) of one run of both. Instructions are counted
+by `valgrind --tool=callgrind`: the same in each run, whatever runs beside it; time is only told. Of a question that is the question
+alone, over a file, less opening and closing the file, and of sqlite3's windows and check likewise; else it is the whole process, and
+of a pipe all its processes.
 
 Loads and removals are of --loaded spans on --routes routes, questions over --spans. `cursors` and `turns` have all spans on one route:
 one cursor and two in turn, 1,000 rows a FETCH; and --cursors cursors in turn, four a session, for one row each and for all rows.
@@ -15,13 +16,13 @@ one cursor and two in turn, 1,000 rows a FETCH; and --cursors cursors in turn, f
 
 import os
 import random
+import resource
 import shlex
 import shutil
 import sqlite3
 import subprocess
 import sys
 import tempfile
-import time
 from typing import NamedTuple
 
 import changes
@@ -109,6 +110,12 @@ class Alone(NamedTuple):
         return "| %s | | %s | | %s | |" % self
 
 
+def processor():
+    """The seconds of a processor of the processes that ended so far."""
+    used = resource.getrusage(resource.RUSAGE_CHILDREN)
+    return used.ru_utime + used.ru_stime
+
+
 def text(lines):
     return "".join(line + "\n" for line in lines).encode()
 
@@ -120,9 +127,9 @@ def taken(command, lines=(), folder=None, ready=lambda: None):
     count, answer = counted(command, data, folder)
     assert b" ERR " not in answer, answer[answer.index(b" ERR ") :][:100]
     ready()
-    begun = time.perf_counter()
+    begun = processor()
     subprocess.run(command, input=data, stdout=subprocess.PIPE, cwd=folder, check=True)
-    return Taken(count, time.perf_counter() - begun, answer)
+    return Taken(count, processor() - begun, answer)
 
 
 def run(words, file):
@@ -321,7 +328,7 @@ def main():
     if missing:
         sys.exit("missing: " + ", ".join(missing))
     os.environ["LC_ALL"] = "C"
-    print("| Job | Beside | Ratio wanted (aim) | Ratio by instructions | Millions of instructions, ours and theirs | Milliseconds told |")
+    print("| Job | Beside | Ratio wanted (aim) | Ratio by instructions | Millions of instructions, ours and theirs | Milliseconds of a processor |")
     print("|---|---|---|---|---|---|")
     for job in words.jobs.split(","):
         with tempfile.TemporaryDirectory() as folder:
