@@ -27,6 +27,12 @@ CRASHES = "DEFINE POINT TABLE crashes (severity TEXT(20), cars INT)"
 NUMBERED = "DEFINE POINT TABLE numbered (nr INT, severity TEXT(20), cars INT)"
 SPEEDS = "DEFINE LINE TABLE speeds (mph INT, sign TEXT(20))"
 SURFACES = ["asphalt", "Asphalt, hot mix", 'so-called "seal"', "O'Brien's mix", "béton", " gravel ", "", None]
+SPOILT = [  # the field, what a clerk writes there, what is told of it, and its kind at the end
+    (0, "", "route: an empty field is not a name", "not a name"),
+    (2, "end", "to: end is not a position", "not a position"),
+    (3, "55.5", "mph: 55.5 is not a whole number", "not a whole number"),
+    (1, "2.1622", "from: 2.1622 has four decimals", "too many decimals"),
+]
 SEVERITIES = ["injury", "none; unknown", 'a "near" miss', "zone blessée", None]
 
 
@@ -250,7 +256,42 @@ def check_speeds(day, count=500):
         comes_out(day, table, "route,from,to,mph,sign", facts, define)
 
 
-CHECKS = [check_network, check_pavement, check_crashes, check_speeds]
+def check_mended(day, count=500):
+    """Records with a spoilt field are told and left out, and go in once they are mended where they were written."""
+    header = ["route", "from", "to", "mph", "sign", '"left_out_because"']
+    define = SPEEDS.replace("speeds", "mended")
+    left, names = (os.path.join(day.folder, name) for name in ("left.csv", "names.csv"))
+    records, spoilt, facts, told, kinds, accepted = [], [], [], [], {}, set()
+    for number in range(1, count + 1):
+        route, mph, sign = day.chance.choice(ROUTES), day.chance.choice([25, 55, None]), day.chance.choice(["school", "limit, night", None])
+        begin, end = day.stretch(route)
+        records.append([quoted(route, ","), *("%d.%03d" % divmod(place, 1000) for place in (begin, end)), "" if mph is None else str(mph), quoted(sign, ",")])
+        facts.append(Fact(route, begin, end, (mph, sign)))
+        if day.chance.randrange(10) or len(spoilt) == 20 * len(SPOILT):
+            accepted.add(route)
+            continue
+        field, text, reason, kind = SPOILT[len(spoilt) % len(SPOILT)]
+        told.append("record %d, line %d, %s" % (number, number + 1, reason))
+        kinds[kind] = kinds.get(kind, 0) + 1
+        spoilt.append((number - 1, [*records[-1][:field], text, *records[-1][field + 1 :], '"%s"' % reason]))
+    first = list(records)
+    for place, record in spoilt:
+        first[place] = record[:-1]
+    told += ["records left out: %d" % len(spoilt), *("%s: %d" % (kind, kinds[kind]) for _, _, _, kind in SPOILT if kind in kinds)]
+    status, lines, errors = run("csv", define, "--names-file", names, "--rejects", left, data=csv_of(header[:-1], first).encode())
+    expect("what is told of spoilt fields", (status, errors.decode()), (1, "".join("roadseg: %s\n" % line for line in told)))
+    expect("the load beside them", run("run", "--file", day.file, "--bail", data=lines)[0], 0)
+    with open(left, encoding="utf-8") as rows:
+        expect("what was left out", rows.read(), csv_of(header, [record for _, record in spoilt], ending="\n"))
+    with open(names, encoding="utf-8") as rows:
+        wanted = ['"%s",%s' % (route, made_name(route)) for route in accepted]
+        expect("the names that were made", sorted(rows.read().splitlines()), sorted(["old,new", *wanted]))
+    again = csv_of(header, [[*records[place], record[-1]] for place, record in spoilt])
+    day.taken_in("the mended records", again.encode(), [define, "--names", "--no-define"])
+    comes_out(day, "mended", "route,from,to,mph,sign", facts, define)
+
+
+CHECKS = [check_network, check_pavement, check_crashes, check_speeds, check_mended]
 
 
 def main():
