@@ -199,7 +199,7 @@ def check_pavement(day, count=3_000):
     records += records[:50]
     rounded += sum(measure_of(place)[1] for record in records[:50] for place in record[1:3])
     header = ["RTE", "FROM", "to", "Surface", "Year built", '"Width, ft"']
-    words = [PAVEMENT, "--names", "--round", "--route", "rte", "--from", "FROM", "--column", "built=Year built", "--column", "width=Width, ft", "--scale", "width=10"]
+    words = [PAVEMENT, "--names", "--round", "--route", "rte", "--column", "built=Year built", "--column", "width=Width, ft", "--scale", "width=10"]
     told = "roadseg: measures rounded: %d\n" % rounded
     day.taken_in("the pavement", MARK + csv_of(header, records).encode(), words, told.encode())
     comes_out(day, "pavement", "route,from,to,surface,built,width", facts, PAVEMENT)

@@ -539,6 +539,7 @@ def check_made_names(count=20_000):
     line = b"0 INSERT INTO crash ON SR1 AT 3.5 VALUES (1999)\n"
     for header, words in (
         (b"Route,MP (mi),Year", ["--at", "MP (mi)"]), (b"Route,MP (mi),Year", ["--at", "mp__mi_"]), (b"Road No.,at,101", ["--route", "Road_No_", "--column", "year=101"]), (b" route ,at,year", []),
+        (b"ROUTE,AT,YEAR", []), (b"route,AT,year", ["--at", "AT_"]), (b"route,At,year", ["--at", "AT"]), (b"route,FROM,YEAR", ["--at", "from"]),
     ):
         got = run("csv", POINTS, "--no-define", "--names", *words, data=header + b"\nSR1,3.5,1999\n")
         expect(header.decode(), got, (0, line, b""))

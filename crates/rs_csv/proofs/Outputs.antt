@@ -1,11 +1,11 @@
 -- What is made of records, by one more step.
 use Rattle.std.proofs.Common.{◌≡◌, ◌∙◌, ℕ, ◌+◌, Bool, true, false, List, [], ◌∷◌, ◌++◌, Option, Some, None, refl, sym, ap, ap₂, subst, inl, inr, append_assoc, append-nil}
-use Rattle.std.specs.Prelude.{◌⊎◌, IfSome, IsSome, OnOk, Result, Ok, Err}
+use Rattle.std.specs.Prelude.{IfSome, IsSome, OnOk, Result, Ok, Err}
 use Rattle.std.specs.Io.KnownBytes.{Keeps}
 use Rattle.std.proofs.KnownBytes.{Keeps-refl, Keeps-trans}
 use Rattle.std.proofs.lemmas.Bool.{false≢true}
 use Rattle.csv.specs.Records.{fields_of}
-use Rattle.rs_syntax.specs.Tree.{CommandTree, define_route}
+use Rattle.rs_syntax.specs.Tree.{CommandTree}
 use Rattle.rs_machine.specs.Request.{Asks, command}
 use Rattle.rs_csv_lines.specs.declared.plan.Plan.{Plan}
 use Rattle.rs_csv_lines.specs.Inserts.{IsInsertOf}
@@ -14,6 +14,7 @@ use Rattle.rs_csv.specs.declared.filter.Progress.{Progress}
 use Rattle.rs_csv.specs.declared.filter.Wanted.{Wanted}
 use Rattle.rs_csv.specs.declared.made.Made.{Made}
 use Rattle.rs_csv.specs.Output.{IsPlanOf, IsPlanned, Known, known_of, AreLines, nothing, definition_line, route_line, insert_line, left_out, too_long, GoesOn, Makes, IsMade, IsMadeIn, IsOutput, IsQuiet}
+use Rattle.rs_csv.specs.Routes.{AddsRoute}
 use Rattle.rs_csv.specs.Texts.{IsOneText, KeepsTexts, text_of_name}
 
 -- ---- the errors stream
@@ -135,10 +136,9 @@ module _ (session : ℕ) (table : CommandTree) (plan : Plan) where
   pub definition_goes : (known : Known) (number : ℕ) (old new line : List ℕ) → new ≡ old ++ line ++ 10 ∷ [] → Asks line (command session table) → GoesOn session table plan known number number [] old new
   definition_goes known number old new line is asks = record { bytes = line ++ 10 ∷ []; grown = is ∙ append_assoc old line (10 ∷ []); lines = definition_line line nothing asks }
 
-  pub route_goes : (known : Known) (number : ℕ) (old new : List ℕ)
-      → (new ≡ old) ⊎ ((line name : List ℕ) × (start finish : ℕ) × Asks line (command session (define_route name start finish)) × (new ≡ old ++ line ++ 10 ∷ [])) → GoesOn session table plan known number number [] old new
-  route_goes known number old new (inl same) = same_goes known number old new same
-  route_goes known number old new (inr (line, name, start, finish, asks, is)) =
+  pub route_goes : (known : Known) (number : ℕ) (name : List ℕ) (ends : ℕ × ℕ) (old new : List ℕ) → AddsRoute session name ends old new → GoesOn session table plan known number number [] old new
+  route_goes known number name ends old new (inl same) = same_goes known number old new same
+  route_goes known number name ends old new (inr (line, start, finish, between, asks, is)) =
       record { bytes = line ++ 10 ∷ []; grown = is ∙ append_assoc old line (10 ∷ []); lines = route_line line name start finish nothing asks }
 
   pub lines_go : (known : Known) (before middle after : ℕ) (records more : List (List (List ℕ))) (old new : List ℕ) → GoesOn session table plan known middle after more old new

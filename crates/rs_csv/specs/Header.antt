@@ -31,10 +31,14 @@ abbrev pub AreSame : Case → List ℕ → List ℕ → Type 0
 AreSame cases.Kept text other = text ≡ other
 AreSame cases.Ignored text other = small text ≡ small other
 
--- they are one name: they are the same, or where names are made those that they are made are
+-- the names that are made of them are the same
+abbrev pub AreMadeSame : Case → List ℕ → List ℕ → Type 0
+AreMadeSame case text other = (name : List ℕ) × (other_name : List ℕ) × IsMadeName text name × IsMadeName other other_name × AreSame case name other_name
+
+-- they are one name: they are the same, or where names are made those that are made of them are
 abbrev pub AreOne : (makes_names : Bool) → Case → List ℕ → List ℕ → Type 0
 AreOne false case text other = AreSame case text other
-AreOne true case text other = (name : List ℕ) × (other_name : List ℕ) × IsMadeName text name × IsMadeName other other_name × AreSame case name other_name
+AreOne true case text other = AreSame case text other ⊎ AreMadeSame case text other
 
 -- the field of the header at a place is this name, in quotes or not
 abbrev pub Has : (makes_names : Bool) → Case → List (List ℕ) → List ℕ → ℕ → Type 0

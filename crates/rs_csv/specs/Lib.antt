@@ -1,6 +1,7 @@
 pub mod Quoting
 pub mod Header
 pub mod Texts
+pub mod Routes
 pub mod Rejects
 pub mod Cutting
 pub mod Reading

@@ -45,14 +45,11 @@ fn route_lines<E: Write>(job: &Job<'_>, made: &mut Made, errors: &mut E) -> Resu
     ensures quiet { OnOk result (IsQuiet made.old.has_told made.new.has_told (E.contents errors.old) (E.contents errors.new)) }
 {
     let mut lines = Vec::new(job.alloc);
-    let Some(mut extents) = made.extents.take() else {
+    let Some(extents) = made.extents.take() else {
         return Ok(lines);
     };
-    'routes: for _ in 0..u64::MAX {
-        match extents.pop_first() {
-            Some(route) => put_route(job, route, &mut lines, made, errors)?,
-            None => return Ok(lines),
-        }
+    for (name, extent) in extents.iter() {
+        put_route(job, (*name, *extent), &mut lines, made, errors)?;
     }
     Ok(lines)
 }

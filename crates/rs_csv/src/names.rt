@@ -1,12 +1,12 @@
 //! A look for a name in the header: which field has it.
 //!
 //! It promises that the field is the only one that has the name as it is written, or where none has it so, the only one that has it in
-//! letters of another case. Where names are made, those of the field and of what is looked for are compared.
+//! letters of another case. Where names are made, it has it too where those that the two are made are the same.
 
 ghost use Rattle.std.specs.Prelude.{◌≡◌, ◌↔◌, IfOk, IfErr, MatchResult, OnOk, true};
 ghost use Rattle.std.specs.Io.KnownBytes.{Keeps};
 ghost use Rattle.csv.specs.Records.{fields_of};
-ghost use Rattle.rs_csv.specs.Header.{AreOne, AreSame, Has, IsFound, IsLack, IsNamed, IsUnnamed};
+ghost use Rattle.rs_csv.specs.Header.{AreMadeSame, AreOne, AreSame, Has, IsFound, IsLack, IsNamed, IsUnnamed};
 
 use crate::filter::Stop;
 use crate::tell::{Lack, tell_column};
@@ -45,13 +45,10 @@ fn are_same(text: &[u8], other: &[u8], case: Case) -> bool
     }
 }
 
-// Whether two texts are one name, where names are made or not.
-fn are_one(text: &[u8], other: &[u8], makes_names: bool, case: Case) -> bool
-    ensures { result ≡ true ↔ AreOne makes_names case text.now other.now }
+// Whether the names that are made of two texts are the same.
+fn are_made_same(text: &[u8], other: &[u8], case: Case) -> bool
+    ensures { result ≡ true ↔ AreMadeSame case text.now other.now }
 {
-    if !makes_names {
-        return are_same(text, other, case);
-    }
     match made_name(text) {
         Some(name) => match made_name(other) {
             Some(other) => are_same(name.as_str().as_bytes(), other.as_str().as_bytes(), case),
@@ -59,6 +56,13 @@ fn are_one(text: &[u8], other: &[u8], makes_names: bool, case: Case) -> bool
         },
         None => false,
     }
+}
+
+// Whether two texts are one name, where names are made or not.
+fn are_one(text: &[u8], other: &[u8], makes_names: bool, case: Case) -> bool
+    ensures { result ≡ true ↔ AreOne makes_names case text.now other.now }
+{
+    are_same(text, other, case) || makes_names && are_made_same(text, other, case)
 }
 
 // Whether a field of the header has this name.

@@ -1,18 +1,20 @@
 //! The routes of the input, each from the least to the greatest measure met on it.
 
-ghost use Rattle.std.specs.Prelude.{◌≡◌, ◌++◌, ◌∷◌, [], ◌<◌, ◌⊎◌, OnOk, ℕ, List, string_bytes};
-ghost use Rattle.rs_machine.specs.Request.{Asks, command};
+ghost use Rattle.std.specs.Prelude.{◌≡◌, ◌<◌, ◌≤◌, OnOk, true};
+ghost use Rattle.std.specs.FinMap as names;
 ghost use Rattle.rs_syntax.specs.Tree.{define_route};
+ghost use Rattle.rs_syntax.specs.View.{tree_of};
+ghost use Rattle.rs_csv.specs.Routes.{AddsRoute, AreEndsOf, ends_on, reaching};
 
 use crate::filter::Stop;
 use crate::made::push_line;
+use rs_catalog::ByName;
 use rs_csv_lines::{Event, write_words};
 use rs_measure::{GREATEST_MEASURE, Measure, write_measure};
 use rs_methods::{Name, Position};
 use rs_refusal::Refusal;
 use rs_syntax::Command;
 use std::alloc::{AllocError, Global};
-use std::collections::BTreeMap;
 
 /// The least and the greatest measure met on a route; none where all its positions are of other methods.
 #[derive(Clone, Copy)]
@@ -22,14 +24,16 @@ pub struct Extent {
 }
 
 impl Extent {
-    // One measure more, where the position is one.
-    fn meet(&mut self, position: Position) {
+    // With one position more.
+    fn reaching(self, position: Position) -> Self
+        ensures { result.ends ≡ reaching position self.ends }
+    {
         let Position::Absolute(met) = position else {
-            return;
+            return self;
         };
         let number = met.thousandths();
-        self.ends = match self.ends {
-            None => Some((met, met)),
+        let ends = match self.ends {
+            None => (met, met),
             Some((least, greatest)) => {
                 let low = if number < least.thousandths() {
                     met
@@ -41,30 +45,38 @@ impl Extent {
                 } else {
                     greatest
                 };
-                Some((low, high))
+                (low, high)
             }
         };
+        Extent { ends: Some(ends) }
     }
 }
 
 /// The extents by the names of the routes.
-pub type Extents = BTreeMap<Name, Extent>;
+pub type Extents = ByName<Extent>;
 
 /// No route.
 pub fn no_extents(alloc: Global) -> Extents {
-    BTreeMap::new(alloc)
+    ByName::new(alloc)
 }
 
-/// Meets the ends of an event.
-pub fn meet_event(extents: &mut Extents, event: &Event) -> Result<(), AllocError> {
-    let extent = extents.entry(event.route)?.or_insert(Extent { ends: None });
-    extent.meet(event.ends.first);
-    extent.meet(event.ends.last);
-    Ok(())
+/// Meets the ends of an event: those of its route reach to both, and no other's change.
+pub fn meet_event(extents: &mut Extents, event: &Event) -> Result<(), AllocError>
+    ensures { OnOk result (extents.new ≡ names.insert extents.old event.now.route.bytes
+        (record { ends = reaching event.now.ends.last (reaching event.now.ends.first (ends_on extents.old event.now.route.bytes)) })) }
+{
+    let extent = match extents.get(&event.route) {
+        Some(extent) => *extent,
+        None => Extent { ends: None },
+    };
+    let extent = extent.reaching(event.ends.first).reaching(event.ends.last);
+    extents.define(event.route, extent)
 }
 
 // The ends of a route on which these are the least and the greatest measure: a thousandth apart where they are one.
-fn route_ends(least: Measure, greatest: Measure) -> (Measure, Measure) {
+fn route_ends(least: Measure, greatest: Measure) -> (Measure, Measure)
+    ensures { least ≤ greatest → AreEndsOf least greatest result.0 result.1 }
+{
     let (low, high) = (least.thousandths(), greatest.thousandths());
     if low < high {
         return (least, greatest);
@@ -79,10 +91,9 @@ fn route_ends(least: Measure, greatest: Measure) -> (Measure, Measure) {
 fn route_words(
     alloc: Global,
     name: Name,
-    least: Measure,
-    greatest: Measure,
+    start: Measure,
+    finish: Measure,
 ) -> Result<String, AllocError> {
-    let (start, finish) = route_ends(least, greatest);
     let mut words = String::from_str(alloc, "DEFINE ROUTE ")?;
     words.push_str(name.as_str())?;
     words.push_str(" FROM ")?;
@@ -92,7 +103,21 @@ fn route_words(
     Ok(words)
 }
 
-/// Adds the line that defines a route from one measure to another.
+// Whether a command defines this route.
+fn is_route(asked: &Command, name: Name, start: Measure, finish: Measure) -> bool
+    ensures { result ≡ true → tree_of asked.now ≡ define_route name.bytes start finish }
+{
+    match asked {
+        Command::DefineRoute {
+            name: defined,
+            start: first,
+            finish: last,
+        } => *defined == name && *first == start && *last == finish,
+        _ => false,
+    }
+}
+
+/// Adds the line that defines a route on which these are the least and the greatest measure.
 pub fn push_route(
     alloc: Global,
     session: u8,
@@ -101,17 +126,19 @@ pub fn push_route(
     lines: &mut Vec<u8>,
 ) -> Result<(), Stop>
     requires { session < 64 }
-    ensures { OnOk result ((lines.new.items ≡ lines.old.items) ⊎ ((line : List ℕ) × (name : List ℕ) × (start : ℕ) × (finish : ℕ)
-        × Asks line (command session (define_route name start finish)) × (lines.new.items ≡ lines.old.items ++ line ++ 10 ∷ []))) }
+    ensures { OnOk result (AddsRoute session name.bytes ends lines.old.items lines.new.items) }
 {
-    let words = route_words(alloc, name, ends.0, ends.1)?;
+    let (start, finish) = route_ends(ends.0, ends.1);
+    let words = route_words(alloc, name, start, finish)?;
     let mut line = String::new(alloc);
     match write_words(alloc, session, words.as_str(), &mut line) {
-        Ok(Command::DefineRoute { .. }) => {
-            push_line(lines, line.as_str())?;
+        Ok(asked) => {
+            if is_route(&asked, name, start, finish) {
+                push_line(lines, line.as_str())?;
+            }
             Ok(())
         }
         Err(Refusal::OutOfMemory) => Err(Stop::OutOfMemory),
-        _ => Ok(()),
+        Err(_) => Ok(()),
     }
 }

@@ -3,8 +3,8 @@ use Rattle.rs_syntax.specs.Tree.{CommandTree}
 use Rattle.rs_csv.specs.Output.{AreDefinitions, IsQuiet}
 use Rattle.rs_csv.proofs.held.route_lines.Given as goal
 
-abbrev pub invariant-routes : goal.invariant-routes
-invariant-routes g l = record {
+abbrev pub invariant-loop-name : goal.invariant-loop-name
+invariant-loop-name g l = record {
   lines : (table : CommandTree) → AreDefinitions l.job.wanted.session table l.lines.items;
   bytes : l.made.bytes.items ≡ l.fn.made.bytes.items;
   quiet : IsQuiet l.fn.made.has_told l.made.has_told (g.E.Write.contents l.fn.errors) (g.E.Write.contents l.errors);
