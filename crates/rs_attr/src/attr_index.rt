@@ -3,7 +3,7 @@
 //! Changes are made together or not at all: `commit` keeps them, `abandon` takes them back, and neither takes memory. The
 //! pages are to be committed or abandoned with them.
 
-ghost use Rattle.std.specs.Prelude.{◌≡◌, ◌≢◌, ◌↔◌, ◌<◌, ◌≤◌, ℕ, List, [], Contains, Err, IfOk, IsPermutation, IsTrue, OnOk, length, map, true};
+ghost use Rattle.std.specs.Prelude.{◌≡◌, ◌≢◌, ◌↔◌, ◌<◌, ◌≤◌, ℕ, List, [], Contains, Err, IfOk, IsPermutation, IsTrue, OnOk, length, map, true, false};
 ghost use Rattle.std.specs.List.{AllByRecursion};
 ghost use Rattle.rs_attr.specs.Entries.{FitsPages, IsColumn, entry_bytes, entry_of, index_form};
 ghost use Rattle.rs_attr.specs.Inner.{changed};
@@ -102,6 +102,13 @@ impl AttrIndex {
         ensures { result ≡ self.now.working }
     {
         self.tree.root()
+    }
+
+    /// Whether its root is another than at the last commit.
+    pub fn is_changed(&self) -> bool
+        ensures { result ≡ false → self.now.committed ≡ self.now.working }
+    {
+        self.tree.root() != self.committed
     }
 
     // decision: index-of-cells

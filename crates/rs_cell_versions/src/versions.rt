@@ -3,7 +3,7 @@
 //! Changes are made together or not at all: `commit` keeps them, `abandon` takes them back, and neither takes memory. The
 //! pages are to be committed or abandoned with them.
 
-ghost use Rattle.std.specs.Prelude.{◌≡◌, ◌≢◌, ◌<◌, ◌≤◌, ◌*◌, ◌+◌, ℕ, [], IsTrue, IfOk, OnOk, true, length, Err};
+ghost use Rattle.std.specs.Prelude.{◌≡◌, ◌≢◌, ◌<◌, ◌≤◌, ◌*◌, ◌+◌, ℕ, [], IsTrue, IfOk, OnOk, true, false, length, Err};
 ghost use Rattle.rs_page.specs.declared.header.TheConstants.{PAGE_ROOM};
 ghost use Rattle.rs_page_owners.specs.Counts.{no_pages};
 ghost use Rattle.rs_pages.specs.PageMap.{PageMap};
@@ -33,10 +33,12 @@ pub struct Versions<S: Summary> {
     dead: Dead,
     kept_root: PageNumber,
     kept_living: u64,
+    /// Whether anything may have changed since the last commit.
+    changed: bool,
 }
 
 impl<S: Summary> Model for Versions<S> {
-    ghost use Rattle.std.specs.Prelude.{◌≡◌};
+    ghost use Rattle.std.specs.Prelude.{◌≡◌, false};
     ghost use Rattle.rs_cell_versions.specs.Inner.{FitsPages, standing};
     ghost use Rattle.rs_cell_versions.specs.Versioned.{Versioned};
 
@@ -48,7 +50,8 @@ impl<S: Summary> Model for Versions<S> {
       committed = standing versions.kept_root versions.kept_living versions.dead.committed;
     } };
 
-    ghost invariant = { λ versions. (versions.dead.width ≡ versions.tree.width) × FitsPages S.WIDTH versions.tree.width };
+    ghost invariant = { λ versions. (versions.dead.width ≡ versions.tree.width) × (FitsPages S.WIDTH versions.tree.width
+        × (versions.changed ≡ false → standing versions.kept_root versions.kept_living versions.dead.committed ≡ standing versions.tree.root versions.living versions.dead.working)) };
 }
 
 impl<S: Summary> Versions<S> {
@@ -68,6 +71,7 @@ impl<S: Summary> Versions<S> {
             dead: Dead::new(alloc, width),
             kept_root: PageNumber::new(0),
             kept_living: 0,
+            changed: false,
         }
     }
 
@@ -86,6 +90,7 @@ impl<S: Summary> Versions<S> {
             dead,
             kept_root,
             kept_living: living,
+            changed: true,
         }
     }
 
@@ -119,6 +124,13 @@ impl<S: Summary> Versions<S> {
         self.dead.len() as u64
     }
 
+    /// Whether anything may have changed since the last commit: where it answers false, nothing has.
+    pub fn is_changed(&self) -> bool
+        ensures { result ≡ false → self.now.committed ≡ self.now.working }
+    {
+        self.changed
+    }
+
     /// Puts a living cell among the others, and answers whether it was not there before; where it was, nothing changes. It is
     /// refused with 90, with 91, with 92 where the file is full, and with 94 only where no such cells stand there with pages
     /// of their own; after a refusal the cells are as they were, and the working pages are to be abandoned.
@@ -136,6 +148,7 @@ impl<S: Summary> Versions<S> {
         if new {
             self.tree = tree;
             self.living = living;
+            self.changed = true;
         }
         Ok(new)
     }
@@ -169,6 +182,7 @@ impl<S: Summary> Versions<S> {
         let ended = end::<P, S>(pages, &mut tree, self.living, version, cell, written)?;
         self.tree = tree;
         self.living = ended.living;
+        self.changed = true;
         if ended.listed {
             self.dead.list_written();
         }
@@ -199,6 +213,7 @@ impl<S: Summary> Versions<S> {
         let mut tree = copy_of(&self.tree, self.dead.width());
         take_out::<P, S>(pages, &mut tree, &taken)?;
         self.tree = tree;
+        self.changed = true;
         self.dead.take_front(taken.len());
         Ok(taken)
     }
@@ -216,6 +231,7 @@ impl<S: Summary> Versions<S> {
         self.tree.clear(pages)?;
         self.tree = Tree::at(self.dead.width(), PageNumber::new(0));
         self.living = 0;
+        self.changed = true;
         self.dead.clear();
         Ok(())
     }
@@ -229,6 +245,7 @@ impl<S: Summary> Versions<S> {
         self.kept_root = self.tree.root();
         self.kept_living = self.living;
         self.dead.commit();
+        self.changed = false;
     }
 
     /// Takes back what was changed since the last commit. Takes no memory.
@@ -240,5 +257,6 @@ impl<S: Summary> Versions<S> {
         self.tree = Tree::at(self.dead.width(), self.kept_root);
         self.living = self.kept_living;
         self.dead.abandon();
+        self.changed = false;
     }
 }

@@ -1,5 +1,5 @@
 -- Records are cleared and the slots of the directory are written: that completes a change.
-use Rattle.std.proofs.Common.{◌≡◌, ◌≤◌, ◌<◌, ◌+◌, ◌-◌, ◌^◌, ℕ, min, refl, sym, ◌∙◌, subst, arith}
+use Rattle.std.proofs.Common.{◌≤◌, ◌<◌, ◌+◌, ◌^◌, ℕ, refl, sym, ap, ◌∙◌, subst, arith}
 use Rattle.std.specs.List.{AllByRecursion}
 use Rattle.rs_catalog_pages.specs.Directory.{HasDirectory}
 use Rattle.rs_catalog_pages.specs.Items.{RouteItem}
@@ -10,19 +10,15 @@ use Rattle.rs_file_parts.specs.Clearing.{ClearsAsMany}
 use Rattle.rs_file_parts.specs.Parts.{HasMade, HaveAllDiedBy, HoldsNoParts, IsReady, KeepsCommitted, Makes}
 use Rattle.rs_changes.specs.Calls.{IsNext}
 use Rattle.rs_changes.specs.Completing.{CompletesFrom, HoldsNoneToComplete}
-use Rattle.rs_changes.specs.Garbage.{garbage_of}
 use Rattle.rs_file_parts.proofs.Ready.{ready_after}
+use Rattle.rs_file_parts.proofs.Stood.{had_kept}
+use Rattle.rs_catalog_pages.specs.Said.{said_catalogue}
 use Rattle.rs_machine.specs.declared.limits.TheConstants.{CHANGES}
 use Rattle.rs_pages.specs.PageMap.{PageMap}
 
 -- no parts, nothing to be completed
 pub no_parts : (map : PageMap) (file : OpenedFile) → HoldsNoParts map file → HoldsNoneToComplete map file
 no_parts map file none = record { none = λ between directory has holds opened. none.none (file.accepted + 1) between holds opened }
-
--- how many go at the most, where so many were dead before
-pub few_more : (garbage held before ended most dead : ℕ) → garbage ≡ min held (2 ^ 64 - 1) → ended ≡ garbage - before → most ≤ ended + 64
-    → before ≡ min dead (2 ^ 64 - 1) → most ≤ 64 + (held - dead)
-few_more garbage held before ended most dead is less least was = omega (arith, is, less, least, was)
 
 module _ (oldest most gone : ℕ) (old mid : PageMap) (was between : OpenedFile) (makes : (accepted : ℕ) → Makes old mid was between accepted accepted (ClearsAsMany oldest most gone)) where
   -- page 1 is the same directory after clearing
@@ -38,18 +34,18 @@ module _ (oldest most gone : ℕ) (old mid : PageMap) (was between : OpenedFile)
   }
 
   -- what lay there is completed
-  pub completes_from : (before : ℕ) (new : PageMap) → was.accepted < CHANGES → 64 ≤ most
-      → ((dead : ℕ) → before ≡ min dead (2 ^ 64 - 1) → most ≤ 64 + (garbage_of was - dead))
+  pub completes_from : (ended : ℕ) (new : PageMap) → was.accepted < CHANGES → 64 ≤ most → most ≤ 64 + ended → KeepsCommitted was between
       → RewritesDirectory mid new between (was.accepted + 1)
-      → CompletesFrom oldest before old new was (record between { accepted = was.accepted + 1 })
-  completes_from before new room least few writes = record {
-    each = λ contents directory has numbered holds opened routes.
+      → CompletesFrom oldest ended old new was (record between { accepted = was.accepted + 1 })
+  completes_from ended new room least few keeps writes = record {
+    each = λ contents directory has numbered had holds opened routes.
         let version = was.accepted + 1 in
         let made = (makes version).each contents holds opened in
         let parts = made.changed.parts in
         let limit : version < 2 ^ 63 = omega (arith, room) in
         let written = writes.each version made.contents directory (omega arith) limit (directory_of contents version directory made has)
-        (subst (λ d. AreNumbered d directory) (sym parts.definitions) numbered) made.holds made.opened
+        (subst (λ d. AreNumbered d directory) (sym parts.definitions) numbered)
+        (had_kept directory was between (ap (λ d. (said_catalogue d).tables) keeps.definitions) (ap (λ d. (said_catalogue d).indexes) keeps.definitions) keeps.tables had) made.holds made.opened
         (subst (λ (d : _). AllByRecursion (λ (route : RouteItem). route.born ≤ version) d.routes) (sym parts.definitions) routes) in
         record {
           contents = record made.contents { directory = written.directory };

@@ -68,6 +68,10 @@ module _ (definitions : StoredCatalogue) (was is : OpenedFile) (former : Former)
   pub births_then : (version : ℕ) → AllByRecursion (λ route. route.born ≤ version) (said_catalogue definitions).routes → AllByRecursion (λ route. route.born ≤ version) (said_catalogue is.definitions).routes
   births_then version births = subst (λ d. AllByRecursion (λ route. route.born ≤ version) (said_catalogue d).routes) (sym gives.definitions_are) births
 
+  -- the tables are the same
+  pub stood_same : AllZip KeepsOpened was.tables.items is.tables.items
+  stood_same = subst (AllZip KeepsOpened was.tables.items) (sym (ap (λ (file : OpenedFile). file.tables.items) gives.rest)) (each_same KeepsOpened same_kept was.tables.items)
+
   -- with the former definitions what stood there at the last commit stays
   pub keeps_restored : (first next : OpenedFile) → KeepsCommitted first was → KeepsCommitted is next → KeepsCommitted first (record next { definitions = former.definitions; pages = former.pages })
   keeps_restored first next before after = keeps_then first was (record next { definitions = former.definitions; pages = former.pages }) before (record {

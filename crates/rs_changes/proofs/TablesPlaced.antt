@@ -1,5 +1,5 @@
 -- One table of what is open changes at its place, at the next version.
-use Rattle.std.proofs.Common.{◌≡◌, ◌<◌, ◌≤◌, ◌+◌, ◌∙◌, ℕ, Some, List, [], ◌∷◌, ◌++◌, Result, length, get_or, set, sym, ap, subst, arith}
+use Rattle.std.proofs.Common.{◌≡◌, ◌<◌, ◌≤◌, ◌+◌, ◌-◌, ◌∙◌, ℕ, Some, List, [], ◌∷◌, ◌++◌, Result, length, get_or, set, sym, ap, subst, arith}
 use Rattle.std.specs.Prelude.{slice_get}
 use Rattle.std.proofs.lemmas.Option.{slice_get-get_or}
 use Rattle.std.specs.List.{AllByRecursion, AllZip, sum_by}
@@ -14,18 +14,20 @@ use Rattle.rs_file.specs.declared.opened.OpenedFile.{OpenedFile}
 use Rattle.rs_file.specs.declared.opened.OpenedTable.{OpenedTable}
 use Rattle.rs_file.proofs.Parts.{shares_table}
 use Rattle.rs_table_changes.specs.Calls.{HoldsNoTableBy}
-use Rattle.rs_file_parts.specs.Parts.{HaveAllDiedBy}
+use Rattle.rs_file_parts.specs.Parts.{HaveAllDiedBy, KeepsCommitted, KeepsOpened}
 use Rattle.rs_table_changes.specs.Calls as events
 use Rattle.rs_table_changes.specs.Changes.{ThenCleared}
 use Rattle.rs_changes.specs.Calls.{LeavesFile}
-use Rattle.rs_changes.specs.Garbage.{dead_of, garbage_of}
+use Rattle.rs_changes.specs.Garbage.{GrowsAt, dead_of, garbage_of}
 use Rattle.rs_changes.specs.InPlace.{ChangesThenCleared, MakesAt}
 use Rattle.rs_file_parts.proofs.Lists.{Stands, all_one, beside, stands_at}
 use Rattle.rs_file_parts.proofs.Made.{ChangesAt, makes_weaker}
 use Rattle.rs_file_parts.proofs.Placed.{place_all, place_made}
 use Rattle.rs_page_owners.proofs.Working.{works_of}
 use Rattle.rs_pages.specs.PageMap.{PageMap}
+use Rattle.rs_pages.proofs.PlainStore.{at_set}
 use Rattle.rs_pages.specs.declared.pages.Pages.{Ghosts}
+use Rattle.rs_tree.proofs.Lists.{inside_has, zip_lengths}
 use Rattle.rs_refusal.specs.declared.refusal.Refusal.{Refusal}
 use Rattle.rs_change_laws.specs.Changing.{HoldsNoFile}
 use Rattle.rs_changes.proofs.Wholes.{storing_by_works}
@@ -57,6 +59,15 @@ order_later version later file upto order = record {
 }
 
 -- ---- one table
+
+-- how many more of it are dead is how many more of the file are
+pub grown_by : (place : ℕ) (was is : OpenedFile) → place < length was.tables.items → KeepsCommitted was is → GrowsAt place was is → (before after ended : ℕ)
+    → ((table : OpenedTable) → slice_get was.tables.items place ≡ Some table → before ≡ dead_of table)
+    → ((table : OpenedTable) → slice_get is.tables.items place ≡ Some table → after ≡ dead_of table) → ended ≡ after - before → ended ≤ garbage_of is - garbage_of was
+grown_by place was is inside keeps grows before after ended were are less =
+    let one = inside_has was.tables.items place inside in
+    let now = inside_has is.tables.items place (omega (arith, inside, zip_lengths KeepsOpened was.tables.items is.tables.items keeps.tables)) in
+    omega (arith, less, were one.0 one.1, are now.0 now.1, grows.each one.0 now.0 one.1 now.1)
 
 module _ (was : OpenedFile) (place : ℕ) (one : OpenedTable) (below : place < length was.tables.items) (is_there : one ≡ get_or was.tables.items place one) where
   pub opened_there : slice_get was.tables.items place ≡ Some one
@@ -108,6 +119,27 @@ module _ (was : OpenedFile) (place : ℕ) (one : OpenedTable) (below : place < l
         sum_by-append dead_of stands.before (now ∷ stands.after),
         sum_by-cons dead_of now stands.after,
       )
+
+  -- and as many more are as there are more of its own
+  pub grows_placed : (now : OpenedTable) (is : OpenedFile) → is.tables.items ≡ set was.tables.items place now → is.referents.working ≡ was.referents.working → GrowsAt place was is
+  grows_placed now is tables referents = record {
+    each = λ a b at there.
+        let first : a ≡ one = let here = opened_there in cc in
+        let second : b ≡ now = let here = at_set was.tables.items place now below in let same = ap (λ (ts : List OpenedTable). slice_get ts place) tables in cc in
+        omega (
+          arith,
+          ap dead_of first,
+          ap dead_of second,
+          ap (λ (s : Standing). length s.dead) referents,
+          ap (sum_by dead_of) tables,
+          ap (sum_by dead_of) stands.are,
+          sum_by-append dead_of stands.before (one ∷ stands.after),
+          sum_by-cons dead_of one stands.after,
+          ap (sum_by dead_of) (stands.changed now),
+          sum_by-append dead_of stands.before (now ∷ stands.after),
+          sum_by-cons dead_of now stands.after,
+        );
+  }
 
   module _ (now : OpenedTable) (keeps : KeepsTable one.records now.records one.indexes.items now.indexes.items) where
     pub tables_died : HaveAllDiedBy was.accepted was → HaveDiedBy (was.accepted + 1) now.records.working.dead

@@ -1,5 +1,5 @@
 -- Changes as wholes: a part changes, and what completes it follows.
-use Rattle.std.proofs.Common.{◌≡◌, ◌<◌, ◌≤◌, ◌+◌, ◌-◌, ◌^◌, ℕ, length, List, [], ◌∷◌, Result, Ok, Err, min, refl, sym, ap, ◌∙◌, subst, arith}
+use Rattle.std.proofs.Common.{◌≡◌, ◌<◌, ◌≤◌, ◌+◌, ◌-◌, ℕ, length, List, [], ◌∷◌, Result, Ok, Err, refl, sym, ap, ◌∙◌, subst, arith}
 use Rattle.std.specs.List.{AllByRecursion, AllZip, sum_by}
 use Rattle.std.proofs.lemmas.List.Sums.{sum_by-cons}
 use Rattle.rs_catalog_pages.specs.Directory.{HasDirectory}
@@ -14,9 +14,11 @@ use Rattle.rs_file.specs.Opening.{IsOpened}
 use Rattle.rs_file.specs.declared.opened.OpenedFile.{OpenedFile}
 use Rattle.rs_file.specs.declared.opened.OpenedTable.{OpenedTable}
 use Rattle.rs_file_parts.specs.Clearing.{clearable_events}
-use Rattle.rs_file_parts.specs.Parts.{HasMade, HoldsNoParts, KeepsCommitted, Makes}
+use Rattle.rs_file_parts.specs.Parts.{HasMade, HoldsNoParts, IsCommitted, KeepsCommitted, KeepsOpened, Makes}
 use Rattle.rs_file_parts.specs.Parts as parts
 use Rattle.rs_file_parts.proofs.Defined.{numbered_too}
+use Rattle.rs_file_parts.proofs.Stood.{had_kept, had_now}
+use Rattle.rs_file_parts.specs.Slots.{HadSlots}
 use Rattle.rs_page_owners.specs.Calls.{Leaves}
 use Rattle.rs_page_owners.specs.Changes.{CountsNothing, WorksAfter}
 use Rattle.rs_page_owners.proofs.Working.{CountsNothing-refl, CountsNothing-trans, wants_after}
@@ -149,6 +151,19 @@ pub numbers_stay : (map : PageMap) (contents : Contents) (was is : OpenedFile) �
 numbers_stay map contents was is stay =
     numbers_same map contents was is (ap (λ d. (said_catalogue d).tables) stay) (ap (λ d. (said_catalogue d).indexes) stay)
 
+-- the directory says what stood there at the last commit, where nothing had changed since and the tables keep that
+pub stood : (map : PageMap) (contents : Contents) (was is : OpenedFile) → (said_catalogue is.definitions).tables ≡ (said_catalogue was.definitions).tables
+    → (said_catalogue is.definitions).indexes ≡ (said_catalogue was.definitions).indexes → AllZip KeepsOpened was.tables.items is.tables.items → IsCommitted was
+    → HoldsAll map contents → IsOpenedFile was contents → HadSlots is contents.directory
+stood map contents was is tables indexes keeps committed holds opened =
+    had_kept contents.directory was is tables indexes keeps (had_now contents was committed holds.said (parts_opened was contents opened))
+
+-- and where the definitions stay
+pub stood_kept : (map : PageMap) (contents : Contents) (was is : OpenedFile) → KeepsCommitted was is → IsCommitted was → HoldsAll map contents → IsOpenedFile was contents
+    → HadSlots is contents.directory
+stood_kept map contents was is keeps =
+    stood map contents was is (ap (λ d. (said_catalogue d).tables) keeps.definitions) (ap (λ d. (said_catalogue d).indexes) keeps.definitions) keeps.tables
+
 -- ---- the whole
 
 module _ (old mid : PageMap) (was between : OpenedFile) (change : Contents → Contents → Type 0) (accepted : between.accepted ≡ was.accepted)
@@ -172,20 +187,21 @@ module _ (old mid : PageMap) (was between : OpenedFile) (change : Contents → C
   }
 
   -- the part has changed, and it is completed
-  pub changes_file : (oldest before : ℕ) (new : PageMap) (is : OpenedFile) → before ≡ min (garbage_of was) (2 ^ 64 - 1)
+  pub changes_file : (oldest ended : ℕ) (new : PageMap) (is : OpenedFile) → ended ≤ garbage_of between - garbage_of was
       → ((contents now : Contents) → change contents now → now.directory ≡ contents.directory)
       → ((contents : Contents) → HoldsAll old contents → IsOpenedFile was contents
       → AllByRecursion (λ route. route.born ≤ was.accepted + 1) (said_catalogue between.definitions).routes)
       → ((contents : Contents) → HoldsAll old contents → IsOpenedFile was contents → AreNumbered (said_catalogue between.definitions) contents.directory)
-      → CompletesFrom oldest before mid new between is → ChangesFile oldest old new was is change
-  changes_file oldest before new is count stays births numbers completes = record {
+      → ((contents : Contents) → HoldsAll old contents → IsOpenedFile was contents → HadSlots between contents.directory)
+      → CompletesFrom oldest ended mid new between is → ChangesFile oldest old new was is change
+  changes_file oldest ended new is count stays births numbers had completes = record {
     each = λ contents holds opened.
         let made = made_of contents holds opened in
         let routes : AllByRecursion (λ (route : RouteItem). route.born ≤ between.accepted + 1) made.contents.definitions.routes =
         subst (λ n. AllByRecursion (λ (route : RouteItem). route.born ≤ n + 1) made.contents.definitions.routes) (sym accepted)
         (subst (λ d. AllByRecursion (λ (route : RouteItem). route.born ≤ was.accepted + 1) d.routes) (sym made.opened.definitions) (births contents holds opened)) in
         let numbered = subst (λ d. AreNumbered d contents.directory) (sym made.opened.definitions) (numbers contents holds opened) in
-        let done = completes.each made.contents contents.directory (directory_of contents holds made.directory) numbered made.holds made.opened routes in
+        let done = completes.each made.contents contents.directory (directory_of contents holds made.directory) numbered (had contents holds opened) made.holds made.opened routes in
         record {
           between = made.contents;
           changed = made.changed;
@@ -196,7 +212,7 @@ module _ (old mid : PageMap) (was between : OpenedFile) (change : Contents → C
               most = done.most;
               gone = done.gone;
               least = done.least;
-              few = few contents made.contents done.most holds opened made.holds made.opened (done.few (garbage_of was) count);
+              few = few contents made.contents done.most holds opened made.holds made.opened (omega (arith, done.few, count));
               cleared = done.cleared;
             };
             next = done.next ∙ ap (λ n. n + 1) (accepted ∙ sym opened.accepted);

@@ -12,7 +12,7 @@ use Rattle.rs_facts.specs.declared.fact.Span.{Span}
 use Rattle.rs_file.specs.Contents.{Contents}
 use Rattle.rs_file.specs.declared.opened.OpenedFile.{OpenedFile}
 use Rattle.rs_file.specs.declared.opened.OpenedTable.{OpenedTable}
-use Rattle.rs_file_parts.specs.Parts.{HaveAllDiedBy, IsReady, KeepsCommitted}
+use Rattle.rs_file_parts.specs.Parts.{HaveAllDiedBy, IsCommitted, IsReady, KeepsCommitted}
 use Rattle.rs_machine.specs.declared.limits.TheConstants.{CHANGES}
 use Rattle.rs_pages.specs.declared.pages.Pages.{Ghosts}
 use Rattle.rs_refusal.specs.declared.refusal.Refusal.{Refusal}
@@ -37,10 +37,11 @@ pub record IsNext (definitions : StoredCatalogue) (was is : OpenedFile) : Type 0
 
 -- ---- what a change needs
 
--- changes are begun, what is open can be changed, and one version more can be accepted
+-- changes are begun, what is open can be changed, nothing has changed since the last commit, and one version more can be accepted
 pub record MayAccept {P : Type 0} (pages : Ghosts P) (file : OpenedFile) (old : P) : Type 0 where
   pub begun : (pages.store old).is_begun ≡ true
   pub opened : MayChange file
+  pub committed : IsCommitted file
   pub room : file.accepted < CHANGES
 
 -- The same, and these definitions can be written with the next version: they fit their fields and pages, and each route was born by then.

@@ -5,6 +5,7 @@ ghost use Rattle.rs_catalog_pages.specs.Said.{said_catalogue};
 ghost use Rattle.rs_cell_versions.specs.Version.{HaveDiedBy};
 ghost use Rattle.rs_cell_versions.specs.declared.cell.TheConstants.{LIVING};
 ghost use Rattle.rs_file_parts.specs.Calls.{ChangesDefinitions};
+ghost use Rattle.rs_file_parts.specs.Parts.{IsCommitted};
 ghost use Rattle.rs_page_owners.specs.Calls.{Leaves};
 ghost use Rattle.rs_changes.specs.Calls.{Changes, ComesNext, HasTablesOf, LeavesFile, MayDefine};
 ghost use Rattle.rs_changes.specs.Ending.{EndsCell, EndsRoute, HoldsNoReferents, SaysNoLiving};
@@ -12,7 +13,7 @@ ghost use Rattle.rs_change_laws.specs.Parts.{DropsRoute};
 ghost use Rattle.rs_versioned.specs.Referents.{referent_width};
 
 use crate::completing::complete;
-use crate::counting::garbage;
+use crate::counting::{ended_since, garbage};
 use rs_catalog_pages::StoredCatalogue;
 use rs_cell_versions::is_living;
 use rs_file::OpenedFile;
@@ -32,6 +33,7 @@ pub fn redefine<P: Pages>(
     definitions: StoredCatalogue,
 ) -> Result<(), Refusal>
     requires may { MayDefine P.Pages file.old definitions pages.old }
+    requires committed { IsCommitted file.old }
     requires same { HasTablesOf (said_catalogue file.old.definitions) (said_catalogue definitions) }
     ensures leaves { LeavesFile P.Pages file.old result pages.old pages.new }
     ensures defines { Changes P.Pages oldest file.old file.new (ChangesDefinitions (said_catalogue definitions)) result pages.old pages.new }
@@ -39,7 +41,8 @@ pub fn redefine<P: Pages>(
 {
     let before = garbage(file);
     let former = write_definitions(alloc, pages, file, definitions)?;
-    match complete(alloc, pages, file, oldest, before) {
+    let ended = ended_since(file, before);
+    match complete(alloc, pages, file, oldest, ended) {
         Ok(()) => Ok(()),
         Err(refused) => {
             restore_definitions(file, former);
@@ -59,6 +62,7 @@ pub fn drop_route<P: Pages>(
     route: u32,
 ) -> Result<(), Refusal>
     requires may { MayDefine P.Pages file.old definitions pages.old }
+    requires committed { IsCommitted file.old }
     requires same { HasTablesOf (said_catalogue file.old.definitions) (said_catalogue definitions) }
     requires route { route + 1 < 2 ^ 32 }
     ensures leaves { LeavesFile P.Pages file.old result pages.old pages.new }
@@ -69,7 +73,8 @@ pub fn drop_route<P: Pages>(
     let version = file.accepted + 1;
     end_referents_on(alloc, pages, &mut file.referents, version, route)?;
     let former = write_definitions(alloc, pages, file, definitions)?;
-    match complete(alloc, pages, file, oldest, before) {
+    let ended = ended_since(file, before);
+    match complete(alloc, pages, file, oldest, ended) {
         Ok(()) => Ok(()),
         Err(refused) => {
             restore_definitions(file, former);

@@ -6,7 +6,7 @@ ghost use Rattle.rs_changes.specs.Calls.{Changes, ComesNext, LeavesFile, MayAcce
 ghost use Rattle.rs_change_laws.specs.Parts.{EndsReferent, MovesReferent, PutsReferent};
 
 use crate::completing::complete;
-use crate::counting::garbage;
+use crate::counting::{ended_since, garbage};
 use rs_file::OpenedFile;
 use rs_file_parts::{end_referent, put_referent};
 use rs_methods::{Name, Referent};
@@ -32,7 +32,8 @@ pub fn define_referent<P: Pages>(
     let before = garbage(file);
     let version = file.accepted + 1;
     put_referent(alloc, pages, file, version, referent)?;
-    complete(alloc, pages, file, oldest, before)?;
+    let ended = ended_since(file, before);
+    complete(alloc, pages, file, oldest, ended)?;
     Ok(())
 }
 
@@ -55,7 +56,8 @@ pub fn move_referent<P: Pages>(
     let version = file.accepted + 1;
     end_referent(alloc, pages, file, version, referent.route, &referent.name)?;
     put_referent(alloc, pages, file, version, referent)?;
-    complete(alloc, pages, file, oldest, before)?;
+    let ended = ended_since(file, before);
+    complete(alloc, pages, file, oldest, ended)?;
     Ok(())
 }
 
@@ -77,6 +79,7 @@ pub fn drop_referent<P: Pages>(
     let before = garbage(file);
     let version = file.accepted + 1;
     end_referent(alloc, pages, file, version, route, name)?;
-    complete(alloc, pages, file, oldest, before)?;
+    let ended = ended_since(file, before);
+    complete(alloc, pages, file, oldest, ended)?;
     Ok(())
 }

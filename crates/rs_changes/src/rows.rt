@@ -5,12 +5,12 @@ ghost use Rattle.rs_table_changes.specs.Changes.{Inserts, Removes};
 ghost use Rattle.rs_facts.specs.Spans.{seen};
 ghost use Rattle.rs_file_parts.specs.Parts.{HaveAllDiedBy, KeepsCommitted};
 ghost use Rattle.rs_changes.specs.Calls.{ChangesBy, ComesNext, IsRowAt, LeavesFile, MayAccept};
-ghost use Rattle.rs_changes.specs.Garbage.{garbage_of};
+ghost use Rattle.rs_changes.specs.Garbage.{GrowsAt, garbage_of};
 ghost use Rattle.rs_changes.specs.InPlace.{MakesBy};
 ghost use Rattle.rs_change_laws.specs.Parts.{InsertsRow, RemovesRows};
 
 use crate::completing::complete;
-use crate::counting::garbage;
+use crate::counting::dead_at;
 use rs_facts::{Condition, Span};
 use rs_file::OpenedFile;
 use rs_pages::Pages;
@@ -64,9 +64,10 @@ pub fn insert<P: Pages>(
         (InsertsRow insertion.now.table insertion.now.kind insertion.now.route (seen insertion.now.span)) result pages.old pages.new }
     ensures opened { ComesNext file.old.definitions result file.old file.new }
 {
-    let before = garbage(file);
+    let before = dead_at(file, insertion.table);
     let count = insert_in_place(alloc, pages, file, oldest, insertion)?;
-    complete(alloc, pages, file, oldest, before)?;
+    let ended = dead_at(file, insertion.table).saturating_sub(before);
+    complete(alloc, pages, file, oldest, ended)?;
     Ok(count)
 }
 
@@ -87,6 +88,7 @@ fn insert_in_place<P: Pages>(
     ensures keeps { KeepsCommitted file.old file.new }
     ensures order { HaveAllDiedBy (file.old.accepted + 1) file.new }
     ensures more { garbage_of file.old ≤ garbage_of file.new }
+    ensures grows { GrowsAt insertion.now.table file.old file.new }
 {
     let moment = Moment {
         version: file.accepted + 1,
@@ -119,9 +121,10 @@ pub fn remove<P: Pages>(
         (RemovesRows removal.now.table removal.now.route removal.now.lo removal.now.hi removal.now.goes) result pages.old pages.new }
     ensures opened { ComesNext file.old.definitions result file.old file.new }
 {
-    let before = garbage(file);
+    let before = dead_at(file, removal.table);
     let count = remove_in_place(alloc, pages, file, oldest, removal)?;
-    complete(alloc, pages, file, oldest, before)?;
+    let ended = dead_at(file, removal.table).saturating_sub(before);
+    complete(alloc, pages, file, oldest, ended)?;
     Ok(count)
 }
 
@@ -142,6 +145,7 @@ fn remove_in_place<P: Pages>(
     ensures keeps { KeepsCommitted file.old file.new }
     ensures order { HaveAllDiedBy (file.old.accepted + 1) file.new }
     ensures more { garbage_of file.old ≤ garbage_of file.new }
+    ensures grows { GrowsAt removal.now.table file.old file.new }
 {
     let moment = Moment {
         version: file.accepted + 1,

@@ -1,5 +1,5 @@
 -- Clearing one table after another, and then the referents.
-use Rattle.std.proofs.Common.{◌≡◌, ◌<◌, ◌≤◌, ◌+◌, ◌-◌, ℕ, zero, suc, Bool, true, cond, Some, List, [], ◌∷◌, ◌++◌, length, slice_get, refl, sym, ap, ◌∙◌, subst, inl, inr, ◌⊎◌, arith, length-append}
+use Rattle.std.proofs.Common.{◌≡◌, ◌<◌, ◌≤◌, ◌+◌, ◌-◌, ℕ, zero, suc, Bool, true, cond, Some, List, [], ◌∷◌, ◌++◌, length, slice_get, take, refl, sym, ap, ◌∙◌, subst, inl, inr, ◌⊎◌, arith, length-append}
 use Rattle.std.specs.Prelude.{min, nat_le}
 use Rattle.std.specs.List.{AllByRecursion, AllZip, count_by, sum_by}
 use Rattle.std.specs.List.Sorted.{IsPermutation}
@@ -8,7 +8,12 @@ use Rattle.std.proofs.lemmas.List.{append_assoc}
 use Rattle.std.proofs.lemmas.List.Sorted.{IsPermutation-refl, IsPermutation-trans, IsPermutation-append_right, length_permutation, sum_by-IsPermutation}
 use Rattle.std.proofs.lemmas.List.Sums.{sum_by-append, sum_by-cons}
 use Rattle.rs_cell_versions.specs.declared.cell.TheConstants.{LIVING}
-use Rattle.rs_attr.specs.Tables.{ChangesTable}
+use Rattle.rs_attr.specs.Tables.{ChangesTable, all_of}
+use Rattle.rs_attr.proofs.Together.{moves_none}
+use Rattle.rs_cell_versions.specs.Changes.{cleared}
+use Rattle.rs_page_owners.specs.Counts.{◌&◌}
+use Rattle.rs_versioned.proofs.Changing.{records_cleared}
+use Rattle.rs_versioned.proofs.KeptRecords.{events_are_kept}
 use Rattle.rs_file.specs.Contents.{Contents, ReferentContents, TableContents}
 use Rattle.rs_file.specs.Opening.{IsOpened}
 use Rattle.rs_file.specs.declared.opened.OpenedFile.{OpenedFile}
@@ -80,6 +85,40 @@ module _ {R : Type 0} (kept : Kept R) (oldest : ℕ) where
   pub fewer_there : (cells : List (List ℕ)) (old now : List R) → HasCleared kept oldest cells old now → length old ≡ length now + length cells
   fewer_there cells old now cleared =
       omega (arith, zip_lengths kept.says cells cleared.gone cleared.say, length_permutation old (cleared.gone ++ now) cleared.rest, length-append cleared.gone now)
+
+-- ---- what is open of a table
+
+-- of none nothing may go
+length_none : (most : ℕ) (cells : List (List ℕ)) → length cells ≡ 0 → length (take most cells) ≡ 0
+length_none zero cells none = refl
+length_none (suc most) [] none = refl
+length_none (suc most) (c ∷ cells) none = absurd (omega (arith, none))
+
+none_cleared_of : (oldest most : ℕ) (dead : List (List ℕ)) → length dead ≡ 0 → length (cleared oldest most dead) ≡ 0
+none_cleared_of oldest most [] none = length_none most [] refl
+none_cleared_of oldest most (d ∷ dead) none = absurd (omega (arith, none))
+
+-- where no record is dead, it is cleared as it is
+pub cleared_as_it_is : (map : PageMap) (table : OpenedTable) (oldest most : ℕ) → length table.records.working.dead ≡ 0 → ClearsOpened map map table table oldest most 0
+cleared_as_it_is map table oldest most none =
+    let types = table.records.types in
+    let standing = table.records.working in
+    record {
+      cells = [];
+      many = refl;
+      changes = λ accepted. record {
+        each = λ events used uses others holds shares. record {
+          events = events;
+          after = used;
+          afters = uses;
+          holds = holds;
+          moves = moves_none map (used & all_of uses);
+          changed = none_cleared (kept_events types) oldest events;
+        };
+      };
+      as_many = λ events used accepted holds below.
+          sym (none_cleared_of oldest most standing.dead none) ∙ records_cleared (kept_events types) (events_are_kept types) map standing accepted oldest most events used holds below;
+    }
 
 -- ---- contents
 

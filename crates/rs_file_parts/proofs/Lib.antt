@@ -11,3 +11,4 @@ pub mod Written
 pub mod Overwritten
 pub mod SlotBytes
 pub mod Slotted
+pub mod Stood

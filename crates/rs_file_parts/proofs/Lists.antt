@@ -48,6 +48,10 @@ pub all_one : {X : Type 0} (P : X → Type 0) (before : List X) (x : X) (after :
 all_one P [] x after all = all.0
 all_one P (b ∷ bs) x after all = all_one P bs x after all.1
 
+pub all_first : {X : Type 0} (P : X → Type 0) (before after : List X) → AllByRecursion P (before ++ after) → AllByRecursion P before
+all_first P [] after all = tt
+all_first P (b ∷ bs) after all = (all.0, all_first P bs after all.1)
+
 pub all_other : {X : Type 0} (P : X → Type 0) (before : List X) (x y : X) (after : List X) → AllByRecursion P (before ++ x ∷ after) → P y → AllByRecursion P (before ++ y ∷ after)
 all_other P [] x y after all one = (one, all.1)
 all_other P (b ∷ bs) x y after all one = (all.0, all_other P bs x y after all.1 one)

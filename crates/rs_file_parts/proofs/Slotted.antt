@@ -1,6 +1,8 @@
 -- Slots of a directory that is there are filled one after another.
-use Rattle.std.proofs.Common.{◌≡◌, ◌<◌, ◌≤◌, ◌+◌, ◌^◌, ◌++◌, ℕ, Some, List, [], ◌∷◌, length, map, set, slice_get, take, refl, sym, ap, subst, ◌∙◌, arith}
+use Rattle.std.proofs.Common.{◌≡◌, ◌<◌, ◌≤◌, ◌+◌, ◌^◌, ◌==◌, ◌++◌, ℕ, true, Some, List, [], ◌∷◌, length, map, set, slice_get, take, refl, sym, ap, subst, ◌∙◌, arith}
 use Rattle.std.specs.List.{AllByRecursion, AllZip}
+use Rattle.std.proofs.lemmas.Bool.Decides.{nat_tests}
+use Rattle.std.proofs.lemmas.List.{map-append}
 use Rattle.rs_attr.specs.Tables.{IndexState}
 use Rattle.rs_catalog_pages.specs.Directory.{DirectoryItems, IsDirectory, TreeItem}
 use Rattle.rs_catalog_pages.specs.Fitting.{FitsDirectory}
@@ -8,22 +10,25 @@ use Rattle.rs_catalog_pages.specs.Items.{CatalogueItems, IndexItem, TableItem}
 use Rattle.rs_catalog_pages.specs.Laws.{directory_fits}
 use Rattle.rs_catalog_pages.specs.Said.{said_catalogue}
 use Rattle.rs_catalog_pages.specs.declared.directory_items.TheConstants.{INDEXES, TABLES}
-use Rattle.rs_catalog_pages.proofs.Counting.{times-cons}
+use Rattle.rs_catalog_pages.proofs.Counting.{times-cons, times-push}
 use Rattle.rs_file.specs.Contents.{AreNumbered, item_of}
-use Rattle.rs_file.specs.Slots.{HasTree, indexes_on}
+use Rattle.rs_file.specs.Slots.{ArePut, HasRoot, HasTree, indexes_on}
 use Rattle.rs_file.specs.declared.opened.OpenedFile.{OpenedFile}
 use Rattle.rs_file.specs.declared.opened.OpenedTable.{OpenedTable}
 use Rattle.rs_file.proofs.Parts.{directory_stored}
 use Rattle.rs_file.proofs.Selected.{zip_push}
-use Rattle.rs_file.proofs.Slotted.{put_next, put_none, roots_next, said_of, take_one, times-earlier}
+use Rattle.rs_file.proofs.Slotted.{put_next, put_none, roots_next, said_of, take_one, times-both, times-earlier}
 use Rattle.rs_file_parts.specs.Calls.{RewritesDirectory}
+use Rattle.rs_file_parts.proofs.Lists.{all_first, all_one}
 use Rattle.rs_file_parts.specs.Parts.{IsReady}
-use Rattle.rs_file_parts.specs.Slots.{ChangesDirectory, PutsRoots, PutsRootsOn, PutsSlots, PutsTrees, with_accepted, with_referents, with_root, with_tree}
+use Rattle.rs_file_parts.specs.Slots.{ChangesDirectory, HadRoot, HadRoots, HadTree, IsOnNone, PutsRoots, PutsRootsOn, PutsSlots, PutsTrees, with_accepted, with_referents, with_root, with_tree}
 use Rattle.rs_page_owners.specs.Counts.{one_at, times}
 use Rattle.rs_page_owners.proofs.Moving.{one_at-same}
 use Rattle.rs_pages.specs.PageMap.{PageMap, ReplacesPage}
 use Rattle.rs_pages.proofs.FreeLists.{page_one}
 use Rattle.rs_pages.proofs.PlainStore.{at_set, beside_set}
+use Rattle.rs_tree.proofs.Lists.{zip_at}
+use Rattle.rs_attr.specs.Versioned.{Standing}
 
 -- what a page says fits
 page_fits : (page : List ℕ) (directory : DirectoryItems) → IsDirectory page directory → FitsDirectory directory
@@ -48,35 +53,59 @@ zip_set number value slots m v (x ∷ xs) (y ∷ ys) none all =
       zip_set number value slots m v xs ys (omega (arith, none, first)) all.1,
     )
 
+-- the number of one item more, and those of the items before it
+times_upto : {X : Type 0} (number : X → ℕ) (xs : List X) (k : ℕ) (x : X) → slice_get xs k ≡ Some x → (n : ℕ)
+    → times (map number (take (k + 1) xs)) n ≡ one_at (number x) n + times (map number (take k xs)) n
+times_upto {X = X} number xs k x there n =
+    ap (λ (ys : List X). times (map number ys) n) (take_one xs k x there) ∙ ap (λ (ms : List ℕ). times ms n) (map-append number (take k xs) (x ∷ []))
+    ∙ times-push (map number (take k xs)) (number x) n
+
 -- ---- trees
 
-pub trees_start : (all : List TableItem) (page : List ℕ) → PutsTrees all [] [] page page
-trees_start all page = record { each = λ was is others. record { trees = was.tables; is = is; given = tt; others = others } }
+pub trees_start : (all : List TableItem) (tables : List OpenedTable) (page : List ℕ) → PutsTrees all tables [] [] page page
+trees_start all tables page = record { each = λ was is had. record { trees = was.tables; is = is; given = tt; others = λ n none. refl } }
 
-pub trees_step : (all : List TableItem) (opened : List OpenedTable) (k : ℕ) (item : TableItem) (table : OpenedTable) (old mid new : List ℕ)
-    → slice_get all k ≡ Some item → slice_get opened k ≡ Some table → item.number < TABLES → times (map (λ item. item.number) all) item.number ≤ 1
-    → ChangesDirectory (with_tree item.number (item_of table.records.working)) mid new → PutsTrees all (take k all) (take k opened) old mid
-    → PutsTrees all (take (k + 1) all) (take (k + 1) opened) old new
-trees_step all opened k item table old mid new there here below once changes so_far = record {
-  each = λ was is others.
-      let number : TableItem → ℕ = λ item. item.number in
-      let before = so_far.each was is others in
-      let tree = item_of table.records.working in
-      let now : List TreeItem = set before.trees item.number tree in
-      let none : times (map number (take k all)) item.number ≡ 0 = omega (arith, times-earlier number all k item there, once) in
-      let wide : length before.trees ≡ TABLES = (page_fits mid (record was { tables = before.trees }) before.is).all_tables in
-      record {
-        trees = now;
-        is = changes.each (record was { tables = before.trees }) before.is;
-        given = zip_upto (HasTree now) all opened k item table there here
-            (zip_set number (λ (t : OpenedTable). item_of t.records.working) before.trees item.number tree (take k all) (take k opened) none before.given)
-            (at_set before.trees item.number tree (omega (arith, below, wide)));
-        others = record {
-          none = λ n inside lacks.
-              beside_set before.trees item.number n tree (λ same. omega (arith, lacks, ap (times (map number all)) same, times-earlier number all k item there)) ∙ before.others.none n inside lacks;
+module _ (all : List TableItem) (opened : List OpenedTable) (k : ℕ) (item : TableItem) (table : OpenedTable) (old mid new : List ℕ)
+    (there : slice_get all k ≡ Some item) (here : slice_get opened k ≡ Some table) (once : times (map (λ (item : TableItem). item.number) all) item.number ≤ 1) where
+  none_before : times (map (λ (item : TableItem). item.number) (take k all)) item.number ≡ 0
+  none_before = omega (arith, times-earlier (λ (item : TableItem). item.number) all k item there, once)
+
+  pub trees_step : item.number < TABLES → ChangesDirectory (with_tree item.number (item_of table.records.working)) mid new
+      → PutsTrees all opened (take k all) (take k opened) old mid → PutsTrees all opened (take (k + 1) all) (take (k + 1) opened) old new
+  trees_step below changes so_far = record {
+    each = λ was is had.
+        let number : TableItem → ℕ = λ item. item.number in
+        let before = so_far.each was is had in
+        let tree = item_of table.records.working in
+        let now : List TreeItem = set before.trees item.number tree in
+        let wide : length before.trees ≡ TABLES = (page_fits mid (record was { tables = before.trees }) before.is).all_tables in
+        record {
+          trees = now;
+          is = changes.each (record was { tables = before.trees }) before.is;
+          given = zip_upto (HasTree now) all opened k item table there here
+              (zip_set number (λ (t : OpenedTable). item_of t.records.working) before.trees item.number tree (take k all) (take k opened) none_before before.given)
+              (at_set before.trees item.number tree (omega (arith, below, wide)));
+          others = λ n lacks.
+              let more = times_upto number all k item there n in
+              beside_set before.trees item.number n tree (λ same. omega (arith, lacks, more, ap (one_at item.number) same, one_at-same item.number)) ∙ before.others n (omega (arith, lacks, more));
         };
-      };
-}
+  }
+
+  -- a table that has not changed has its tree there
+  pub trees_skip : table.records.committed ≡ table.records.working
+      → PutsTrees all opened (take k all) (take k opened) old mid → PutsTrees all opened (take (k + 1) all) (take (k + 1) opened) old mid
+  trees_skip same so_far = record {
+    each = λ was is had.
+        let number : TableItem → ℕ = λ item. item.number in
+        let before = so_far.each was is had in
+        record {
+          trees = before.trees;
+          is = before.is;
+          given = zip_upto (HasTree before.trees) all opened k item table there here before.given
+              (before.others item.number none_before ∙ zip_at (HadTree was.tables) all opened k item table had there here ∙ ap (λ (s : Standing). Some (item_of s)) same);
+          others = λ n lacks. before.others n (omega (arith, lacks, times_upto number all k item there n));
+        };
+  }
 
 -- ---- the roots of one table
 
@@ -86,12 +115,6 @@ roots_on_start page = record {
       let fits = page_fits page was is in
       record { roots = was.indexes; is = is; are = put_none was.indexes fits.all_indexes fits.indexes };
 }
-
--- a table without indexes
-pub roots_on_none : (items : List IndexItem) (states : List IndexState) (page : List ℕ) → length items ≡ length states → length states ≡ 0 → PutsRootsOn items states page page
-roots_on_none [] [] page many none = roots_on_start page
-roots_on_none [] (s ∷ ss) page many none = absurd (omega (arith, none))
-roots_on_none (i ∷ is) states page many none = absurd (omega (arith, many, none))
 
 pub roots_on_step : (items : List IndexItem) (states : List IndexState) (item : IndexItem) (state : IndexState) (root : ℕ) (old mid new : List ℕ) → item.number < INDEXES
     → times (map (λ item. item.number) items) item.number ≡ 0 → root ≡ state.working → root < 2 ^ 32 → ChangesDirectory (with_root item.number root) mid new
@@ -108,47 +131,107 @@ roots_on_step items states item state root old mid new below none is fits change
 
 -- ---- the roots of all tables
 
-pub roots_start : (indexes : List IndexItem) (page : List ℕ) → PutsRoots indexes [] [] page page
-roots_start indexes page = record {
-  each = λ was is none.
+pub roots_start : (indexes : List IndexItem) (all : List TableItem) (tables : List OpenedTable) (page : List ℕ) → PutsRoots indexes all tables [] [] page page
+roots_start indexes all tables page = record {
+  each = λ was is none had.
       let fits = page_fits page was is in
-      record { roots = was.indexes; is = is; are = record { slots = fits.all_indexes; fit = fits.indexes; given = tt; others = none } };
+      record { roots = was.indexes; is = is; are = record { slots = fits.all_indexes; fit = fits.indexes; given = tt; others = none }; others = λ n on. refl };
 }
 
-pub roots_step : (indexes : List IndexItem) (items : List TableItem) (opened : List OpenedTable) (k : ℕ) (item : TableItem) (table : OpenedTable) (old mid new : List ℕ)
-    → slice_get items k ≡ Some item → slice_get opened k ≡ Some table → times (map (λ item. item.number) items) item.number ≤ 1
-    → ((n : ℕ) → times (map (λ index. index.number) indexes) n ≤ 1) → PutsRootsOn (indexes_on indexes item.number) table.indexes.items mid new
-    → PutsRoots indexes (take k items) (take k opened) old mid → PutsRoots indexes (take (k + 1) items) (take (k + 1) opened) old new
-roots_step indexes items opened k item table old mid new there here once each puts so_far = record {
-  each = λ was is none.
-      let before = so_far.each was is none in
-      let after = puts.each (record was { indexes = before.roots }) before.is in
-      record {
-        roots = after.roots;
-        is = after.is;
-        are = roots_next indexes items opened before.roots after.roots k item table there here once each after.are before.are;
-      };
-}
+-- roots that stood there, and that no other number's index has changed
+roots_stand : (was now : List ℕ) (items : List IndexItem) (states : List IndexState) → AllZip (HadRoot was) items states → AllByRecursion (λ (s : IndexState). s.committed ≡ s.working) states
+    → ((n : ℕ) → 0 < times (map (λ (index : IndexItem). index.number) items) n → slice_get now n ≡ slice_get was n) → AllZip (HasRoot now) items states
+roots_stand was now [] [] had same kept = tt
+roots_stand was now [] (s ∷ ss) had same kept = absurd had
+roots_stand was now (i ∷ is) [] had same kept = absurd had
+roots_stand was now (i ∷ is) (s ∷ ss) had same kept =
+    let number : IndexItem → ℕ = λ index. index.number in (
+      kept i.number (omega (arith, times-cons i.number (map number is) i.number, one_at-same i.number)) ∙ had.0 ∙ ap (λ (r : ℕ). Some r) same.0,
+      roots_stand was now is ss had.1 same.1 (λ n some. kept n (omega (arith, some, times-cons i.number (map number is) n))),
+    )
+
+module _ (indexes : List IndexItem) (each : (n : ℕ) → times (map (λ (index : IndexItem). index.number) indexes) n ≤ 1) where
+  -- an index that is on one table is on no other
+  on_no_other : (number n : ℕ) → 0 < times (map (λ (index : IndexItem). index.number) (indexes_on indexes number)) n → (items : List TableItem)
+      → times (map (λ (item : TableItem). item.number) items) number ≡ 0 → IsOnNone indexes items n
+  on_no_other number n some [] none = tt
+  on_no_other number n some (item ∷ items) none =
+      let first = times-cons item.number (map (λ (item : TableItem). item.number) items) number in
+      let other : item.number ≡ number → ⊥ = λ same. omega (arith, none, first, ap (λ n. one_at n number) same, one_at-same number) in (
+        omega (
+          arith,
+          some,
+          each n,
+          times-both (λ (index : IndexItem). index.number) (λ index. index.table == item.number) (λ index. index.table == number) (apart item.number other) indexes n,
+        ),
+        on_no_other number n some items (omega (arith, none, first)),
+      )
+    where
+      apart : (one : ℕ) → (one ≡ number → ⊥) → (index : IndexItem) → (index.table == one) ≡ true → (index.table == number) ≡ true → ⊥
+      apart one isnt index a b = isnt (grind (arith, nat_tests))
+
+  module _ (items : List TableItem) (opened : List OpenedTable) (k : ℕ) (item : TableItem) (table : OpenedTable) (old mid new : List ℕ)
+      (there : slice_get items k ≡ Some item) (here : slice_get opened k ≡ Some table) (once : times (map (λ (item : TableItem). item.number) items) item.number ≤ 1) where
+    -- it is on none of the tables so far nor on this one
+    parted : (n : ℕ) → IsOnNone indexes (take (k + 1) items) n → IsOnNone indexes (take k items) n × (times (map (λ (index : IndexItem). index.number) (indexes_on indexes item.number)) n ≡ 0)
+    parted n on =
+        let IsOn : TableItem → Type 0 = λ (item : TableItem). times (map (λ (index : IndexItem). index.number) (indexes_on indexes item.number)) n ≡ 0 in
+        let both = subst (AllByRecursion IsOn) (take_one items k item there) on in
+        (all_first IsOn (take k items) (item ∷ []) both, all_one IsOn (take k items) item [] both)
+
+    pub roots_step : PutsRootsOn (indexes_on indexes item.number) table.indexes.items mid new
+        → PutsRoots indexes items opened (take k items) (take k opened) old mid → PutsRoots indexes items opened (take (k + 1) items) (take (k + 1) opened) old new
+    roots_step puts so_far = record {
+      each = λ was is none had.
+          let before = so_far.each was is none had in
+          let after = puts.each (record was { indexes = before.roots }) before.is in
+          record {
+            roots = after.roots;
+            is = after.is;
+            are = roots_next indexes items opened before.roots after.roots k item table there here once each after.are before.are;
+            others = λ n on. let apart = parted n on in after.are.others n apart.1 ∙ before.others n apart.0;
+          };
+    }
+
+    -- a table none of whose indexes has changed has their roots there
+    pub roots_skip : AllByRecursion (λ (s : IndexState). s.committed ≡ s.working) table.indexes.items
+        → PutsRoots indexes items opened (take k items) (take k opened) old mid → PutsRoots indexes items opened (take (k + 1) items) (take (k + 1) opened) old mid
+    roots_skip same so_far = record {
+      each = λ was is none had.
+          let before = so_far.each was is none had in
+          let none_earlier : times (map (λ (item : TableItem). item.number) (take k items)) item.number ≡ 0 = omega (arith, times-earlier (λ (item : TableItem). item.number) items k item there, once) in
+          let stand = roots_stand was.indexes before.roots (indexes_on indexes item.number) table.indexes.items
+          (zip_at (HadRoots indexes was.indexes) items opened k item table had there here) same
+          (λ n some. before.others n (on_no_other item.number n some (take k items) none_earlier)) in
+          let put : ArePut (indexes_on indexes item.number) table.indexes.items before.roots before.roots =
+          record { slots = before.are.slots; fit = before.are.fit; given = stand; others = λ n lacks. refl } in
+          record {
+            roots = before.roots;
+            is = before.is;
+            are = roots_next indexes items opened before.roots before.roots k item table there here once each put before.are;
+            others = λ n on. before.others n (parted n on).0;
+          };
+    }
 
 -- ---- the whole page
 
 pub slots_put : (file : OpenedFile) (version : ℕ) (old one two three new : List ℕ)
-    → PutsTrees (said_catalogue file.definitions).tables (said_catalogue file.definitions).tables file.tables.items old one
-    → PutsRoots (said_catalogue file.definitions).indexes (said_catalogue file.definitions).tables file.tables.items one two
+    → PutsTrees (said_catalogue file.definitions).tables file.tables.items (said_catalogue file.definitions).tables file.tables.items old one
+    → PutsRoots (said_catalogue file.definitions).indexes (said_catalogue file.definitions).tables file.tables.items (said_catalogue file.definitions).tables file.tables.items one two
     → ChangesDirectory (with_referents (item_of file.referents.working)) two three → ChangesDirectory (with_accepted version) three new → PutsSlots file version old new
 slots_put file version old one two three new trees roots referents accepted = record {
-  each = λ was is numbered.
-      let first = trees.each was is (record { none = numbered.no_table }) in
+  each = λ was is numbered had.
+      let first = trees.each was is had.trees in
       let then_trees : DirectoryItems = record was { tables = first.trees } in
       let fits = page_fits one then_trees first.is in
-      let second = roots.each then_trees first.is numbered.no_index in
+      let second = roots.each then_trees first.is numbered.no_index had.roots in
       let then_roots : DirectoryItems = record then_trees { indexes = second.roots } in
       let then_referents : DirectoryItems = record then_roots { referents = item_of file.referents.working } in
       record {
         directory = record then_referents { accepted = version };
         is = accepted.each then_referents (referents.each then_roots second.is);
         accepted = refl;
-        trees = record { slots = fits.all_tables; fit = fits.tables; given = first.given; others = first.others.none };
+        trees = record { slots = fits.all_tables; fit = fits.tables; given = first.given; others = λ n inside lacks. first.others n lacks ∙ numbered.no_table n inside lacks };
         roots = second.are;
         referents = refl;
       };
@@ -158,10 +241,10 @@ slots_put file version old one two three new trees roots referents accepted = re
 pub directory_rewritten : (old new : PageMap) (file : OpenedFile) (version : ℕ) (page now : List ℕ) → IsReady file → old.page 1 ≡ Some page → PutsSlots file version page now
     → ReplacesPage 1 now old new → RewritesDirectory old new file version
 directory_rewritten old new file version page now ready there puts replaces = record {
-  each = λ from contents was later limit has numbered parts opened routes.
+  each = λ from contents was later limit has numbered had parts opened routes.
       let definitions = said_catalogue file.definitions in
       let is : IsDirectory page was = subst (λ p. IsDirectory p was) (page_one old 1 has.page page has.there there) has.is in
-      let slots = puts.each was is (subst (λ (d : CatalogueItems). AreNumbered d was) opened.definitions numbered) in
+      let slots = puts.each was is (subst (λ (d : CatalogueItems). AreNumbered d was) opened.definitions numbered) had in
       let said = said_of definitions slots.directory file.tables.items ready.given ready.tables slots.trees slots.roots contents opened.definitions opened.tables
       (slots.referents ∙ ap item_of (sym opened.referents)) in
       record {

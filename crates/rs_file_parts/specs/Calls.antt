@@ -11,6 +11,7 @@ use Rattle.rs_file.specs.declared.opened.OpenedFile.{OpenedFile}
 use Rattle.rs_file_parts.specs.declared.definitions.Former.{Former}
 use Rattle.rs_file_parts.specs.Clearing.{ClearsAsMany, ClearsFirst}
 use Rattle.rs_file_parts.specs.Parts.{HoldsNoParts, IsOpenedFile, Makes}
+use Rattle.rs_file_parts.specs.Slots.{HadSlots}
 use Rattle.rs_page_owners.specs.Calls as owners
 use Rattle.rs_pages.specs.PageMap.{PageMap}
 use Rattle.rs_pages.specs.declared.pages.Pages.{Ghosts}
@@ -36,10 +37,10 @@ pub record HoldsWith (map : PageMap) (version : ℕ) (contents : Contents) : Typ
   pub holds : HoldsAll map (record contents { directory = directory })
 
 -- the same where the slots of what is open were written into the directory that was there: it had nothing under the numbers of other
--- tables and indexes
+-- tables and indexes, and of these what stood there at the last commit
 pub record RewritesDirectory (old new : PageMap) (file : OpenedFile) (version : ℕ) : Type 0 where
   pub each : (from : ℕ) (contents : Contents) (was : DirectoryItems) → from ≤ version → version < 2 ^ 63 → HasDirectory old was
-      → AreNumbered contents.definitions was → HoldsParts old from contents → IsOpenedFile file contents
+      → AreNumbered contents.definitions was → HadSlots file was → HoldsParts old from contents → IsOpenedFile file contents
       → AllByRecursion (λ route. route.born ≤ version) contents.definitions.routes → HoldsWith new version contents
 
 -- no contents lie there beside a directory

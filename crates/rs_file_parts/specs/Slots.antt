@@ -1,14 +1,14 @@
 -- What the calls that write the slots of the directory put into its page.
 use Rattle.std.specs.Prelude.{◌≡◌, ◌+◌, ◌++◌, ◌<◌, ℕ, List, Some, drop, length, map, set, slice_get, take}
-use Rattle.std.specs.List.{AllZip}
+use Rattle.std.specs.List.{AllByRecursion, AllZip}
 use Rattle.rs_attr.specs.Tables.{IndexState}
 use Rattle.rs_bytes.specs.Codes.{Code}
 use Rattle.rs_catalog_pages.specs.Directory.{DirectoryItems, IsDirectory, TreeItem}
 use Rattle.rs_catalog_pages.specs.Items.{IndexItem, TableItem}
 use Rattle.rs_catalog_pages.specs.Said.{said_catalogue}
-use Rattle.rs_catalog_pages.specs.declared.directory_items.TheConstants.{INDEXES, TABLES}
-use Rattle.rs_file.specs.Contents.{AreNumbered, item_of, no_tree}
-use Rattle.rs_file.specs.Slots.{ArePut, AreRoots, AreTrees, HasTree}
+use Rattle.rs_catalog_pages.specs.declared.directory_items.TheConstants.{INDEXES}
+use Rattle.rs_file.specs.Contents.{AreNumbered, item_of}
+use Rattle.rs_file.specs.Slots.{ArePut, AreRoots, AreTrees, HasTree, indexes_on}
 use Rattle.rs_file.specs.declared.opened.OpenedFile.{OpenedFile}
 use Rattle.rs_file.specs.declared.opened.OpenedTable.{OpenedTable}
 use Rattle.rs_page_owners.specs.Counts.{times}
@@ -51,20 +51,28 @@ tree_of root living garbage = record { root = root; living = living; garbage = g
 
 -- ---- the slots of several
 
--- no number that isn't one of these tables has a tree
-pub record HaveNoOthers (all : List TableItem) (trees : List TreeItem) : Type 0 where
-  pub none : (number : ℕ) → number < TABLES → times (map (λ item. item.number) all) number ≡ 0 → slice_get trees number ≡ Some no_tree
+-- the slot of the table's number has the tree that stood there at the last commit
+abbrev pub HadTree : List TreeItem → TableItem → OpenedTable → Type 0
+HadTree trees item opened = slice_get trees item.number ≡ Some (item_of opened.records.committed)
 
--- the page is that directory with other trees: these tables have theirs, and no number that isn't one of all tables has one
-pub record HasTrees (all items : List TableItem) (opened : List OpenedTable) (page : List ℕ) (was : DirectoryItems) : Type 0 where
+-- the slot of the index's number has the root that stood there at the last commit
+abbrev pub HadRoot : List ℕ → IndexItem → IndexState → Type 0
+HadRoot roots item index = slice_get roots item.number ≡ Some index.committed
+
+-- and those of all indexes of a table
+abbrev pub HadRoots : List IndexItem → List ℕ → TableItem → OpenedTable → Type 0
+HadRoots indexes roots item opened = AllZip (HadRoot roots) (indexes_on indexes item.number) opened.indexes.items
+
+-- the page is that directory with other trees: these tables have theirs, and under all other numbers stands what stood there before
+pub record HasTrees (items : List TableItem) (opened : List OpenedTable) (page : List ℕ) (was : DirectoryItems) : Type 0 where
   pub trees : List TreeItem
   pub is : IsDirectory page (record was { tables = trees })
   pub given : AllZip (HasTree trees) items opened
-  pub others : HaveNoOthers all trees
+  pub others : (number : ℕ) → times (map (λ item. item.number) items) number ≡ 0 → slice_get trees number ≡ slice_get was.tables number
 
--- where the page was a directory that had no tree under another number, it has the trees of these tables
-pub record PutsTrees (all items : List TableItem) (opened : List OpenedTable) (old new : List ℕ) : Type 0 where
-  pub each : (was : DirectoryItems) → IsDirectory old was → HaveNoOthers all was.tables → HasTrees all items opened new was
+-- where the page was a directory that had of all tables the trees of the last commit, it has the trees of these now
+pub record PutsTrees (all : List TableItem) (tables : List OpenedTable) (items : List TableItem) (opened : List OpenedTable) (old new : List ℕ) : Type 0 where
+  pub each : (was : DirectoryItems) → IsDirectory old was → AllZip (HadTree was.tables) all tables → HasTrees items opened new was
 
 -- the page is that directory with other roots: those of these indexes of a table
 pub record HasRootsOn (items : List IndexItem) (indexes : List IndexState) (page : List ℕ) (was : DirectoryItems) : Type 0 where
@@ -75,17 +83,23 @@ pub record HasRootsOn (items : List IndexItem) (indexes : List IndexState) (page
 pub record PutsRootsOn (items : List IndexItem) (indexes : List IndexState) (old new : List ℕ) : Type 0 where
   pub each : (was : DirectoryItems) → IsDirectory old was → HasRootsOn items indexes new was
 
--- and those of all indexes of these tables
+-- no index with this number is on one of these tables
+abbrev pub IsOnNone : List IndexItem → List TableItem → ℕ → Type 0
+IsOnNone indexes items number = AllByRecursion (λ item. times (map (λ index. index.number) (indexes_on indexes item.number)) number ≡ 0) items
+
+-- and those of all indexes of these tables; under the numbers of others stands what stood there before
 pub record HasRoots (indexes : List IndexItem) (items : List TableItem) (opened : List OpenedTable) (page : List ℕ) (was : DirectoryItems) : Type 0 where
   pub roots : List ℕ
   pub is : IsDirectory page (record was { indexes = roots })
   pub are : AreRoots indexes items opened roots
+  pub others : (number : ℕ) → IsOnNone indexes items number → slice_get roots number ≡ slice_get was.indexes number
 
--- where the page was a directory that had no root under another number, it has the roots of these indexes
-pub record PutsRoots (indexes : List IndexItem) (items : List TableItem) (opened : List OpenedTable) (old new : List ℕ) : Type 0 where
+-- where the page was a directory that had no root under another number, and of all tables the roots of the last commit, it has the roots
+-- of the indexes of these now
+pub record PutsRoots (indexes : List IndexItem) (all : List TableItem) (tables : List OpenedTable) (items : List TableItem) (opened : List OpenedTable) (old new : List ℕ) : Type 0 where
   pub each : (was : DirectoryItems) → IsDirectory old was
       → ((number : ℕ) → number < INDEXES → times (map (λ index. index.number) indexes) number ≡ 0 → slice_get was.indexes number ≡ Some 0)
-      → HasRoots indexes items opened new was
+      → AllZip (HadRoots indexes was.indexes) all tables → HasRoots indexes items opened new was
 
 -- the page is the directory of what is open, with this version as the one that was accepted last
 pub record HasSlots (file : OpenedFile) (version : ℕ) (page : List ℕ) : Type 0 where
@@ -96,6 +110,12 @@ pub record HasSlots (file : OpenedFile) (version : ℕ) (page : List ℕ) : Type
   pub roots : AreRoots (said_catalogue file.definitions).indexes (said_catalogue file.definitions).tables file.tables.items directory.indexes
   pub referents : directory.referents ≡ item_of file.referents.working
 
--- where the page was a directory of the same tables and indexes, it is that of what is open
+-- the directory has of each table and each index what stood there at the last commit
+pub record HadSlots (file : OpenedFile) (directory : DirectoryItems) : Type 0 where
+  pub trees : AllZip (HadTree directory.tables) (said_catalogue file.definitions).tables file.tables.items
+  pub roots : AllZip (HadRoots (said_catalogue file.definitions).indexes directory.indexes) (said_catalogue file.definitions).tables file.tables.items
+
+-- where the page was a directory of the same tables and indexes, which had of these what stood there at the last commit, it is that of
+-- what is open
 pub record PutsSlots (file : OpenedFile) (version : ℕ) (old new : List ℕ) : Type 0 where
-  pub each : (was : DirectoryItems) → IsDirectory old was → AreNumbered (said_catalogue file.definitions) was → HasSlots file version new
+  pub each : (was : DirectoryItems) → IsDirectory old was → AreNumbered (said_catalogue file.definitions) was → HadSlots file was → HasSlots file version new

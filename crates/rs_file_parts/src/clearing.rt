@@ -138,6 +138,9 @@ fn clear_table<P: Pages>(
     ensures order { (version : ℕ) → HaveDiedBy version table.old.records.working.dead → HaveDiedBy version table.new.records.working.dead }
     ensures room { result ≢ Err Refusal.FileFull }
 {
+    if table.records.garbage() == 0 {
+        return Ok(0);
+    }
     let taken = vacuum(
         alloc,
         pages,

@@ -42,7 +42,9 @@ pub fn take_back(file: &mut OpenedFile)
 fn keep_table(table: &mut OpenedTable)
     ensures { IsTableKept table.old table.new }
 {
-    table.records.commit();
+    if table.records.is_changed() {
+        table.records.commit();
+    }
     keep_indexes(&mut table.indexes);
 }
 

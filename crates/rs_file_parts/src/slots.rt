@@ -1,7 +1,7 @@
-//! This module writes of the directory the slots of what is open, where just these tables and indexes were there before. Its work grows
-//! with them, and not with how many there may be.
+//! This module writes of the directory the slots of what is open, where just these tables and indexes were there before. Tables and
+//! indexes that have not changed since the last commit keep the bytes of theirs, at the cost of a look at each.
 
-ghost use Rattle.std.specs.Prelude.{◌≡◌, ◌≢◌, ◌<◌, ◌≤◌, ℕ, true, Err, length, map};
+ghost use Rattle.std.specs.Prelude.{◌≡◌, ◌≢◌, ◌<◌, ◌≤◌, ℕ, true, false, Err, length, map};
 ghost use Rattle.std.specs.List.{AllByRecursion, AllZip};
 ghost use Rattle.rs_catalog_pages.specs.Calls.{StaysRefused};
 ghost use Rattle.rs_catalog_pages.specs.Said.{said_index, said_table, said_tree};
@@ -24,8 +24,9 @@ use rs_versioned::{EventTable, ReferentTable};
 
 // decision: slots-of-the-directory
 /// Writes the slots of what is open into the directory that is there, with this version as the one that was accepted last: the file
-/// holds all that lies there then, where the directory had nothing under the numbers of other tables and indexes. It is refused with
-/// 90, with 91, and with 94 only where no contents lie there beside a directory; nothing has changed then.
+/// holds all that lies there then, where the directory had nothing under the numbers of other tables and indexes, and of these what
+/// stood there at the last commit. It is refused with 90, with 91, and with 94 only where no contents lie there beside a directory;
+/// nothing has changed then.
 pub fn write_slots<P: Pages>(pages: &mut P, file: &OpenedFile, version: u64) -> Result<(), Refusal>
     requires begun { (P.store pages.old).is_begun ≡ true }
     requires ready { IsReady file.now }
@@ -52,19 +53,21 @@ fn put_slots(page: &mut Page, file: &OpenedFile, version: u64)
     put_accepted(page, version);
 }
 
-/// Puts the trees of these tables into the slots of their numbers.
+/// Puts the trees of these tables into the slots of their numbers, where they have changed.
 fn put_trees(page: &mut Page, items: &[StoredTable], tables: &[OpenedTable])
     requires many { length items.now ≡ length tables.now }
     requires below { AllByRecursion (λ item. item.number < TABLES) (map said_table items.now) }
     requires once { (number : ℕ) → times (map (λ item. item.number) (map said_table items.now)) number ≤ 1 }
-    ensures { PutsTrees (map said_table items.now) (map said_table items.now) tables.now page.old.bytes page.new.bytes }
+    ensures { PutsTrees (map said_table items.now) tables.now (map said_table items.now) tables.now page.old.bytes page.new.bytes }
 {
     for (place, table) in tables.iter().enumerate() {
-        put_tree(page, items[place].number, &tree_of_records(&table.records));
+        if table.records.is_changed() {
+            put_tree(page, items[place].number, &tree_of_records(&table.records));
+        }
     }
 }
 
-/// Puts the roots of the indexes of these tables into the slots of their numbers.
+/// Puts the roots of the indexes of these tables into the slots of their numbers, where a table has one that has changed.
 fn put_roots(
     page: &mut Page,
     items: &[StoredTable],
@@ -75,11 +78,25 @@ fn put_roots(
     requires tables_once { (number : ℕ) → times (map (λ item. item.number) (map said_table items.now)) number ≤ 1 }
     requires below { AllByRecursion (λ index. index.number < INDEXES) (map said_index indexes.now) }
     requires once { (number : ℕ) → times (map (λ index. index.number) (map said_index indexes.now)) number ≤ 1 }
-    ensures { PutsRoots (map said_index indexes.now) (map said_table items.now) tables.now page.old.bytes page.new.bytes }
+    ensures { PutsRoots (map said_index indexes.now) (map said_table items.now) tables.now (map said_table items.now) tables.now page.old.bytes page.new.bytes }
 {
     for (place, table) in tables.iter().enumerate() {
-        put_roots_on(page, indexes, items[place].number, table.indexes.as_slice());
+        if has_changed(table.indexes.as_slice()) {
+            put_roots_on(page, indexes, items[place].number, table.indexes.as_slice());
+        }
     }
+}
+
+/// Whether one of these indexes may have changed since the last commit.
+fn has_changed(indexes: &[AttrIndex]) -> bool
+    ensures { result ≡ false → AllByRecursion (λ index. index.committed ≡ index.working) indexes.now }
+{
+    for index in indexes {
+        if index.is_changed() {
+            return true;
+        }
+    }
+    false
 }
 
 /// Puts the roots of the indexes of the table with this number.
@@ -89,10 +106,6 @@ fn put_roots_on(page: &mut Page, items: &[StoredIndex], table: u32, indexes: &[A
     requires once { (number : ℕ) → times (map (λ index. index.number) (map said_index items.now)) number ≤ 1 }
     ensures { PutsRootsOn (indexes_on (map said_index items.now) table) indexes.now page.old.bytes page.new.bytes }
 {
-    // Most tables have none, and need no walk over the items of all.
-    if indexes.is_empty() {
-        return;
-    }
     let mut next = 0;
     for item in items {
         if item.table == table {

@@ -7,6 +7,7 @@ ghost use Rattle.rs_catalog_pages.specs.Said.{said_catalogue};
 ghost use Rattle.rs_changes.specs.Calls.{MayChange};
 ghost use Rattle.rs_facts.specs.Insert.{same_name};
 ghost use Rattle.rs_file_parts.specs.Calls.{ChangesDefinitions};
+ghost use Rattle.rs_file_parts.specs.Parts.{IsCommitted};
 ghost use Rattle.rs_machine.specs.declared.limits.TheConstants.{CHANGES};
 ghost use Rattle.rs_store.specs.Rewriting.{AreNumbersSmall, CanBeKept, HasTablesOf, Rewrites};
 ghost use Rattle.rs_stored_catalog.specs.Listing.{listing_of};
@@ -34,6 +35,7 @@ pub(crate) fn write_definitions_of<P: Pages>(
 ) -> Result<(), Refusal>
     requires begun { (P.store pages.old).is_begun ≡ true }
     requires may { MayChange file.old }
+    requires committed { IsCommitted file.old }
     requires room { file.old.accepted < CHANGES }
     requires tables { HasTablesOf (said_catalogue file.old.definitions) (listing_of catalog.now) }
     requires births { AllByRecursion (λ route. route.born ≤ file.old.accepted + 1) (listing_of catalog.now).routes }
@@ -53,6 +55,7 @@ pub(crate) fn rewrite<P: Pages>(
 ) -> Result<(), Refusal>
     requires begun { (P.store pages.old).is_begun ≡ true }
     requires may { MayChange file.old }
+    requires committed { IsCommitted file.old }
     requires room { file.old.accepted < CHANGES }
     requires tables { HasTablesOf (said_catalogue file.old.definitions) (said_catalogue definitions) }
     requires births { AllByRecursion (λ route. route.born ≤ file.old.accepted + 1) (said_catalogue definitions).routes }

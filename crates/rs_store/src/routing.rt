@@ -10,6 +10,7 @@ ghost use Rattle.rs_catalog.specs.Uses.{some_piece_on};
 ghost use Rattle.rs_catalog_pages.specs.Said.{said_catalogue};
 ghost use Rattle.rs_stored_catalog.specs.Listing.{listing_of};
 ghost use Rattle.rs_file_parts.specs.Calls.{ChangesDefinitions};
+ghost use Rattle.rs_file_parts.specs.Parts.{IsCommitted};
 ghost use Rattle.rs_machine.specs.Lawful.{IsLawful};
 ghost use Rattle.rs_machine.specs.State.{State, has};
 ghost use Rattle.rs_machine.specs.Step.{with_route, without_route};
@@ -201,6 +202,7 @@ fn erase_route<P: Pages>(
 ) -> Result<(), Refusal>
     requires begun { (P.store pages.old).is_begun ≡ true }
     requires may { MayChange file.old }
+    requires committed { IsCommitted file.old }
     requires room { file.old.accepted < CHANGES }
     requires tables { HasTablesOf (said_catalogue file.old.definitions) (said_catalogue definitions) }
     requires births { AllByRecursion (λ route. route.born ≤ file.old.accepted + 1) (said_catalogue definitions).routes }

@@ -3,7 +3,7 @@
 //! Changes are made together or not at all: `commit` keeps them, `abandon` takes them back, and neither takes memory. The
 //! pages are to be committed or abandoned with them.
 
-ghost use Rattle.std.specs.Prelude.{◌≡◌, ◌≢◌, ◌<◌, ◌≤◌, ◌*◌, ◌+◌, ℕ, IsTrue, IfOk, OnOk, length, true, Err};
+ghost use Rattle.std.specs.Prelude.{◌≡◌, ◌≢◌, ◌<◌, ◌≤◌, ◌*◌, ◌+◌, ℕ, IsTrue, IfOk, OnOk, length, true, false, Err};
 ghost use Rattle.rs_page.specs.declared.header.TheConstants.{PAGE_ROOM};
 ghost use Rattle.rs_cell_versions.specs.Version.{HaveDiedBy, born_of, is_living};
 ghost use Rattle.rs_cell_versions.specs.Versioned.{nothing_stands};
@@ -72,6 +72,13 @@ impl<K: RecordKind> RecordTable<K> {
         ensures { result ≡ length self.now.working.dead }
     {
         self.versions.garbage()
+    }
+
+    /// Whether anything may have changed since the last commit: where it answers false, nothing has.
+    pub fn is_changed(&self) -> bool
+        ensures { result ≡ false → self.now.committed ≡ self.now.working }
+    {
+        self.versions.is_changed()
     }
 
     /// Puts the record of a living cell among the others, and answers whether it was not there before; where it was, nothing

@@ -4,11 +4,10 @@ use Rattle.std.proofs.lemmas.Result.{err_from_is_err_and}
 use Rattle.rs_file_parts.specs.Calls.{HoldsNoDirectory}
 use Rattle.rs_file_parts.specs.Parts.{HoldsNoParts}
 use Rattle.rs_changes.specs.Completing.{HoldsNoneToComplete}
-use Rattle.rs_changes.specs.Garbage.{garbage_of}
 use Rattle.rs_file_parts.proofs.Ready.{ready_after}
 use Rattle.rs_page_owners.proofs.Following.{works_err}
 use Rattle.rs_page_owners.proofs.Working.{CountsNothing-refl, Works-refl}
-use Rattle.rs_changes.proofs.Completion.{completes_from, few_more, next_of_kept, no_directory, no_parts}
+use Rattle.rs_changes.proofs.Completion.{completes_from, next_of_kept, no_directory, no_parts}
 use Rattle.rs_changes.proofs.completing.complete.Goals as goal
 
 pub returns-in_err-clear-clause-leaves : goal.returns-in_err-clear-clause-leaves
@@ -44,10 +43,8 @@ returns-in_err-write_slots-clause-leaves g c =
 pub returns-clause-completes : goal.returns-clause-completes
 returns-clause-completes g c = λ tied.
     completes_from c.args.oldest c.saturating_add-most.result c.in_ok-clear.field-0 (g.P.Pages.store c.args.pages.now).map (g.P.Pages.store c.clear.new.pages).map
-    c.args.file.now c.clear.new.file (c.in_ok-clear.ensures.clears tied) c.args.before (g.P.Pages.store c.write_slots.new.pages).map c.requires.room
-    (omega (arith, c.saturating_add-most.ensures, c.saturating_sub-ended.type_inv))
-    (λ dead was. few_more c.garbage.result (garbage_of c.args.file.now) c.args.before c.saturating_sub-ended.result c.saturating_add-most.result dead
-    c.garbage.ensures c.saturating_sub-ended.ensures (omega (arith, c.saturating_add-most.ensures)) was)
+    c.args.file.now c.clear.new.file (c.in_ok-clear.ensures.clears tied) c.args.ended (g.P.Pages.store c.write_slots.new.pages).map c.requires.room
+    (omega (arith, c.saturating_add-most.ensures)) (omega (arith, c.saturating_add-most.ensures)) c.in_ok-clear.ensures.keeps
     (c.in_ok-write_slots.ensures.writes (g.met.P.Pages.keeps_tied c.args.pages.now c.clear.new.pages c.in_ok-clear.ensures.leaves.keeps tied))
 
 pub returns-clause-next : goal.returns-clause-next

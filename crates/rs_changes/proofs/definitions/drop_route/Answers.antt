@@ -8,8 +8,9 @@ use Rattle.rs_changes.specs.Ending.{HoldsNoReferents}
 use Rattle.rs_file_parts.proofs.Made.{referents_made}
 use Rattle.rs_file_parts.proofs.Ready.{ready_after}
 use Rattle.rs_change_laws.specs.Parts.{DropsRoute, EndsAllOn}
-use Rattle.rs_changes.proofs.Redefined.{accepted_stays, births_then, drops_stay, keeps_ended, makes_dropped, no_referents_no_file, none_ended, order_ended, order_then, ready_then}
-use Rattle.rs_changes.proofs.Wholes.{changes_file, completion_refused, leaves_refused, numbers_same, stored_by_storing, stored_by_works, stored_none, stored_then, storing_by_works}
+use Rattle.rs_changes.specs.Garbage.{garbage_of}
+use Rattle.rs_changes.proofs.Redefined.{accepted_stays, births_then, drops_stay, keeps_ended, makes_dropped, no_referents_no_file, none_ended, order_ended, order_then, ready_then, stood_same}
+use Rattle.rs_changes.proofs.Wholes.{changes_file, completion_refused, leaves_refused, numbers_same, stood, stored_by_storing, stored_by_works, stored_none, stored_then, storing_by_works}
 use Rattle.rs_changes.proofs.definitions.drop_route.Goals as goal
 
 pub returns-in_err-end_referents_on-clause-leaves : goal.returns-in_err-end_referents_on-clause-leaves
@@ -81,11 +82,13 @@ returns-in-Ok-clause-drops g c = λ tied.
     (makes_dropped old half was first c.args.route mid between listing
     (referents_made old half was first was.accepted (was.accepted + 1) (EndsAllOn (was.accepted + 1) c.args.route) refl refl refl (omega arith) (ended.ends tied was.accepted (omega arith)))
     (c.in_ok-former.ensures.defines tied_half (was.accepted + 1) (was.accepted + 1) (omega arith)))
-    c.args.oldest c.garbage-before.result (g.P.Pages.store c.complete.new.pages).map c.complete.new.file c.garbage-before.ensures
+    c.args.oldest c.ended_since-ended.result (g.P.Pages.store c.complete.new.pages).map c.complete.new.file (c.ended_since-ended.ensures (garbage_of was) c.garbage-before.ensures)
     (drops_stay c.args.route listing)
     (λ contents holds opened. births_then c.args.definitions first between former gives (was.accepted + 1) c.requires.may.births)
     (λ contents holds opened. numbers_same old contents was between (ap (λ d. (said_catalogue d).tables) gives.definitions_are ∙ c.requires.same.tables)
     (ap (λ d. (said_catalogue d).indexes) gives.definitions_are ∙ c.requires.same.indexes) holds opened)
+    (λ contents holds opened. stood old contents was between (ap (λ d. (said_catalogue d).tables) gives.definitions_are ∙ c.requires.same.tables)
+    (ap (λ d. (said_catalogue d).indexes) gives.definitions_are ∙ c.requires.same.indexes) (stood_same c.args.definitions first between former gives) c.requires.committed holds opened)
     (c.in-Ok.ensures.completes (g.met.P.Pages.keeps_tied c.end_referents_on.new.pages c.write_definitions.new.pages c.in_ok-former.ensures.leaves.keeps tied_half))
 
 pub returns-in-Err-clause-leaves : goal.returns-in-Err-clause-leaves

@@ -5,8 +5,9 @@ use Rattle.rs_catalog_pages.specs.Said.{said_catalogue}
 use Rattle.rs_file.specs.Contents.{Contents}
 use Rattle.rs_file_parts.specs.Calls.{ChangesDefinitions}
 use Rattle.rs_file_parts.specs.Parts.{HoldsNoParts, KeepsCommitted}
-use Rattle.rs_changes.proofs.Redefined.{accepted_stays, births_then, order_later, order_then, ready_then}
-use Rattle.rs_changes.proofs.Wholes.{changes_file, completion_refused, leaves_refused, makes_next, no_file, numbers_same, stored_by_storing, stored_none}
+use Rattle.rs_changes.specs.Garbage.{garbage_of}
+use Rattle.rs_changes.proofs.Redefined.{accepted_stays, births_then, order_later, order_then, ready_then, stood_same}
+use Rattle.rs_changes.proofs.Wholes.{changes_file, completion_refused, leaves_refused, makes_next, no_file, numbers_same, stood, stored_by_storing, stored_none}
 use Rattle.rs_changes.proofs.definitions.redefine.Goals as goal
 use Rattle.rs_file_parts.proofs.Ready.{keeps_none}
 
@@ -43,11 +44,13 @@ returns-in-Ok-clause-defines g c = λ tied.
     let mid = (g.P.Pages.store c.write_definitions.new.pages).map in
     changes_file old mid was between (ChangesDefinitions listing) (accepted_stays c.args.definitions was between c.in_ok-former.former gives)
     (makes_next (ChangesDefinitions listing) (ChangesDefinitions listing) old mid was between (λ contents now same is. is) (c.in_ok-former.ensures.defines tied was.accepted (was.accepted + 1) (omega arith)))
-    c.args.oldest c.garbage-before.result (g.P.Pages.store c.complete.new.pages).map c.complete.new.file c.garbage-before.ensures
+    c.args.oldest c.ended_since-ended.result (g.P.Pages.store c.complete.new.pages).map c.complete.new.file (c.ended_since-ended.ensures (garbage_of was) c.garbage-before.ensures)
     (λ contents now change. ap (λ (c : Contents). c.directory) change.rest)
     (λ contents holds opened. births_then c.args.definitions was between c.in_ok-former.former gives (was.accepted + 1) c.requires.may.births)
     (λ contents holds opened. numbers_same old contents was between (ap (λ d. (said_catalogue d).tables) gives.definitions_are ∙ c.requires.same.tables)
     (ap (λ d. (said_catalogue d).indexes) gives.definitions_are ∙ c.requires.same.indexes) holds opened)
+    (λ contents holds opened. stood old contents was between (ap (λ d. (said_catalogue d).tables) gives.definitions_are ∙ c.requires.same.tables)
+    (ap (λ d. (said_catalogue d).indexes) gives.definitions_are ∙ c.requires.same.indexes) (stood_same c.args.definitions was between c.in_ok-former.former gives) c.requires.committed holds opened)
     (c.in-Ok.ensures.completes (g.met.P.Pages.keeps_tied c.args.pages.now c.write_definitions.new.pages c.in_ok-former.ensures.leaves.keeps tied))
 
 pub returns-in-Err-clause-leaves : goal.returns-in-Err-clause-leaves

@@ -2,8 +2,9 @@ use Rattle.std.proofs.Common.{◌+◌, sym, subst}
 use Rattle.std.proofs.lemmas.Result.{err_from_is_err_and}
 use Rattle.rs_file_parts.specs.Parts.{HaveAllDiedBy, HoldsNoParts}
 use Rattle.rs_change_laws.specs.Parts.{EndsReferent}
+use Rattle.rs_changes.specs.Garbage.{garbage_of}
 use Rattle.rs_changes.proofs.ReferentWholes.{ends_beside, ends_next}
-use Rattle.rs_changes.proofs.Wholes.{changes_file, completion_refused, numbers_stay, part_refused, routes_stay, stored_by_works}
+use Rattle.rs_changes.proofs.Wholes.{changes_file, completion_refused, numbers_stay, part_refused, routes_stay, stood_kept, stored_by_works}
 use Rattle.rs_file_parts.proofs.Ready.{keeps_then, ready_after}
 use Rattle.rs_changes.proofs.referents.drop_referent.Goals as goal
 
@@ -47,7 +48,8 @@ returns-clause-ends g c = λ tied.
     let mid = g.P.Pages.store c.end_referent.new.pages in
     changes_file old.map mid.map was between (EndsReferent c.args.route c.args.name.now.bytes) c.in_ok-end_referent.ensures.keeps.accepted
     (ends_next old.map mid.map was between c.args.route c.args.name.now.bytes c.in_ok-end_referent.field-0 (c.in_ok-end_referent.ensures.ends tied))
-    c.args.oldest c.garbage-before.result (g.P.Pages.store c.complete.new.pages).map c.complete.new.file c.garbage-before.ensures (ends_beside c.args.route c.args.name.now.bytes)
+    c.args.oldest c.ended_since-ended.result (g.P.Pages.store c.complete.new.pages).map c.complete.new.file (c.ended_since-ended.ensures (garbage_of was) c.garbage-before.ensures) (ends_beside c.args.route c.args.name.now.bytes)
     (λ contents holds opened. routes_stay old.map contents was between c.in_ok-end_referent.ensures.keeps.definitions holds opened)
     (λ contents holds opened. numbers_stay old.map contents was between c.in_ok-end_referent.ensures.keeps.definitions holds opened)
+    (λ contents holds opened. stood_kept old.map contents was between c.in_ok-end_referent.ensures.keeps c.requires.may.committed holds opened)
     (c.in_ok-complete.ensures.completes (g.met.P.Pages.keeps_tied c.args.pages.now c.end_referent.new.pages c.in_ok-end_referent.ensures.leaves.keeps tied))

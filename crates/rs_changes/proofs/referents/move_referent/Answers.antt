@@ -2,8 +2,9 @@ use Rattle.std.proofs.Common.{◌∙◌, ◌+◌, Err, sym, subst}
 use Rattle.std.proofs.lemmas.Result.{err_from_is_err_and}
 use Rattle.rs_file_parts.specs.Parts.{HaveAllDiedBy, HoldsNoParts}
 use Rattle.rs_change_laws.specs.Parts.{EndsReferent, MovesReferent}
+use Rattle.rs_changes.specs.Garbage.{garbage_of}
 use Rattle.rs_changes.proofs.ReferentWholes.{ends_next, moves_beside, moves_next, no_file_before}
-use Rattle.rs_changes.proofs.Wholes.{changes_file, completion_refused, leaves_refused, numbers_stay, part_refused, routes_stay, stored_by_works, stored_then, storing_by_works}
+use Rattle.rs_changes.proofs.Wholes.{changes_file, completion_refused, leaves_refused, numbers_stay, part_refused, routes_stay, stood_kept, stored_by_works, stored_then, storing_by_works}
 use Rattle.rs_file_parts.proofs.Ready.{keeps_then, ready_after}
 use Rattle.rs_changes.proofs.referents.move_referent.Goals as goal
 
@@ -86,7 +87,8 @@ returns-clause-moves g c = λ tied.
     let keeps = keeps_then was file between c.in_ok-end_referent.ensures.keeps c.in_ok-put_referent.ensures.keeps in
     changes_file old.map mid.map was between (MovesReferent c.args.referent.now.route c.args.referent.now.name.bytes c.args.referent.now.measure) keeps.accepted
     (moves_next old.map mid.map was between c.args.referent.now.route c.args.referent.now.name.bytes half.map file c.in_ok-end_referent.field-0 c.args.referent.now.measure (c.in_ok-end_referent.ensures.ends tied) (c.in_ok-put_referent.ensures.puts then))
-    c.args.oldest c.garbage-before.result (g.P.Pages.store c.complete.new.pages).map c.complete.new.file c.garbage-before.ensures (moves_beside c.args.referent.now.route c.args.referent.now.name.bytes c.args.referent.now.measure)
+    c.args.oldest c.ended_since-ended.result (g.P.Pages.store c.complete.new.pages).map c.complete.new.file (c.ended_since-ended.ensures (garbage_of was) c.garbage-before.ensures) (moves_beside c.args.referent.now.route c.args.referent.now.name.bytes c.args.referent.now.measure)
     (λ contents holds opened. routes_stay old.map contents was between keeps.definitions holds opened)
     (λ contents holds opened. numbers_stay old.map contents was between keeps.definitions holds opened)
+    (λ contents holds opened. stood_kept old.map contents was between keeps c.requires.may.committed holds opened)
     (c.in_ok-complete.ensures.completes (g.met.P.Pages.keeps_tied c.end_referent.new.pages c.put_referent.new.pages c.in_ok-put_referent.ensures.leaves.keeps then))

@@ -9,7 +9,7 @@ use Rattle.rs_file.specs.declared.opened.OpenedTable.{OpenedTable}
 use Rattle.rs_file_parts.proofs.Placed.{place_keeps, place_on_cells}
 use Rattle.rs_table_changes.specs.Changes.{Inserted, Inserts}
 use Rattle.rs_table_changes.specs.declared.moment.Moment.{Moment}
-use Rattle.rs_changes.proofs.TablesPlaced.{garbage_placed, leaves_placed, made_placed, order_later, order_placed, tables_died}
+use Rattle.rs_changes.proofs.TablesPlaced.{garbage_placed, grows_placed, leaves_placed, made_placed, order_later, order_placed, tables_died}
 use Rattle.rs_changes.proofs.rows.insert_in_place.Goals as goal
 
 pub insert-requires-clause-may : goal.insert-requires-clause-may
@@ -61,3 +61,8 @@ returns-clause-order g c = record {
 
 pub returns-clause-more : goal.returns-clause-more
 returns-clause-more g c = garbage_placed c.args.file.now c.args.insertion.now.table c.index_mut.result.now c.requires.row.there c.index_mut.ensures.value c.insert.new.table c.insert.ensures.keeps.more
+
+pub returns-clause-grows : goal.returns-clause-grows
+returns-clause-grows g c =
+    let is : OpenedFile = record c.args.file.now { tables = with_item c.args.file.now.tables c.args.insertion.now.table c.insert.new.table } in
+    grows_placed c.args.file.now c.args.insertion.now.table c.index_mut.result.now c.requires.row.there c.index_mut.ensures.value c.insert.new.table is refl refl

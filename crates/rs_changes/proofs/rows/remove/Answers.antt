@@ -3,7 +3,8 @@ use Rattle.std.proofs.Common.{◌+◌, ℕ, List}
 use Rattle.std.proofs.lemmas.Result.{err_from_is_err_and}
 use Rattle.rs_change_laws.specs.Changing.{HoldsNoFile}
 use Rattle.rs_changes.proofs.TakenRows.{TakesBy, same_directory, taken_file, taken_next}
-use Rattle.rs_changes.proofs.Wholes.{changes_file, completion_refused, numbers_stay, routes_stay, stored_by_storing}
+use Rattle.rs_changes.proofs.TablesPlaced.{grown_by}
+use Rattle.rs_changes.proofs.Wholes.{changes_file, completion_refused, numbers_stay, routes_stay, stood_kept, stored_by_storing}
 use Rattle.rs_file.specs.declared.opened.OpenedFile.{OpenedFile}
 use Rattle.rs_file_parts.proofs.Ready.{keeps_then, ready_after}
 use Rattle.rs_pages.specs.PageMap.{PageMap}
@@ -47,7 +48,10 @@ returns-clause-removes g c = λ tied.
     taken_file c.args.oldest place by old new was c.complete.new.file
     (changes_file old mid was between (TakesBy c.args.oldest place by) c.in_ok-count.ensures.keeps.accepted
     (taken_next c.args.oldest place by old mid was between c.requires.may.room c.in_ok-count.ensures.more (c.in_ok-count.ensures.removes tied))
-    c.args.oldest c.garbage-before.result new c.complete.new.file c.garbage-before.ensures (same_directory c.args.oldest place by)
+    c.args.oldest c.saturating_sub-ended.result new c.complete.new.file
+    (grown_by place was between c.requires.place c.in_ok-count.ensures.keeps c.in_ok-count.ensures.grows c.dead_at-before.result c.dead_at.result c.saturating_sub-ended.result
+    c.dead_at-before.ensures c.dead_at.ensures c.saturating_sub-ended.ensures) (same_directory c.args.oldest place by)
     (λ contents holds opened. routes_stay old contents was between c.in_ok-count.ensures.keeps.definitions holds opened)
     (λ contents holds opened. numbers_stay old contents was between c.in_ok-count.ensures.keeps.definitions holds opened)
+    (λ contents holds opened. stood_kept old contents was between c.in_ok-count.ensures.keeps c.requires.may.committed holds opened)
     (c.in_ok-complete.ensures.completes (g.met.P.Pages.keeps_tied c.args.pages.now c.remove_in_place.new.pages c.in_ok-count.ensures.leaves.keeps tied)))

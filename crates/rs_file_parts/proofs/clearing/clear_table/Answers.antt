@@ -1,11 +1,16 @@
 -- What was cleared of the table and its indexes.
 use Rattle.std.proofs.Common.{◌≡◌, List, length, drop, subst, sym, ◌∙◌, arith}
 use Rattle.rs_attr.specs.Tables.{ChangesTable, IndexState}
+use Rattle.rs_file_parts.proofs.Cleared.{cleared_as_it_is}
 use Rattle.rs_file_parts.proofs.Lists.{refilled}
 use Rattle.rs_records.specs.Listed.{listed}
 use Rattle.rs_versioned.specs.Events.{kept_events}
 use Rattle.rs_versioned.specs.Records.{HasCleared}
 use Rattle.rs_file_parts.proofs.clearing.clear_table.Goals as goal
+
+pub returns-then-garbage-eq0-clause-clears : goal.returns-then-garbage-eq0-clause-clears
+returns-then-garbage-eq0-clause-clears g c = λ tied.
+    cleared_as_it_is (g.P.Pages.store c.args.pages.now).map c.args.table.now c.args.oldest c.args.most (sym c.garbage.ensures ∙ c.if-garbage-eq0.true)
 
 pub returns-clause-clears : goal.returns-clause-clears
 returns-clause-clears g c = λ tied.

@@ -5,4 +5,4 @@ use Rattle.rs_file_parts.specs.Slots.{PutsRoots}
 use Rattle.rs_file_parts.proofs.slots.put_roots.Given as goal
 
 abbrev pub invariant-loop-place : goal.invariant-loop-place
-invariant-loop-place l = PutsRoots (map said_index l.indexes) (take l.place (map said_table l.items)) (take l.place l.tables) l.fn.page.bytes l.page.bytes
+invariant-loop-place l = PutsRoots (map said_index l.indexes) (map said_table l.items) l.tables (take l.place (map said_table l.items)) (take l.place l.tables) l.fn.page.bytes l.page.bytes

@@ -13,14 +13,10 @@ use Rattle.rs_file.proofs.Numbering.{each_at, said_each}
 use Rattle.rs_file.proofs.Slotted.{selected_before, take_one}
 use Rattle.rs_page.specs.declared.page.Page.{Page}
 use Rattle.rs_file_parts.specs.Slots.{PutsRootsOn}
-use Rattle.rs_file_parts.proofs.Slotted.{roots_on_none, roots_on_start, roots_on_step}
+use Rattle.rs_file_parts.proofs.Slotted.{roots_on_start, roots_on_step}
 use Rattle.rs_file.proofs.Selected.{selected_fewer, selected_more}
 use Rattle.rs_file_parts.proofs.slots.put_roots_on.Goals as goal
 use Rattle.rs_file_parts.proofs.slots.put_roots_on.Goals.{then-item-table, else-item-table}
-
-pub returns-then-is_empty : goal.returns-then-is_empty
-returns-then-is_empty c =
-    roots_on_none (indexes_on (map said_index c.args.items.now) c.args.table) c.args.indexes.now c.args.page.now.bytes c.requires.many (grind (arith, nat_tests))
 
 pub bounds-indexes-next : goal.bounds-indexes-next
 bounds-indexes-next c =

@@ -61,10 +61,11 @@ returns c =
     let one = c.put_trees.new.page.bytes in
     let two = c.put_roots.new.page.bytes in
     let three = c.put_referents.new.page.bytes in
-    let trees = subst (λ (ts : List OpenedTable). PutsTrees definitions.tables definitions.tables ts old one) c.as_slice-tables.ensures.value
-    (subst (λ (xs : List StoredTable). PutsTrees (map said_table xs) (map said_table xs) c.as_slice-tables.result.now old one) c.as_slice-items.ensures.value c.put_trees.ensures) in
-    let roots = subst (λ (ts : List OpenedTable). PutsRoots definitions.indexes definitions.tables ts one two) c.as_slice-tables.ensures.value
-    (subst (λ (xs : List StoredTable). PutsRoots definitions.indexes (map said_table xs) c.as_slice-tables.result.now one two) c.as_slice-items.ensures.value
-    (subst (λ (xs : List StoredIndex). PutsRoots (map said_index xs) (map said_table c.as_slice-items.result.now) c.as_slice-tables.result.now one two) c.as_slice.ensures.value c.put_roots.ensures)) in
+    let trees = subst (λ (ts : List OpenedTable). PutsTrees definitions.tables ts definitions.tables ts old one) c.as_slice-tables.ensures.value
+    (subst (λ (xs : List StoredTable). PutsTrees (map said_table xs) c.as_slice-tables.result.now (map said_table xs) c.as_slice-tables.result.now old one) c.as_slice-items.ensures.value c.put_trees.ensures) in
+    let roots = subst (λ (ts : List OpenedTable). PutsRoots definitions.indexes definitions.tables ts definitions.tables ts one two) c.as_slice-tables.ensures.value
+    (subst (λ (xs : List StoredTable). PutsRoots definitions.indexes (map said_table xs) c.as_slice-tables.result.now (map said_table xs) c.as_slice-tables.result.now one two) c.as_slice-items.ensures.value
+    (subst (λ (xs : List StoredIndex). PutsRoots (map said_index xs) (map said_table c.as_slice-items.result.now) c.as_slice-tables.result.now (map said_table c.as_slice-items.result.now) c.as_slice-tables.result.now one two)
+    c.as_slice.ensures.value c.put_roots.ensures)) in
     slots_put file c.args.version old one two three c.put_accepted.new.page.bytes trees roots
     (subst (λ (tree : TreeItem). ChangesDirectory (with_referents tree) two three) c.tree_of_referents.ensures c.put_referents.ensures) c.put_accepted.ensures

@@ -45,7 +45,7 @@ list_written-requires-clause-whole g c =
     let written : c.write.new.self.written ≡ ended c.args.version c.args.cell.now = search rules in
     let wide : length c.args.cell.now ≡ c.self.inside.dead.width =
     c.requires.width ∙ sym (ap (λ (v : Versioned). v.width) c.self.view_is) ∙ sym c.self.invariant.0 in
-    ap length written ∙ length-ended c.args.version c.args.cell.now (omega (arith, wide, c.self.invariant.0, c.self.invariant.1.some)) ∙ wide ∙ sym c.write.ensures.width
+    ap length written ∙ length-ended c.args.version c.args.cell.now (omega (arith, wide, c.self.invariant.0, c.self.invariant.1.0.some)) ∙ wide ∙ sym c.write.ensures.width
 
 pub list_written-requires-clause-order : goal.list_written-requires-clause-order
 list_written-requires-clause-order g c =

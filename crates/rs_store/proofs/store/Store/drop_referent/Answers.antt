@@ -38,6 +38,7 @@ pub drop_from_both-made-requires-clause-may : goal.drop_from_both-made-requires-
 drop_from_both-made-requires-clause-may g c = record {
   begun = c.in_ok-begin_change.ensures.begun;
   opened = c.self.invariant.rests.may;
+  committed = c.self.invariant.rests.committed;
   room = subst (λ (s : StoreState g.row.D.Denot). s.file.accepted < CHANGES) (sym c.self.view_is) c.requires.room;
 }
 

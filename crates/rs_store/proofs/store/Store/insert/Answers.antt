@@ -55,6 +55,7 @@ pub insert-made-requires-clause-may : goal.insert-made-requires-clause-may
 insert-made-requires-clause-may g c = record {
   begun = c.in_ok-begin_change.ensures.begun;
   opened = c.self.invariant.rests.may;
+  committed = c.self.invariant.rests.committed;
   room = subst (λ (s : StoreState g.row.D.Denot). s.file.accepted < CHANGES) (sym c.self.view_is) c.requires.room;
 }
 
