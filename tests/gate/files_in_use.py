@@ -82,6 +82,8 @@ LONG_TABLES = (100_000, 400_000)  # rows, some hundred of them in a page
 NARROW_TABLE = b"0 DEFINE LINE TABLE narrow (n INT, m INT)\n"
 NARROW_INDEXES = [b"0 DEFINE INDEX narrow_%s ON narrow (%s)\n" % (column, column) for column in (b"n", b"m")]
 NARROW_ROWS = 9_000  # some eighty of them in a page
+MANY_ROUTES = 4_000  # more than twenty pages of the catalogue
+FEW_PAGES = 8  # page 0, the directory, the catalogue's last pages, and one that is taken or freed
 EXISTS = b"roadseg: file exists\n"
 NOT_CLOSED = b"roadseg: ERR 95 file not closed\n"
 REFUSED = "no permission, or refused by the system"
@@ -273,6 +275,19 @@ def a_long_table_is_read_by_its_height(program):
                 expect("%d reads of %d rows for %.60r, 1 to %d" % (reads, rows, line, most), 1 <= reads <= most, True)
                 expect("reads for the same again", calls_for(process, line)[0], 0)
             expect("the end", ended(process), Ended(0, b"", b""))
+
+
+def a_definition_writes_the_pages_that_it_changes(program):
+    """Beside many routes an index and a route that is last by its name change few pages of the file; a route that is first by its name
+    moves the bytes of all others."""
+    lines = [b"0 DEFINE ROUTE m%04d FROM 0 TO 1\n" % number for number in range(MANY_ROUTES)] + [LONG_TABLE]
+    file = program.created(b"".join(lines), b"0 OK 0\n" * len(lines))
+    copied = {}
+    for line in (b"0 DEFINE INDEX i ON long (n)\n", b"0 DEFINE ROUTE z FROM 0 TO 1\n", b"0 DEFINE ROUTE a FROM 0 TO 1\n"):
+        program.expect(["run", "--file", file], line, b"0 OK 0\n")
+        copied[line] = struct.unpack_from(">I", bytes_at(file), NO_PAGES.start + 8)[0]
+    index, last, first = copied.values()
+    expect("pages that an index and the last route change, and the first", (index <= FEW_PAGES, last <= FEW_PAGES, first > 20), (True, True, True))
 
 
 def long_row(number):
@@ -488,6 +503,7 @@ TESTS = [
     a_file_that_changes_in_use_is_judged_anew,
     a_line_reads_few_pages,
     a_long_table_is_read_by_its_height,
+    a_definition_writes_the_pages_that_it_changes,
     a_missing_file_is_not_opened,
     a_damaged_file_is_refused,
     a_file_of_the_first_version_that_was_not_closed_is_refused,

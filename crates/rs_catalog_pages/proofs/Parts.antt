@@ -1,5 +1,5 @@
 -- One page of the catalogue: it holds one part, and where it holds one its header fits it.
-use Rattle.std.proofs.Common.{◌≡◌, ◌<◌, ◌≤◌, ℕ, false, Some, List, take, length, length-take, length-drop, refl, sym, ap, subst, ◌∙◌, arith}
+use Rattle.std.proofs.Common.{◌≡◌, ◌↔◌, ◌<◌, ◌≤◌, ℕ, Bool, IsTrue, false, Some, List, take, length, length-take, length-drop, refl, sym, ap, subst, ◌∙◌, arith}
 use Rattle.std.proofs.lemmas.List.{length-take-le}
 use Rattle.rs_page.specs.declared.page.TheConstants.{PAGE_SIZE}
 use Rattle.rs_page.specs.Follow.{MayFollow}
@@ -13,7 +13,7 @@ use Rattle.rs_pages.specs.PageMap.{PageMap, SamePages, HasNoFit, in_use}
 use Rattle.rs_pages.proofs.FreeLists.{page_one}
 use Rattle.rs_pages.proofs.Stores.{used_there}
 use Rattle.rs_catalog_pages.specs.Chain.{HoldsPart, catalogue_header}
-use Rattle.rs_catalog_pages.specs.Parts.{content, IsPart, HasNoPart, AppendsPart, ReadsPart, HasNoFreshPart}
+use Rattle.rs_catalog_pages.specs.Parts.{content, IsPart, HasNoPart, AppendsPart, ReadsPart, HasNoFreshPart, WritesPart}
 
 pub length-content : (page : List ℕ) → length page ≡ PAGE_SIZE → length (content page) ≡ 4080
 unfolding content
@@ -157,6 +157,50 @@ reads_before old mid number next left was is same reads = record {
   within = reads.within;
   appended = reads.appended;
 }
+
+-- a page that says such a part, where this is said of the page with this number
+pub says-holds : (map : PageMap) (number next : ℕ) (page part : List ℕ) (is : Bool) → map.page number ≡ Some page → length page ≡ PAGE_SIZE → number < map.fields.pages
+    → (IsTrue is ↔ IsPart page number next map.fields.pages part) → (IsTrue is ↔ HoldsPart map number next part)
+says-holds map number next page part is there size below says =
+    (λ yes. part_held map number next page part there size below (says.0 yes), λ holds. says.1 (held_at map number next page part there holds))
+
+-- where a page holds a part already, it is written by leaving all as it is
+pub holds-writes : (old new : PageMap) (number next : ℕ) (part : List ℕ) → SamePages new old → HoldsPart old number next part → WritesPart old new number next part
+unfolding content
+holds-writes old new number next part same holds = record {
+  was = holds.page;
+  there = holds.there;
+  used = catalogue_used holds.page (length part) number next holds.header;
+  below = holds.below;
+  page = holds.page;
+  size = holds.size;
+  header = holds.header;
+  held = holds.held;
+  replaces = record {
+    fields = same.fields;
+    there = same.pages number ∙ holds.there;
+    others = record { pages = λ n other. same.pages n };
+  };
+}
+
+pub writes_before : (old mid new : PageMap) (number next : ℕ) (part : List ℕ) → SamePages mid old → WritesPart mid new number next part → WritesPart old new number next part
+writes_before old mid new number next part same writes =
+    let count : mid.fields.pages ≡ old.fields.pages = ap (λ (f : FileHeader). f.pages) same.fields in
+    record {
+      was = writes.was;
+      there = sym (same.pages number) ∙ writes.there;
+      used = writes.used;
+      below = omega (arith, writes.below, count);
+      page = writes.page;
+      size = writes.size;
+      header = writes.header;
+      held = writes.held;
+      replaces = record {
+        fields = writes.replaces.fields ∙ same.fields;
+        there = writes.replaces.there;
+        others = record { pages = λ n other. writes.replaces.others.pages n other ∙ same.pages n };
+      };
+    }
 
 pub no_part_before : (old mid : PageMap) (number left : ℕ) (before : ℕ → ℕ) → SamePages mid old → HasNoFreshPart mid number left before → HasNoFreshPart old number left before
 no_part_before old mid number left before same none = record {

@@ -1,6 +1,6 @@
 //! Reads and fills one page of the catalogue: the bytes that it holds, and the page that follows.
 
-ghost use Rattle.std.specs.Prelude.{◌≡◌, ◌⊎◌, ◌≤◌, ◌<◌, ◌+◌, ◌++◌, ℕ, IfOk, IfErr, IfSome, IfNone, Err, length, take, drop, List};
+ghost use Rattle.std.specs.Prelude.{◌≡◌, ◌↔◌, ◌⊎◌, ◌≤◌, ◌<◌, ◌+◌, ◌++◌, ℕ, IfOk, IfErr, IfSome, IfNone, IsTrue, Err, length, take, drop, List};
 ghost use Rattle.rs_page.specs.declared.page.TheConstants.{PAGE_SIZE};
 ghost use Rattle.rs_page.specs.Header.{IsHeader};
 ghost use Rattle.rs_page.specs.Number.{number_at};
@@ -40,6 +40,23 @@ pub(crate) fn part_of(page: &Page, number: PageNumber, pages: u32) -> Option<(Pa
         return None;
     }
     Some((header.next, &bytes[..usize::from(header.count)]))
+}
+
+/// Whether this is a page of the catalogue with this number, in a file of so many pages, that holds these bytes and is followed
+/// by this page.
+pub(crate) fn is_part(
+    page: &Page,
+    number: PageNumber,
+    next: PageNumber,
+    pages: u32,
+    part: &[u8],
+) -> bool
+    ensures { IsTrue result ↔ IsPart page.now.bytes number next pages part.now }
+{
+    match part_of(page, number, pages) {
+        Some((follows, held)) => follows == next && held == part,
+        None => false,
+    }
 }
 
 /// Appends the bytes of this page of the catalogue, and answers the page that follows. It is refused with 90

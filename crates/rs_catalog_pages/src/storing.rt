@@ -1,11 +1,16 @@
 //! Writes the catalogue into its pages.
 //!
-//! It keeps the pages that it has, and takes or gives back those that are missing or too many.
+//! It keeps the pages that it has, and takes or gives back those that are missing or too many. A page that holds its part
+//! already is only read.
 
-ghost use Rattle.std.specs.Prelude.{◌≡◌, ◌≢◌, ◌≤◌, ◌<◌, ◌+◌, ◌-◌, ◌*◌, ◌^◌, true, Err, IfOk, length};
+ghost use Rattle.std.specs.Prelude.{◌≡◌, ◌≢◌, ◌≤◌, ◌<◌, ◌+◌, ◌-◌, ◌*◌, ◌^◌, ◌↔◌, true, Err, IfErr, IfOk, IsTrue, length};
 ghost use Rattle.rs_page.specs.declared.header.TheConstants.{PAGE_ROOM};
 ghost use Rattle.rs_page_owners.specs.Calls.{Makes, WorksOn};
+ghost use Rattle.rs_pages.specs.Calls.{OnlyReads, Reads};
 ghost use Rattle.rs_pages.specs.PageMap.{HasNoFit};
+ghost use Rattle.rs_pages.specs.Store.{Rests};
+ghost use Rattle.rs_pages.specs.Uses.{RefusesToLend};
+ghost use Rattle.rs_catalog_pages.specs.Chain.{HoldsPart};
 ghost use Rattle.rs_catalog_pages.specs.Calls.{LeavesCatalogue, StaysRefused, Stores};
 ghost use Rattle.rs_catalog_pages.specs.Fitting.{FitsCatalogue, IsShort};
 ghost use Rattle.rs_catalog_pages.specs.Said.{said_catalogue};
@@ -14,7 +19,7 @@ ghost use Rattle.rs_catalog_pages.specs.Storing.{AreNotOwn, WritesParts, NeedsMo
 ghost use Rattle.rs_catalog_pages.specs.Places.{number_from, part_at};
 
 use crate::items::StoredCatalogue;
-use crate::part::put_part;
+use crate::part::{is_part, put_part};
 use crate::placing::{grow, shrink};
 use rs_bytes::Item;
 use rs_page::{PAGE_ROOM, PageNumber};
@@ -115,9 +120,52 @@ fn part_at(bytes: &[u8], index: usize) -> &[u8]
     part
 }
 
-/// Writes a part of the catalogue into the page with this number, which is in use. It is refused as `page_mut` is; nothing
-/// has changed then.
+/// Makes the page with this number, which is in use, hold this part of the catalogue; where it does already,
+/// nothing changes. It is refused as `page_mut` is; nothing has changed then.
 fn write_part<P: Pages>(
+    pages: &mut P,
+    number: PageNumber,
+    next: PageNumber,
+    part: &[u8],
+) -> Result<(), Refusal>
+    requires begun { (P.store pages.old).is_begun ≡ true }
+    requires fits { length part.now ≤ PAGE_ROOM }
+    ensures keeps { P.keeps pages.old pages.new }
+    ensures works { WorksOn P.Pages (HasNoFit (P.store pages.old).map number) result pages.old pages.new }
+    ensures written { Makes P.Pages (λ old new _. WritesPart old new number next part.now) result pages.old pages.new }
+    ensures stays { StaysRefused P.Pages result pages.old pages.new }
+    ensures spares { P.is_tied pages.old → HoldsPart (P.store pages.old).map number next part.now
+        → Rests (P.is_tied pages.old) (P.store pages.old) (P.store pages.new) }
+    ensures as_many { (P.store pages.new).map.fields.pages ≡ (P.store pages.old).map.fields.pages }
+    ensures room { result ≢ Err Refusal.FileFull }
+{
+    if holds_part(pages, number, next, part)? {
+        return Ok(());
+    }
+    replace_part(pages, number, next, part)
+}
+
+/// Whether the page with this number holds this part of the catalogue already. It is refused as `page` is. No page changes.
+fn holds_part<P: Pages>(
+    pages: &mut P,
+    number: PageNumber,
+    next: PageNumber,
+    part: &[u8],
+) -> Result<bool, Refusal>
+    ensures rests { OnlyReads P.Pages result pages.old pages.new }
+    ensures reads { Reads P.Pages (λ map holds. IsTrue holds ↔ HoldsPart map number next part.now) result pages.old }
+    ensures refused { IfErr result (RefusesToLend (P.is_tied pages.old) (P.store pages.old) number) }
+{
+    let count = pages.count();
+    match pages.page(number) {
+        Ok(page) => Ok(is_part(page, number, next, count, part)),
+        Err(refusal) => Err(refusal),
+    }
+}
+
+/// Writes a part of the catalogue into the page with this number, which is in use, whatever it holds. It is refused as
+/// `page_mut` is; nothing has changed then.
+fn replace_part<P: Pages>(
     pages: &mut P,
     number: PageNumber,
     next: PageNumber,
