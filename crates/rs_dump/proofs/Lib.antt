@@ -3,6 +3,7 @@ pub mod Entries
 pub mod Viewed
 pub mod ViewStops
 pub mod Stops
+pub mod Gathered
 pub mod WritingStops
 pub mod Puts
 pub mod Fitting

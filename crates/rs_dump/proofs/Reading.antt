@@ -5,7 +5,6 @@ use Rattle.rs_dump.specs.Shown.{Many, Shown, more, none}
 use Rattle.rs_dump.specs.Stopping.{StopsReading}
 use Rattle.rs_dump.specs.declared.held.Held as held
 use Rattle.rs_dump.specs.declared.stop.Stop.{Stop}
-use Rattle.rs_dump.specs.declared.stop.Stop.TheVariants.{Refused}
 use Rattle.rs_refusal.specs.declared.refusal.Refusal.{Refusal}
 
 pub many_joined : {S : Type 0} (passes : S → S → Type 0) (a b c : S) → Many passes a b → Many passes b c → Many passes a c
@@ -45,6 +44,3 @@ module _ {H : Type 0} (h : held.Ghosts H) where
   pub stops_after : WantsLater → (stop : Stop) (a b c : H) → Reads h a b → StopsReading h stop b c → StopsReading h stop a c
   stops_after later stop a b c reads (inl writing) = inl writing
   stops_after later stop a b c reads (inr refused) = inr (refused.0, refused.1, wants_after later refused.0 a b c reads.passes refused.2)
-
-  pub refused_after : WantsLater → (why : Refusal) (a b c : H) → Reads h a b → h.wants why b c → StopsReading h (Refused why) a c
-  refused_after later why a b c reads wanted = inr (why, refl, wants_after later why a b c reads.passes wanted)

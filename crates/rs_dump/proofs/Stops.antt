@@ -114,8 +114,3 @@ pub stops_line : (stop : Stop) (all left rest : List CommandTree) (tree : Comman
 stops_line stop all left rest tree a b c next wrote front =
     stops_as stop (wrote.done ++ (tree ∷ rest)) all a c (ap (λ (l : List CommandTree). wrote.done ++ l) (sym next) ∙ wrote.are)
     (stops_later stop wrote.done (tree ∷ rest) a b c wrote.put (front_of_more stop (line_bytes tree) (lines_bytes rest) b c front))
-
--- before them
-pub stops_before : (why : Refusal) (all left : List CommandTree) (a b : Option (List ℕ)) → WroteSome all left a b → WroteFront (Refused why) (lines_bytes all) a b
-stops_before why all left a b wrote =
-    stops_as (Refused why) (wrote.done ++ left) all a b wrote.are (stops_later (Refused why) wrote.done left a b b wrote.put (nothing_out why (lines_bytes left) b))

@@ -53,3 +53,16 @@ pub record WroteSome (all left : List CommandTree) (before after : Option (List 
   pub done : List CommandTree
   pub are : done ++ left ≡ all
   pub put : Appends before after (lines_bytes done)
+
+-- ---- lines that are held back
+
+-- The output grew by what was held back and by the bytes, but for what is held back now; or by a front of them all.
+abbrev pub AddsBytes : {T : Type 0} → Result T Stop → List ℕ → List ℕ → List ℕ → Option (List ℕ) → Option (List ℕ) → Type 0
+AddsBytes result bytes held held_now before after =
+    MatchResult result (λ _. PutsBut (held ++ bytes) held_now before after) (λ stop. WroteFront stop (held ++ bytes) before after)
+
+-- The output grew by what was held back and by the lines of some commands, but for what is held back now; with those that are left they are all.
+pub record AddedSome (held : List ℕ) (all left : List CommandTree) (held_now : List ℕ) (before after : Option (List ℕ)) : Type 0 where
+  pub done : List CommandTree
+  pub are : done ++ left ≡ all
+  pub put : PutsBut (held ++ lines_bytes done) held_now before after

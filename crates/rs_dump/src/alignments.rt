@@ -26,7 +26,7 @@ pub fn write_alignments<W: Write>(
     ensures left { IfOk result (λ left_out. names_of left_out.items ≡ map (λ entry. entry.0) (too_long (names.entries catalog.now.alignments))) }
 {
     let mut left_out = Vec::new(alloc);
-    let mut line = String::new(alloc);
+    let mut line = Vec::new(alloc);
     for (name, alignment) in catalog.alignments() {
         write_alignment(name, alignment, &mut line, &mut left_out, output)?;
     }
@@ -37,7 +37,7 @@ pub fn write_alignments<W: Write>(
 fn write_alignment<W: Write>(
     name: &Name,
     alignment: &AlignmentEntry,
-    line: &mut String,
+    line: &mut Vec<u8>,
     left_out: &mut Vec<Name>,
     output: &mut W,
 ) -> Result<(), Stop>

@@ -19,7 +19,7 @@ use std::io::Write;
 /// Writes the lines of the routes, in the order of their names.
 pub fn write_routes<W: Write>(
     catalog: &Catalog,
-    line: &mut String,
+    line: &mut Vec<u8>,
     output: &mut W,
 ) -> Result<(), Stop>
     ensures { WritesAll result (route_commands catalog.now) (W.contents output.old) (W.contents output.new) }
@@ -33,7 +33,7 @@ pub fn write_routes<W: Write>(
 /// Writes the lines of the tables, in the order of their names.
 pub fn write_tables<W: Write>(
     catalog: &Catalog,
-    line: &mut String,
+    line: &mut Vec<u8>,
     output: &mut W,
 ) -> Result<(), Stop>
     ensures { WritesAll result (table_commands catalog.now) (W.contents output.old) (W.contents output.new) }
@@ -47,7 +47,7 @@ pub fn write_tables<W: Write>(
 /// Writes the lines of the indexes, in the order of their names.
 pub fn write_indexes<W: Write>(
     catalog: &Catalog,
-    line: &mut String,
+    line: &mut Vec<u8>,
     output: &mut W,
 ) -> Result<(), Stop>
     ensures { WritesAll result (index_commands catalog.now) (W.contents output.old) (W.contents output.new) }

@@ -76,14 +76,14 @@ fn write_all<H: Held, W: Write, E: Write>(
     ensures front { (shown : Shown) → H.shows held.old shown
         → IfErr result (λ stop. FrontOfAll (H.catalog held.old) (H.referents held.old) shown omits_rows stop (W.contents output.old) (W.contents output.new)) }
 {
-    let mut line = String::new(alloc);
+    let mut line = Vec::new(alloc);
     write_first(held, &mut line, output)?;
-    write_middle(alloc, held, omits_rows, &mut line, output)?;
+    write_middle(alloc, held, omits_rows, output)?;
     write_last(alloc, held, &mut line, output, errors)
 }
 
 /// Writes routes, referents and tables.
-fn write_first<H: Held, W: Write>(held: &H, line: &mut String, output: &mut W) -> Result<(), Stop>
+fn write_first<H: Held, W: Write>(held: &H, line: &mut Vec<u8>, output: &mut W) -> Result<(), Stop>
     ensures { WritesAll result (first_commands (H.catalog held.now) (H.referents held.now)) (W.contents output.old) (W.contents output.new) }
 {
     write_routes(held.catalog(), line, output)?;
@@ -96,7 +96,6 @@ fn write_middle<H: Held, W: Write>(
     alloc: Global,
     held: &mut H,
     omits_rows: bool,
-    line: &mut String,
     output: &mut W,
 ) -> Result<(), Stop>
     ensures reads { Reads H.Held held.old held.new }
@@ -109,14 +108,14 @@ fn write_middle<H: Held, W: Write>(
     }
     let routes = routes_of(alloc, held.catalog())?;
     let tables = tables_of(alloc, held.catalog())?;
-    write_rows(alloc, held, &tables, &routes, line, output)
+    write_rows(alloc, held, &tables, &routes, output)
 }
 
 /// Writes alignments, views and indexes, and says whether something was left out.
 fn write_last<H: Held, W: Write, E: Write>(
     alloc: Global,
     held: &H,
-    line: &mut String,
+    line: &mut Vec<u8>,
     output: &mut W,
     errors: &mut E,
 ) -> Result<bool, Stop>
@@ -165,13 +164,13 @@ fn write_table<H: Held, W: Write>(
     ensures front { (shown : Shown) → H.shows held.old shown
         → IfErr result (λ stop. FrontOfTable (H.catalog held.old) shown omits_rows name.now stop (W.contents output.old) (W.contents output.new)) }
 {
-    let mut line = String::new(alloc);
+    let mut line = Vec::new(alloc);
     let table = put_named_table(held.catalog(), name, &mut line, output)?;
     if omits_rows {
         return Ok(false);
     }
     let routes = routes_of(alloc, held.catalog())?;
-    write_rows_of(alloc, held, &table, &routes, &mut line, output)?;
+    write_rows_of(alloc, held, &table, &routes, output)?;
     Ok(false)
 }
 
@@ -179,7 +178,7 @@ fn write_table<H: Held, W: Write>(
 fn put_named_table<W: Write>(
     catalog: &Catalog,
     name: &str,
-    line: &mut String,
+    line: &mut Vec<u8>,
     output: &mut W,
 ) -> Result<NamedTable, Stop>
     ensures puts { IfOk result (PutsTable catalog.now name.now (W.contents output.old) (W.contents output.new)) }

@@ -1,4 +1,4 @@
-//! One line is written: that of a route, a referent, a table, a row, an alignment, a view or an index.
+//! One line is written: that of a route, a referent, a table, an alignment, a view or an index.
 //!
 //! Each takes room for a line, in place of what is there.
 
@@ -6,37 +6,34 @@ ghost use Rattle.std.specs.Prelude.{◌≡◌, ◌∷◌, [], ◌++◌, IfErr, I
 ghost use Rattle.std.specs.Io.KnownBytes.{Appends};
 ghost use Rattle.rs_dump.specs.Written.{PutsBytes, StopsWriting, Writes, WroteFront, fits_line, line_bytes};
 ghost use Rattle.rs_dump.specs.declared.stop.Stop.TheVariants.{Refused};
-ghost use Rattle.rs_dump_laws.specs.Dump.{alignment_command, location_of, route_command};
-ghost use Rattle.rs_facts.specs.Spans.{seen};
+ghost use Rattle.rs_dump_laws.specs.Dump.{alignment_command, route_command};
 ghost use Rattle.rs_methods.specs.Position.{absolute};
 ghost use Rattle.rs_refusal.specs.declared.refusal.Refusal.TheVariants.{OutOfMemory};
-ghost use Rattle.rs_syntax.specs.Tree.{QueryTree, define_index, define_referent, define_table, define_view, insert};
+ghost use Rattle.rs_syntax.specs.Tree.{QueryTree, define_index, define_referent, define_table, define_view};
 
 use crate::stop::Stop;
 use rs_catalog::{AlignmentEntry, Ends, TableEntry};
 use rs_dump_lines::writing::{
-    push_alignment_line, push_index_line, push_referent_line, push_route_line, push_row_line,
-    push_table_line, push_view_line,
+    push_alignment_line, push_index_line, push_referent_line, push_route_line, push_table_line,
+    push_view_line,
 };
-use rs_facts::Span;
 use rs_machine::limits::LINE_BYTES;
 use rs_measure::Measure;
 use rs_methods::Name;
 use rs_protocol::put_parts;
-use rs_value::Kind;
 use std::io::Write;
 
 /// Writes the line and its LF.
-fn put_line<W: Write>(line: &str, output: &mut W) -> Result<(), Stop>
+fn put_line<W: Write>(line: &[u8], output: &mut W) -> Result<(), Stop>
     ensures { PutsBytes result (line.now ++ 10 ∷ []) (W.contents output.old) (W.contents output.new) }
 {
-    put_parts(output, &[line.as_bytes(), b"\n"])?;
+    put_parts(output, &[line, b"\n"])?;
     Ok(())
 }
 
 /// Writes the line of a route.
 pub fn put_route<W: Write>(
-    line: &mut String,
+    line: &mut Vec<u8>,
     name: &Name,
     ends: Ends,
     output: &mut W,
@@ -45,12 +42,12 @@ pub fn put_route<W: Write>(
 {
     line.clear();
     push_route_line(line, name, ends.start(), ends.finish())?;
-    put_line(line.as_str(), output)
+    put_line(line.as_slice(), output)
 }
 
 /// Writes the line of a referent of a route.
 pub fn put_referent<W: Write>(
-    line: &mut String,
+    line: &mut Vec<u8>,
     route: &Name,
     name: &Name,
     measure: Measure,
@@ -60,12 +57,12 @@ pub fn put_referent<W: Write>(
 {
     line.clear();
     push_referent_line(line, route, name, measure)?;
-    put_line(line.as_str(), output)
+    put_line(line.as_slice(), output)
 }
 
 /// Writes the line of a table.
 pub fn put_table<W: Write>(
-    line: &mut String,
+    line: &mut Vec<u8>,
     name: &Name,
     table: &TableEntry,
     output: &mut W,
@@ -74,38 +71,12 @@ pub fn put_table<W: Write>(
 {
     line.clear();
     push_table_line(line, table.kind(), name, table.columns())?;
-    put_line(line.as_str(), output)
-}
-
-/// A table and a route by their names, and the kind of the table.
-#[derive(Clone, Copy)]
-pub struct Place {
-    /// The table's name.
-    pub table: Name,
-    /// Whether it holds points or lines.
-    pub kind: Kind,
-    /// The route's name.
-    pub route: Name,
-}
-
-/// Writes the line of a row of a table on a route.
-pub fn put_row<W: Write>(
-    line: &mut String,
-    place: &Place,
-    span: &Span,
-    output: &mut W,
-) -> Result<(), Stop>
-    ensures { Writes result (insert place.now.table.bytes place.now.route.bytes (location_of place.now.kind (seen span.now)) (seen span.now).row)
-        (W.contents output.old) (W.contents output.new) }
-{
-    line.clear();
-    push_row_line(line, place.kind, &place.table, &place.route, span)?;
-    put_line(line.as_str(), output)
+    put_line(line.as_slice(), output)
 }
 
 /// Writes the line of an alignment, and says whether it did: one that is too long for a line is not written.
 pub fn put_alignment<W: Write>(
-    line: &mut String,
+    line: &mut Vec<u8>,
     name: &Name,
     alignment: &AlignmentEntry,
     output: &mut W,
@@ -119,7 +90,7 @@ pub fn put_alignment<W: Write>(
 {
     line.clear();
     push_alignment_line(line, name, alignment.pieces())?;
-    let whole = line.as_str();
+    let whole = line.as_slice();
     if whole.len() > LINE_BYTES {
         return Ok(false);
     }
@@ -129,7 +100,7 @@ pub fn put_alignment<W: Write>(
 
 /// Writes the line of a view with the text of its query.
 pub fn put_view<W: Write>(
-    line: &mut String,
+    line: &mut Vec<u8>,
     name: &Name,
     text: &str,
     output: &mut W,
@@ -138,12 +109,12 @@ pub fn put_view<W: Write>(
 {
     line.clear();
     push_view_line(line, name, text)?;
-    put_line(line.as_str(), output)
+    put_line(line.as_slice(), output)
 }
 
 /// Writes the line of an index of a column of a table.
 pub fn put_index<W: Write>(
-    line: &mut String,
+    line: &mut Vec<u8>,
     name: &Name,
     table: &Name,
     column: &Name,
@@ -153,5 +124,5 @@ pub fn put_index<W: Write>(
 {
     line.clear();
     push_index_line(line, name, table, column)?;
-    put_line(line.as_str(), output)
+    put_line(line.as_slice(), output)
 }

@@ -15,7 +15,7 @@ use std::io::Write;
 pub fn write_referents<W: Write>(
     catalog: &Catalog,
     referents: &RouteReferents,
-    line: &mut String,
+    line: &mut Vec<u8>,
     output: &mut W,
 ) -> Result<(), Stop>
     ensures { WritesAll result (referent_commands catalog.now referents.now) (W.contents output.old) (W.contents output.new) }
@@ -30,7 +30,7 @@ pub fn write_referents<W: Write>(
 fn write_referents_of<W: Write>(
     route: &Name,
     referents: &[Referent],
-    line: &mut String,
+    line: &mut Vec<u8>,
     output: &mut W,
 ) -> Result<(), Stop>
     ensures { WritesAll result (referents_of_route route.now.bytes (map mark_of referents.now)) (W.contents output.old) (W.contents output.new) }

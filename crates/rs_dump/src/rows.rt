@@ -1,21 +1,33 @@
 //! The lines of rows, table by table and route by route.
 //!
-//! The spans of one table on one route are in memory at a time.
+//! The spans of one table on one route are in memory at a time. The lines of a table are gathered, and written many at a time.
 
-ghost use Rattle.std.specs.Prelude.{IfErr, map};
+ghost use Rattle.std.specs.Prelude.{◌≡◌, ℕ, List, [], IfErr, OnOk, map};
 ghost use Rattle.rs_dump.specs.Reads.{Reads};
 ghost use Rattle.rs_dump.specs.Sections.{route_seen, row_commands, rows_of_table, rows_on, table_seen};
 ghost use Rattle.rs_dump.specs.Shown.{Shown};
 ghost use Rattle.rs_dump.specs.Stopping.{StopsReading};
-ghost use Rattle.rs_dump.specs.Written.{WritesAll, WritesRead};
+ghost use Rattle.rs_dump.specs.Written.{AddsBytes, PutsBytes, StopsWriting, WritesRead, line_bytes, lines_bytes};
+ghost use Rattle.rs_dump_laws.specs.Dump.{location_of};
+ghost use Rattle.rs_dump_lines.specs.Texts.{row_front};
 ghost use Rattle.rs_facts.specs.Spans.{seen};
+ghost use Rattle.rs_syntax.specs.Tree.{insert};
 
 use crate::held::{Held, NamedRoute, NamedTable};
-use crate::put::{Place, put_row};
 use crate::stop::Stop;
+use rs_dump_lines::writing::{push_row_front, push_row_line};
 use rs_facts::Span;
+use rs_machine::limits::LINE_BYTES;
+use rs_protocol::put_parts;
+use rs_value::Kind;
 use std::alloc::Global;
 use std::io::Write;
+
+/// From how many bytes of lines on these are written.
+const PIECE_BYTES: usize = 16_384;
+
+/// What room the lines have: those that are not written yet, and one more.
+const ROOM: usize = PIECE_BYTES + LINE_BYTES;
 
 /// Writes the lines of the rows of these tables on these routes.
 pub fn write_rows<H: Held, W: Write>(
@@ -23,7 +35,6 @@ pub fn write_rows<H: Held, W: Write>(
     held: &mut H,
     tables: &[NamedTable],
     routes: &[NamedRoute],
-    line: &mut String,
     output: &mut W,
 ) -> Result<(), Stop>
     ensures reads { Reads H.Held held.old held.new }
@@ -31,7 +42,7 @@ pub fn write_rows<H: Held, W: Write>(
     ensures wants { IfErr result (λ stop. StopsReading H.Held stop held.old held.new) }
 {
     for table in tables {
-        write_rows_of(alloc, held, table, routes, line, output)?;
+        write_rows_of(alloc, held, table, routes, output)?;
     }
     Ok(())
 }
@@ -42,36 +53,91 @@ pub fn write_rows_of<H: Held, W: Write>(
     held: &mut H,
     table: &NamedTable,
     routes: &[NamedRoute],
-    line: &mut String,
     output: &mut W,
 ) -> Result<(), Stop>
     ensures reads { Reads H.Held held.old held.new }
     ensures lines { (shown : Shown) → H.shows held.old shown → WritesRead result (rows_of_table (table_seen table.now) (map route_seen routes.now) shown) (W.contents output.old) (W.contents output.new) }
     ensures wants { IfErr result (λ stop. StopsReading H.Held stop held.old held.new) }
 {
+    let mut piece = Vec::with_capacity(alloc, ROOM)?;
     for route in routes {
-        let spans = held.listed_spans(alloc, table, route)?;
-        let place = Place {
-            table: table.name,
-            kind: table.kind,
-            route: route.name,
-        };
-        write_spans(&place, &spans, line, output)?;
+        add_rows_on(alloc, held, table, route, &mut piece, output)?;
+    }
+    put_piece(&mut piece, output)
+}
+
+/// Adds the lines of the rows of a table on a route. Where they can't be read, the lines so far are written.
+fn add_rows_on<H: Held, W: Write>(
+    alloc: Global,
+    held: &mut H,
+    table: &NamedTable,
+    route: &NamedRoute,
+    piece: &mut Vec<u8>,
+    output: &mut W,
+) -> Result<(), Stop>
+    ensures reads { Reads H.Held held.old held.new }
+    ensures lines { (shown : Shown) → H.shows held.old shown
+        → AddsBytes result (lines_bytes (rows_on table.now.name.bytes route.now.name.bytes table.now.kind (shown table.now.number table.now.kind route.now.number)))
+        piece.old.items piece.new.items (W.contents output.old) (W.contents output.new) }
+    ensures wants { IfErr result (λ stop. StopsReading H.Held stop held.old held.new) }
+{
+    match held.listed_spans(alloc, table, route) {
+        Ok(spans) => {
+            let mut front = Vec::new(alloc);
+            push_row_front(&mut front, table.kind, &table.name, &route.name)?;
+            add_rows(table.kind, &front, &spans, piece, output)
+        }
+        Err(refusal) => {
+            put_piece(piece, output)?;
+            Err(Stop::Refused(refusal))
+        }
+    }
+}
+
+/// Adds the lines of these spans.
+fn add_rows<W: Write>(
+    kind: Kind,
+    front: &[u8],
+    spans: &[Span],
+    piece: &mut Vec<u8>,
+    output: &mut W,
+) -> Result<(), Stop>
+    ensures lines { (table route : List ℕ) → front.now ≡ row_front kind table route
+        → AddsBytes result (lines_bytes (rows_on table route kind (map seen spans.now))) piece.old.items piece.new.items (W.contents output.old) (W.contents output.new) }
+    ensures stops { IfErr result StopsWriting }
+{
+    for span in spans {
+        add_row(kind, front, span, piece, output)?;
     }
     Ok(())
 }
 
-/// Writes the lines of these spans.
-fn write_spans<W: Write>(
-    place: &Place,
-    spans: &[Span],
-    line: &mut String,
+/// Adds the line of a row, and writes the lines so far once there are enough of them.
+fn add_row<W: Write>(
+    kind: Kind,
+    front: &[u8],
+    span: &Span,
+    piece: &mut Vec<u8>,
     output: &mut W,
 ) -> Result<(), Stop>
-    ensures { WritesAll result (rows_on place.now.table.bytes place.now.route.bytes place.now.kind (map seen spans.now)) (W.contents output.old) (W.contents output.new) }
+    ensures line { (table route : List ℕ) → front.now ≡ row_front kind table route
+        → AddsBytes result (line_bytes (insert table route (location_of kind (seen span.now)) (seen span.now).row)) piece.old.items piece.new.items (W.contents output.old) (W.contents output.new) }
+    ensures stops { IfErr result StopsWriting }
 {
-    for span in spans {
-        put_row(line, place, span, output)?;
+    push_row_line(piece, front, kind, span)?;
+    piece.push(b'\n')?;
+    if piece.len() < PIECE_BYTES {
+        return Ok(());
     }
+    put_piece(piece, output)
+}
+
+/// Writes the lines so far.
+fn put_piece<W: Write>(piece: &mut Vec<u8>, output: &mut W) -> Result<(), Stop>
+    ensures puts { PutsBytes result piece.old.items (W.contents output.old) (W.contents output.new) }
+    ensures none { OnOk result (piece.new.items ≡ []) }
+{
+    put_parts(output, &[piece.as_slice()])?;
+    piece.clear();
     Ok(())
 }

@@ -156,7 +156,7 @@ fn write_view<W: Write>(
         view.query(),
     ) {
         Ok(_checked) => {
-            let mut line = String::new(defined.alloc);
+            let mut line = Vec::new(defined.alloc);
             put_view(&mut line, name, view.text(), output)?;
             sorted.written.push(*name)?;
         }

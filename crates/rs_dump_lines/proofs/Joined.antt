@@ -1,10 +1,9 @@
 -- Texts that are appended one after another, and texts with a comma between them.
-use Rattle.std.proofs.Common.{◌≡◌, ◌≤◌, ◌∙◌, ℕ, List, [], ◌∷◌, ◌++◌, ap, append-nil, append_assoc, arith, cond, drop, get_or, is_ok, length, map, refl, sym, Result, Ok, Err}
-use Rattle.std.specs.Prelude.{OnOk}
+use Rattle.std.proofs.Common.{◌≡◌, ◌≤◌, ◌∙◌, ℕ, List, [], ◌∷◌, ◌++◌, ap, append-nil, append_assoc, arith, codes, drop, get_or, length, map, refl, sym}
 use Rattle.std.specs.List.{join_with_byte}
-use Rattle.rs_dump_laws.specs.Lines.{COMMA, insert_text, dump_line}
+use Rattle.rs_dump_laws.specs.Lines.{COMMA, bracketed_texts, dump_line}
 use Rattle.rs_dump_laws.specs.Dump.{location_of}
-use Rattle.rs_dump_lines.specs.Texts.{more_texts, place_text}
+use Rattle.rs_dump_lines.specs.Texts.{measures_text, more_texts, place_word, row_front}
 use Rattle.rs_facts.specs.Runs.{Stretch}
 use Rattle.rs_syntax.specs.Tree.{insert}
 use Rattle.rs_value.specs.Row.{null, Row}
@@ -19,11 +18,6 @@ then old mid new one rest first more = more ∙ ap (λ t. t ++ rest) first ∙ a
 -- the text that was appended is this one
 pub as_it_is : (old new told one : List ℕ) → new ≡ old ++ told → told ≡ one → new ≡ old ++ one
 as_it_is old new told one more same = more ∙ ap (λ t. old ++ t) same
-
--- what is appended where the call is Ok
-pub on_ok_bytes : {T E : Type 0} (r : Result T E) (new one other : List ℕ) → new ≡ cond (is_ok r) one other → OnOk r (new ≡ one)
-on_ok_bytes (Ok x) new one other same = same
-on_ok_bytes (Err why) new one other same = tt
 
 -- the first, and the others with a comma before each
 pub joined_more : (text : List ℕ) (texts : List (List ℕ)) → join_with_byte COMMA (text ∷ texts) ≡ text ++ more_texts texts
@@ -43,7 +37,14 @@ pub texts_of : {X Y : Type 0} (text : Y → List ℕ) (seen : X → Y) (xs : Lis
 texts_of text seen [] = refl
 texts_of text seen (x ∷ xs) = ap (λ more. text (seen x) ∷ more) (texts_of text seen xs)
 
+-- what comes after the front of a row's line
+front_and : (kind : Kind) (table route rest : List ℕ) → row_front kind table route ++ rest ≡ codes "0 INSERT INTO " ++ (table ++ (codes " ON " ++ (route ++ (place_word kind ++ rest))))
+front_and kind table route rest =
+    ap (λ t. codes "0 INSERT INTO " ++ t)
+    (append_assoc table (codes " ON " ++ (route ++ place_word kind)) rest ∙ ap (λ t. table ++ (codes " ON " ++ t)) (append_assoc route (place_word kind) rest))
+
 -- the line of a row, of whatever kind its table is
-pub row_line : (kind : Kind) (table route : List ℕ) (span : Stretch) (row : Row) → insert_text table route (place_text kind span) row ≡ dump_line (insert table route (location_of kind span) row)
-row_line Line table route span row = refl
-row_line Point table route span row = refl
+pub row_line : (kind : Kind) (table route : List ℕ) (span : Stretch) (row : Row)
+    → row_front kind table route ++ (measures_text kind span ++ (codes " VALUES" ++ bracketed_texts (map datum_text row))) ≡ dump_line (insert table route (location_of kind span) row)
+row_line Line table route span row = front_and Line table route _
+row_line Point table route span row = front_and Point table route _

@@ -1,6 +1,6 @@
 -- Texts of a dump: those of views, of lists, and of the place of a row.
 use Rattle.std.specs.Prelude.{ℕ, List, [], ◌∷◌, ◌++◌, codes}
-use Rattle.rs_dump_laws.specs.Lines.{COMMA, shortest_text, span_text}
+use Rattle.rs_dump_laws.specs.Lines.{COMMA, shortest_text}
 use Rattle.rs_facts.specs.Fact.{Name}
 use Rattle.rs_facts.specs.Runs.{Stretch}
 use Rattle.rs_syntax.specs.Tree.{define_view}
@@ -19,7 +19,19 @@ abbrev pub more_texts : List (List ℕ) → List ℕ
 more_texts [] = []
 more_texts (text ∷ texts) = COMMA ∷ (text ++ more_texts texts)
 
--- where a row is put: a line along its span, a point at its place
-abbrev pub place_text : Kind → Stretch → List ℕ
-place_text Line span = span_text span.lo span.hi
-place_text Point span = codes " AT " ++ shortest_text span.lo
+-- a measure, and the one up to which a span goes
+abbrev pub ends_text : ℕ → ℕ → List ℕ
+ends_text from to = shortest_text from ++ (codes " TO " ++ shortest_text to)
+
+-- what comes before the first measure of a row, and the measures: a line is put along its span, a point at its place
+abbrev pub place_word : Kind → List ℕ
+place_word Line = codes " FROM "
+place_word Point = codes " AT "
+
+abbrev pub measures_text : Kind → Stretch → List ℕ
+measures_text Line span = ends_text span.lo span.hi
+measures_text Point span = shortest_text span.lo
+
+-- what the lines of all rows of a table on a route begin with
+abbrev pub row_front : Kind → List ℕ → List ℕ → List ℕ
+row_front kind table route = codes "0 INSERT INTO " ++ (table ++ (codes " ON " ++ (route ++ place_word kind)))

@@ -6,4 +6,6 @@
 pub mod asking;
 pub mod lists;
 pub mod measures;
+mod parts;
+mod values;
 pub mod writing;

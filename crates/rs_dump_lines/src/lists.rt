@@ -1,6 +1,6 @@
 //! Lists in brackets: the columns of a table, the values of a row, the pieces of an alignment.
 
-ghost use Rattle.std.specs.Prelude.{◌≡◌, ◌++◌, ℕ, List, OnOk, map, string_bytes};
+ghost use Rattle.std.specs.Prelude.{◌≡◌, ◌++◌, ℕ, List, OnOk, map};
 ghost use Rattle.std.specs.List.{join_with_byte};
 ghost use Rattle.rs_dump_laws.specs.Lines.{COMMA, bracketed_texts, column_text, piece_text, type_text};
 ghost use Rattle.rs_dump_lines.specs.Texts.{more_texts};
@@ -9,10 +9,12 @@ ghost use Rattle.rs_value.specs.Row.{Row};
 ghost use Rattle.rs_value.specs.Text.{datum_text};
 
 use crate::measures::push_measure;
+use crate::parts::push_text;
+use crate::values::push_value;
 use crate::writing::push_span;
 use itoa::Buffer;
 use rs_syntax::{ColumnDefinition, Piece};
-use rs_value::{ColumnType, KeptRow, push_lent};
+use rs_value::{ColumnType, KeptRow};
 use std::alloc::AllocError;
 
 /// What has a text in a line.
@@ -21,16 +23,16 @@ pub trait Written {
     ghost text_of: { Self → List ℕ };
 
     /// Appends the text. Where memory runs out, a part may have been appended.
-    fn push(&self, text: &mut String) -> Result<(), AllocError>
-        ensures { OnOk result (string_bytes text.new ≡ string_bytes text.old ++ text_of self.now) };
+    fn push(&self, text: &mut Vec<u8>) -> Result<(), AllocError>
+        ensures { OnOk result (text.new.items ≡ text.old.items ++ text_of self.now) };
 }
 
 impl Written for ColumnDefinition {
     ghost text_of = { λ column. column_text (column_tree column) };
 
-    fn push(&self, text: &mut String) -> Result<(), AllocError> {
-        text.push_str(self.name.as_str())?;
-        text.push_str(" ")?;
+    fn push(&self, text: &mut Vec<u8>) -> Result<(), AllocError> {
+        push_text(text, self.name.as_str())?;
+        push_text(text, " ")?;
         push_type(text, self.column_type)
     }
 }
@@ -38,53 +40,55 @@ impl Written for ColumnDefinition {
 impl Written for Piece {
     ghost text_of = { λ piece. piece_text (piece_tree piece) };
 
-    fn push(&self, text: &mut String) -> Result<(), AllocError> {
-        text.push_str(self.from_route.as_str())?;
+    fn push(&self, text: &mut Vec<u8>) -> Result<(), AllocError> {
+        push_text(text, self.from_route.as_str())?;
         push_span(text, self.from.thousandths(), self.to.thousandths())?;
-        text.push_str(" INTO ")?;
-        text.push_str(self.onto_route.as_str())?;
-        text.push_str(" AT ")?;
+        push_text(text, " INTO ")?;
+        push_text(text, self.onto_route.as_str())?;
+        push_text(text, " AT ")?;
         push_measure(text, self.onto.thousandths())
     }
 }
 
 /// Appends the texts in brackets, with a comma between them.
-pub(crate) fn push_bracketed<T: Written>(text: &mut String, items: &[T]) -> Result<(), AllocError>
-    ensures { OnOk result (string_bytes text.new ≡ string_bytes text.old ++ bracketed_texts (map T.Written.text_of items.now)) }
+pub(crate) fn push_bracketed<T: Written>(text: &mut Vec<u8>, items: &[T]) -> Result<(), AllocError>
+    ensures { OnOk result (text.new.items ≡ text.old.items ++ bracketed_texts (map T.Written.text_of items.now)) }
 {
-    text.push_str("(")?;
+    text.push(b'(')?;
     push_joined(text, items)?;
-    text.push_str(")")
+    text.push(b')')?;
+    Ok(())
 }
 
 /// Appends the values of a row in brackets, with a comma between them.
-pub(crate) fn push_row(text: &mut String, row: &KeptRow) -> Result<(), AllocError>
-    ensures { OnOk result (string_bytes text.new ≡ string_bytes text.old ++ bracketed_texts (map datum_text row.now)) }
+pub(crate) fn push_row(text: &mut Vec<u8>, row: &KeptRow) -> Result<(), AllocError>
+    ensures { OnOk result (text.new.items ≡ text.old.items ++ bracketed_texts (map datum_text row.now)) }
 {
-    text.push_str("(")?;
+    text.push(b'(')?;
     push_values(text, row)?;
-    text.push_str(")")
+    text.push(b')')?;
+    Ok(())
 }
 
 /// Appends the values of a row with a comma between them.
-fn push_values(text: &mut String, row: &KeptRow) -> Result<(), AllocError>
-    ensures { OnOk result (string_bytes text.new ≡ string_bytes text.old ++ join_with_byte COMMA (map datum_text row.now)) }
+fn push_values(text: &mut Vec<u8>, row: &KeptRow) -> Result<(), AllocError>
+    ensures { OnOk result (text.new.items ≡ text.old.items ++ join_with_byte COMMA (map datum_text row.now)) }
 {
     let width = row.width();
     if width == 0 {
         return Ok(());
     }
-    push_lent(text, row.value_at(0))?;
+    push_value(text, row.value_at(0))?;
     for column in 1..width {
-        text.push_str(",")?;
-        push_lent(text, row.value_at(column))?;
+        text.push(b',')?;
+        push_value(text, row.value_at(column))?;
     }
     Ok(())
 }
 
 /// Appends the texts with a comma between them.
-fn push_joined<T: Written>(text: &mut String, items: &[T]) -> Result<(), AllocError>
-    ensures { OnOk result (string_bytes text.new ≡ string_bytes text.old ++ join_with_byte COMMA (map T.Written.text_of items.now)) }
+fn push_joined<T: Written>(text: &mut Vec<u8>, items: &[T]) -> Result<(), AllocError>
+    ensures { OnOk result (text.new.items ≡ text.old.items ++ join_with_byte COMMA (map T.Written.text_of items.now)) }
 {
     let Some((first, others)) = items.split_first() else {
         return Ok(());
@@ -94,26 +98,26 @@ fn push_joined<T: Written>(text: &mut String, items: &[T]) -> Result<(), AllocEr
 }
 
 /// Appends each of the texts, with a comma before it.
-fn push_more<T: Written>(text: &mut String, items: &[T]) -> Result<(), AllocError>
-    ensures { OnOk result (string_bytes text.new ≡ string_bytes text.old ++ more_texts (map T.Written.text_of items.now)) }
+fn push_more<T: Written>(text: &mut Vec<u8>, items: &[T]) -> Result<(), AllocError>
+    ensures { OnOk result (text.new.items ≡ text.old.items ++ more_texts (map T.Written.text_of items.now)) }
 {
     for item in items {
-        text.push_str(",")?;
+        text.push(b',')?;
         item.push(text)?;
     }
     Ok(())
 }
 
 /// Appends the type of a column.
-fn push_type(text: &mut String, column_type: ColumnType) -> Result<(), AllocError>
-    ensures { OnOk result (string_bytes text.new ≡ string_bytes text.old ++ type_text column_type) }
+fn push_type(text: &mut Vec<u8>, column_type: ColumnType) -> Result<(), AllocError>
+    ensures { OnOk result (text.new.items ≡ text.old.items ++ type_text column_type) }
 {
     match column_type {
-        ColumnType::Int => text.push_str("INT"),
+        ColumnType::Int => push_text(text, "INT"),
         ColumnType::Text(most) => {
-            text.push_str("TEXT(")?;
-            text.push_str(Buffer::new().format(most))?;
-            text.push_str(")")
+            push_text(text, "TEXT(")?;
+            push_text(text, Buffer::new().format(most))?;
+            push_text(text, ")")
         }
     }
 }

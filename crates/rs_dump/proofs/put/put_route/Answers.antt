@@ -12,6 +12,6 @@ pub returns : goal.returns
 returns g c =
     let name = c.args.name.now.bytes in
     put_as c.put_line.result _ _ _ _
-    (c.as_str.ensures.value ∙ c.in_ok-push_route_line.ensures ∙ ap (λ text. text ++ dump_line (define_route name c.start.result c.finish.result)) c.clear.ensures.bytes
+    (c.as_slice.ensures.value ∙ c.in_ok-push_route_line.ensures ∙ ap (λ text. text ++ dump_line (define_route name c.start.result c.finish.result)) c.clear.ensures.items
     ∙ ap₂ (λ start finish. dump_line (define_route name start finish)) c.start.ensures c.finish.ensures)
     c.put_line.ensures

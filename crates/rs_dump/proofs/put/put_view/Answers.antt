@@ -11,5 +11,5 @@ returns-in_err-push_view_line g c = λ query. memory_wanted c.from_residual.resu
 pub returns : goal.returns
 returns g c = λ query.
     put_as c.put_line.result _ _ _ _
-    (c.as_str.ensures.value ∙ c.in_ok-push_view_line.ensures query ∙ ap (λ text. text ++ dump_line (define_view c.args.name.now.bytes query c.args.text.now)) c.clear.ensures.bytes)
+    (c.as_slice.ensures.value ∙ c.in_ok-push_view_line.ensures query ∙ ap (λ text. text ++ dump_line (define_view c.args.name.now.bytes query c.args.text.now)) c.clear.ensures.items)
     c.put_line.ensures

@@ -8,7 +8,7 @@ use Rattle.rs_dump_lines.proofs.writing.push_alignment_line.Goals as goal
 pub returns : goal.returns
 returns c =
     on_ok_weaker c.push_bracketed.result (λ more.
-    then _ _ _ (codes "0 DEFINE ALIGNMENT ") _ c.in_ok-push_str.ensures.bytes
-    (then _ _ _ c.args.name.now.bytes _ (as_it_is _ _ _ _ c.in_ok-push_str-2.ensures.bytes c.as_str.ensures.value)
+    then _ _ _ (codes "0 DEFINE ALIGNMENT ") _ c.in_ok-push_text.ensures
+    (then _ _ _ c.args.name.now.bytes _ (as_it_is _ _ _ _ c.in_ok-push_text-2.ensures c.as_str.ensures.value)
     (as_it_is _ _ _ _ more (ap bracketed_texts (texts_of piece_text piece_tree c.args.pieces.now)))))
     c.push_bracketed.ensures

@@ -8,9 +8,9 @@ use Rattle.rs_dump_lines.proofs.writing.push_table_line.Goals as goal
 pub returns : goal.returns
 returns c =
     on_ok_weaker c.push_bracketed.result (λ more.
-    then _ _ _ (codes "0 DEFINE ") _ c.in_ok-push_str.ensures.bytes
-    (then _ _ _ (kind_word c.args.kind) _ (as_it_is _ _ _ _ c.in_ok-push_str-2.ensures.bytes c.kind_word.ensures)
-    (then _ _ _ (codes " TABLE ") _ c.in_ok-push_str-3.ensures.bytes
-    (then _ _ _ c.args.name.now.bytes _ (as_it_is _ _ _ _ c.in_ok-push_str-4.ensures.bytes c.as_str.ensures.value)
+    then _ _ _ (codes "0 DEFINE ") _ c.in_ok-push_text.ensures
+    (then _ _ _ (kind_word c.args.kind) _ (as_it_is _ _ _ _ c.in_ok-push_text-2.ensures c.kind_word.ensures)
+    (then _ _ _ (codes " TABLE ") _ c.in_ok-push_text-3.ensures
+    (then _ _ _ c.args.name.now.bytes _ (as_it_is _ _ _ _ c.in_ok-push_text-4.ensures c.as_str.ensures.value)
     (as_it_is _ _ _ _ more (ap bracketed_texts (texts_of column_text column_tree c.args.columns.now)))))))
     c.push_bracketed.ensures
