@@ -9,3 +9,7 @@ mod Steps
 mod OneCut
 mod KnownTexts
 mod Rejected
+mod Meeting
+mod Defining
+mod RouteLines
+mod Holding

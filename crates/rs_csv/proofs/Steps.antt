@@ -19,6 +19,7 @@ use Rattle.rs_csv.specs.declared.quoting.Place.TheVariants as places
 use Rattle.rs_csv.specs.Quoting.{ends_record}
 use Rattle.rs_csv.specs.Cutting.{IsBatchOf, IsBetween, IsCut, Runs, Takes, after_all, kept, kept_of, within}
 use Rattle.rs_csv.specs.Output.{AreTaken, EndsTaken, IsQuiet, SoFar, TakesMore, TookAll, Wrote, WroteAll, WroteAtEnd, WroteFront, WroteSoFar}
+use Rattle.rs_csv.specs.Routes.{HaveMet}
 use Rattle.rs_csv.proofs.Cuts.{concat_more, cut_ended, cut_more, cut_none, cut_within, kept_append, within_long, within_short}
 use Rattle.rs_csv.proofs.Outputs.{Stays, stays_quiet}
 use Rattle.rs_csv.proofs.Runs.{cut_run}
@@ -154,12 +155,12 @@ module _ (wanted : Wanted) (table : CommandTree) (before : Option (List ℕ)) wh
       }
 
   pub far_left_out : {T E : Type 0} (result : Result T E) (old new : Batch) (progress progress_now : Progress) (input : List ℕ) (byte : ℕ) (after : Option (List ℕ)) → ((whole begun : List ℕ) → IsBatchOf wanted.separator old whole begun → Takes wanted.separator kinds.EndedLong new whole begun byte) → progress_now.planned ≡ progress.planned → progress_now.made.bytes.items ≡ progress.made.bytes.items
-      → progress_now.made.has_told ≡ true → OnOk result (progress_now.made.number ≡ progress.made.number + 1) → OnOk result (IsSome progress_now.planned) → progress_now.made.texts ≡ progress.made.texts → progress_now.held ≡ progress.held
+      → progress_now.made.has_told ≡ true → OnOk result (progress_now.made.number ≡ progress.made.number + 1) → OnOk result (IsSome progress_now.planned) → progress_now.made.texts ≡ progress.made.texts → progress_now.made.extents ≡ progress.made.extents → progress_now.held ≡ progress.held
       → SoFar wanted table before old progress input after → MatchResult result (λ _. SoFar wanted table before new progress_now (input ++ byte ∷ []) after) (λ _. WroteSoFar wanted table (input ++ byte ∷ []) before after)
-  far_left_out (Ok _) old new progress progress_now input byte after takes planned bytes told number some texts held far =
+  far_left_out (Ok _) old new progress progress_now input byte after takes planned bytes told number some texts extents held far =
       let ends = ended_long_of wanted.separator new (concat (kept far.waiting)) far.rest byte (takes (concat (kept far.waiting)) far.rest far.in_batch) in
-      far_ended_long old new progress progress_now input byte after far ends.0 ends.1.0 ends.1.1 told (taken_told wanted table progress progress_now (kept far.past) before after planned bytes told number some texts held far.taken)
-  far_left_out (Err _) old new progress progress_now input byte after takes planned bytes told number some texts held far = far_stops old progress input (byte ∷ []) after far
+      far_ended_long old new progress progress_now input byte after far ends.0 ends.1.0 ends.1.1 told (taken_told wanted table progress progress_now (kept far.past) before after planned bytes told number some texts extents held far.taken)
+  far_left_out (Err _) old new progress progress_now input byte after takes planned bytes told number some texts extents held far = far_stops old progress input (byte ∷ []) after far
 
   -- the records of a batch are taken
   pub far_passes : {T E : Type 0} (result : Result T E) (old new : Batch) (progress progress_now : Progress) (input : List ℕ) (after later a b : Option (List ℕ)) (far : SoFar wanted table before old progress input after)
@@ -249,16 +250,16 @@ module _ (wanted : Wanted) (table : CommandTree) (before : Option (List ℕ)) wh
 
   -- something was told at the end
   pub far_told : (batch : Batch) (progress progress_now : Progress) (input : List ℕ) (after : Option (List ℕ)) → progress_now.planned ≡ progress.planned → progress_now.made.bytes.items ≡ progress.made.bytes.items
-      → progress_now.made.has_told ≡ true → progress_now.made.number ≡ progress.made.number + 1 → IsSome progress_now.planned → progress_now.made.texts ≡ progress.made.texts → progress_now.held ≡ progress.held
+      → progress_now.made.has_told ≡ true → progress_now.made.number ≡ progress.made.number + 1 → IsSome progress_now.planned → progress_now.made.texts ≡ progress.made.texts → progress_now.made.extents ≡ progress.made.extents → progress_now.held ≡ progress.held
       → SoFar wanted table before batch progress input after → SoFar wanted table before batch progress_now input after
-  far_told batch progress progress_now input after planned bytes told number some texts held far = record {
+  far_told batch progress progress_now input after planned bytes told number some texts extents held far = record {
     past = far.past;
     waiting = far.waiting;
     rest = far.rest;
     cut = far.cut;
     in_batch = far.in_batch;
     none_lacks = λ off. absurd (false≢true (sym off ∙ told));
-    taken = taken_told wanted table progress progress_now (kept far.past) before after planned bytes told number some texts held far.taken;
+    taken = taken_told wanted table progress progress_now (kept far.past) before after planned bytes told number some texts extents held far.taken;
   }
 
   pub end_front : (batch : Batch) (progress : Progress) (input : List ℕ) (after : Option (List ℕ)) → SoFar wanted table before batch progress input after → WroteAtEnd wanted table input before after
@@ -291,15 +292,16 @@ module _ (wanted : Wanted) (table : CommandTree) (before : Option (List ℕ)) wh
 
 -- nothing was read or made
 pub far_start : (wanted : Wanted) (table : CommandTree) (batch : Batch) (progress : Progress) (output : Option (List ℕ)) → IsBatchOf wanted.separator batch [] [] → progress.planned ≡ None → progress.made.bytes.items ≡ [] → progress.made.number ≡ 0 → progress.held.items ≡ []
+    → (wanted.defines_routes ≡ true → HaveMet progress.made.extents [])
     → SoFar wanted table output batch progress [] output
-far_start wanted table batch progress output is none no_line no_number no_text = record {
+far_start wanted table batch progress output is none no_line no_number no_held none_met = record {
   past = [];
   waiting = [];
   rest = [];
   cut = cut_none wanted.separator;
   in_batch = is;
   none_lacks = λ _. refl;
-  taken = taken_none wanted table progress output none no_line no_number no_text;
+  taken = taken_none wanted table progress output none no_line no_number no_held none_met;
 }
 
 -- ---- what was written, to an end

@@ -1,13 +1,14 @@
 -- What is written for a CSV: lines of one session, each of which says what it is written for.
-use Rattle.std.specs.Prelude.{◌≡◌, ◌⊎◌, ℕ, ◌+◌, ◌<◌, ◌≤◌, List, [], ◌∷◌, ◌++◌, length, map, Option, Some, None, IfSome, IsSome, Result, MatchResult, Bool, true, false, codes, string_bytes}
+use Rattle.std.specs.Prelude.{◌≡◌, ◌⊎◌, ℕ, ◌+◌, ◌<◌, List, [], ◌∷◌, ◌++◌, length, map, flat_map, Option, Some, None, IfSome, Result, MatchResult, Bool, true, false, codes, string_bytes}
 use Rattle.std.specs.List.{concat}
 use Rattle.std.specs.Io.KnownBytes.{Appends, Consumes, IsAtEnd, Keeps}
 use Rattle.csv.specs.Reading.{strip_bom}
 use Rattle.csv.specs.Records.{fields_of}
+use Rattle.rs_facts.specs.Fact.{Names}
 use Rattle.rs_value.specs.declared.column.Kind.{Kind}
 use Rattle.rs_value.specs.declared.column.ColumnType.{ColumnType}
 use Rattle.rs_syntax.specs.Sound.{IsName, IsSound}
-use Rattle.rs_syntax.specs.Tree.{CommandTree, define_route, define_table}
+use Rattle.rs_syntax.specs.Tree.{CommandTree, define_table}
 use Rattle.rs_syntax.specs.View.{column_tree}
 use Rattle.rs_machine.specs.Request.{Asks, command}
 use Rattle.rs_csv_lines.specs.declared.plan.Plan.{Plan}
@@ -15,7 +16,8 @@ use Rattle.rs_csv_lines.specs.Inserts.{IsInsertOf}
 use Rattle.rs_csv_lines.specs.Texts.{session_text}
 use Rattle.rs_csv.specs.Header.{AreColumnsOf, IsNamed, IsPlaceNamed}
 use Rattle.rs_csv.specs.Cutting.{IsBatchOf, IsCut, kept, kept_of}
-use Rattle.rs_csv.specs.Reading.{AreReadOf, AreTexts}
+use Rattle.rs_csv.specs.Reading.{AreReadOf}
+use Rattle.rs_csv.specs.Routes.{DefineRoutes, HaveMet, IsMet, MeetsMore, Placed}
 use Rattle.rs_csv.specs.declared.batch.Batch.{Batch}
 use Rattle.rs_csv.specs.declared.definition.Definition.{Definition}
 use Rattle.rs_csv.specs.declared.filter.Planned.{Planned}
@@ -23,6 +25,7 @@ use Rattle.rs_csv.specs.declared.filter.Progress.{Progress}
 use Rattle.rs_csv.specs.declared.filter.Stop.{Stop}
 use Rattle.rs_csv.specs.declared.filter.Wanted.{Wanted}
 use Rattle.rs_csv.specs.declared.made.Made.{Made}
+use Rattle.rs_csv.specs.declared.routes.Extent.{Extent}
 use Rattle.rs_csv.specs.Texts.{IsOneText, text_of_name}
 
 -- the command that a definition is
@@ -71,25 +74,33 @@ pub record Known : Type 0 where
 
 -- Lines of the session, each with its LF, over records in their order, which are counted on from so many: each record has its INSERT, by its
 -- number, where names are made by a route whose name is made of one text alone, or is left out where something is told. So are those that are
--- too long to be read, which are counted too. Among these are lines that define the table, or a route.
-pub data AreLines (session : ℕ) (table : CommandTree) (plan : Plan) (known : Known) (before : ℕ) : List (List (List ℕ)) → List ℕ → ℕ → Type 0 where
-  nothing : AreLines session table plan known before [] [] before
-  definition_line : {records : List (List (List ℕ))} {bytes : List ℕ} {number : ℕ} (line : List ℕ) → AreLines session table plan known before records bytes number → Asks line (command session table)
-      → AreLines session table plan known before records (bytes ++ line ++ 10 ∷ []) number
-  route_line : {records : List (List (List ℕ))} {bytes : List ℕ} {number : ℕ} (line name : List ℕ) (start finish : ℕ) → AreLines session table plan known before records bytes number
-      → Asks line (command session (define_route name start finish)) → AreLines session table plan known before records (bytes ++ line ++ 10 ∷ []) number
-  insert_line : {records : List (List (List ℕ))} {bytes : List ℕ} {number : ℕ} (fields : List (List ℕ)) (line : List ℕ) (tree : CommandTree) → AreLines session table plan known before records bytes number
+-- too long to be read, which are counted too. Among these are lines that define the table. The events are those of the INSERTs.
+pub data AreLines (session : ℕ) (table : CommandTree) (plan : Plan) (known : Known) (before : ℕ) : List (List (List ℕ)) → List Placed → List ℕ → ℕ → Type 0 where
+  nothing : AreLines session table plan known before [] [] [] before
+  definition_line : {records : List (List (List ℕ))} {events : List Placed} {bytes : List ℕ} {number : ℕ} (line : List ℕ) → AreLines session table plan known before records events bytes number → Asks line (command session table)
+      → AreLines session table plan known before records events (bytes ++ line ++ 10 ∷ []) number
+  insert_line : {records : List (List (List ℕ))} {events : List Placed} {bytes : List ℕ} {number : ℕ} (fields : List (List ℕ)) (line : List ℕ) (tree : CommandTree) → AreLines session table plan known before records events bytes number
       → (inserts : IsInsertOf plan (number + 1) fields tree) → IsOneText plan known.texts fields inserts.route → Asks line (command session tree)
-      → AreLines session table plan known before (records ++ fields ∷ []) (bytes ++ line ++ 10 ∷ []) (number + 1)
-  left_out : {records : List (List (List ℕ))} {bytes : List ℕ} {number : ℕ} (fields : List (List ℕ)) → AreLines session table plan known before records bytes number → known.told ≡ true
-      → AreLines session table plan known before (records ++ fields ∷ []) bytes (number + 1)
-  too_long : {records : List (List (List ℕ))} {bytes : List ℕ} {number : ℕ} (more : ℕ) → AreLines session table plan known before records bytes number → known.told ≡ true
-      → AreLines session table plan known before records bytes (number + more)
+      → AreLines session table plan known before (records ++ fields ∷ []) (events ++ (inserts.route, inserts.place) ∷ []) (bytes ++ line ++ 10 ∷ []) (number + 1)
+  left_out : {records : List (List (List ℕ))} {events : List Placed} {bytes : List ℕ} {number : ℕ} (fields : List (List ℕ)) → AreLines session table plan known before records events bytes number → known.told ≡ true
+      → AreLines session table plan known before (records ++ fields ∷ []) events bytes (number + 1)
+  too_long : {records : List (List (List ℕ))} {events : List Placed} {bytes : List ℕ} {number : ℕ} (more : ℕ) → AreLines session table plan known before records events bytes number → known.told ≡ true
+      → AreLines session table plan known before records events bytes (number + more)
 
--- What is written for these records: nothing but definitions where there is none, else by the header the lines of those after it, counted from 1.
+-- Such lines, which are all counted from 1. Before them are those of the routes of their INSERTs where these are wanted, and no others.
+pub record AreRouted (wanted : Wanted) (table : CommandTree) (plan : Plan) (known : Known) (records : List (List (List ℕ))) (bytes : List ℕ) (last : ℕ) : Type 0 where
+  pub events : List Placed
+  pub routes : List ℕ
+  pub others : List ℕ
+  pub whole : bytes ≡ routes ++ others
+  pub defined : wanted.defines_routes ≡ true → DefineRoutes wanted.session (IsMet events) routes
+  pub none_defined : wanted.defines_routes ≡ false → routes ≡ []
+  pub lines : AreLines wanted.session table plan known 0 records events others last
+
+-- What is written for these records: by the header, which is the first, the lines of those after it, and nothing but definitions where there is none.
 abbrev pub IsOutput : Wanted → CommandTree → Known → List (List (List ℕ)) → List ℕ → Type 0
-IsOutput wanted table known [] bytes = (plan : Plan) → AreLines wanted.session table plan known 0 [] bytes 0
-IsOutput wanted table known (header ∷ records) bytes = (plan : Plan) × (last : ℕ) × IsPlanOf wanted table header plan × AreLines wanted.session table plan known 0 records bytes last
+IsOutput wanted table known [] bytes = (plan : Plan) → AreRouted wanted table plan known [] bytes 0
+IsOutput wanted table known (header ∷ records) bytes = (plan : Plan) × (last : ℕ) × IsPlanOf wanted table header plan × AreRouted wanted table plan known records bytes last
 
 -- as long as nothing is told, nothing was, and the errors stream is as it was
 abbrev pub IsQuiet : Bool → Bool → Option (List ℕ) → Option (List ℕ) → Type 0
@@ -102,18 +113,20 @@ abbrev pub known_of : Made → Known
 known_of made = record { told = made.has_told; texts = text_of_name made.texts }
 
 -- Bytes that grew by the lines of records, which are counted on from one number to another.
-pub record GoesOn (session : ℕ) (table : CommandTree) (plan : Plan) (known : Known) (before after : ℕ) (records : List (List (List ℕ))) (old new : List ℕ) : Type 0 where
+pub record GoesOn (session : ℕ) (table : CommandTree) (plan : Plan) (known : Known) (before after : ℕ) (records : List (List (List ℕ))) (events : List Placed) (old new : List ℕ) : Type 0 where
   pub bytes : List ℕ
   pub grown : new ≡ old ++ bytes
-  pub lines : AreLines session table plan known before records bytes after
+  pub lines : AreLines session table plan known before records events bytes after
 
 -- the same by lines that define something, whatever is known
 abbrev pub Defines : ℕ → CommandTree → List ℕ → List ℕ → Type 0
-Defines session table old new = (plan : Plan) (known : Known) (number : ℕ) → GoesOn session table plan known number number [] old new
+Defines session table old new = (plan : Plan) (known : Known) (number : ℕ) → GoesOn session table plan known number number [] [] old new
 
--- they are lines that define something, whatever is known
-abbrev pub AreDefinitions : ℕ → CommandTree → List ℕ → Type 0
-AreDefinitions session table bytes = (plan : Plan) (known : Known) (number : ℕ) → AreLines session table plan known number [] bytes number
+-- The lines of more records are made, and the events of their INSERTs are met.
+pub record MakesLines (session : ℕ) (table : CommandTree) (plan : Plan) (old new : Made) (records : List (List (List ℕ))) : Type 0 where
+  pub events : List Placed
+  pub goes : GoesOn session table plan (known_of new) old.number new.number records events old.bytes.items new.bytes.items
+  pub meets : MeetsMore old.extents new.extents events
 
 -- the plan is by the header that was read
 abbrev pub IsPlanned : Wanted → CommandTree → Progress → Type 0
@@ -124,58 +137,43 @@ pub record FilterParts : Type 0 where
   pub job : JobParts
   pub progress : Progress
 
--- What was made of a header and the records after it, which were counted up to a number: lines that were sent, and others that wait.
-pub record IsMadeBy (wanted : Wanted) (table : CommandTree) (known : Known) (number : ℕ) (planned : Planned) (records : List (List (List ℕ))) (sent waiting : List ℕ) : Type 0 where
+-- What was made of a header and the records after it, which were counted up to a number. Where routes are to be defined the events of the INSERTs were met.
+pub record IsMadeBy (wanted : Wanted) (table : CommandTree) (known : Known) (number : ℕ) (extents : Option (Names Extent)) (planned : Planned) (records : List (List (List ℕ))) (bytes : List ℕ) : Type 0 where
   pub plans : IsPlanOf wanted table (fields_of planned.header) planned.plan
-  pub first : List (List (List ℕ))
-  pub second : List (List (List ℕ))
-  pub whole : records ≡ fields_of planned.header ∷ (first ++ second)
-  pub middle : ℕ
-  pub sent_lines : AreLines wanted.session table planned.plan known 0 first sent middle
-  pub waiting_lines : AreLines wanted.session table planned.plan known middle second waiting number
+  pub others : List (List (List ℕ))
+  pub whole : records ≡ fields_of planned.header ∷ others
+  pub events : List Placed
+  pub lines : AreLines wanted.session table planned.plan known 0 others events bytes number
+  pub met : wanted.defines_routes ≡ true → HaveMet extents events
 
 -- the same, where there may be no header yet
-abbrev pub IsMade : Wanted → CommandTree → Known → ℕ → Option Planned → List (List (List ℕ)) → List ℕ → List ℕ → Type 0
-IsMade wanted table known number None records sent waiting = (records ≡ []) × (sent ≡ []) × (waiting ≡ []) × (number ≡ 0)
-IsMade wanted table known number (Some planned) records sent waiting = IsMadeBy wanted table known number planned records sent waiting
+abbrev pub IsMade : Wanted → CommandTree → Known → ℕ → Option (Names Extent) → Option Planned → List (List (List ℕ)) → List ℕ → Type 0
+IsMade wanted table known number extents None records bytes = (records ≡ []) × (bytes ≡ []) × (number ≡ 0) × (wanted.defines_routes ≡ true → HaveMet extents [])
+IsMade wanted table known number extents (Some planned) records bytes = IsMadeBy wanted table known number extents planned records bytes
 
--- these records were sent so, and the others wait
+-- the lines that are held until the routes are known
+abbrev pub held_lines : Progress → List ℕ
+held_lines progress = flat_map (λ lines. lines.items) progress.held.items
+
+-- these lines were sent so, and after them others are held, or are still to be sent or held
 abbrev pub IsMadeIn : Wanted → CommandTree → Progress → List (List (List ℕ)) → List ℕ → Type 0
-IsMadeIn wanted table progress records sent = IsMade wanted table (known_of progress.made) progress.made.number progress.planned records sent progress.made.bytes.items
-
--- nothing changes but that records are counted that are too long, of which something was told
-abbrev pub Counts : ℕ → ℕ → Progress → Type 0
-Counts number now progress = (now ≡ number) ⊎ (IsSome progress.planned × (progress.made.has_told ≡ true) × (number ≤ now))
-
-abbrev pub CountsOn : Progress → Progress → Type 0
-CountsOn old new = (new.planned ≡ old.planned) × (known_of new.made ≡ known_of old.made) × (new.made.bytes.items ≡ old.made.bytes.items) × Counts old.made.number new.made.number old
+IsMadeIn wanted table progress records sent =
+    IsMade wanted table (known_of progress.made) progress.made.number progress.made.extents progress.planned records ((sent ++ held_lines progress) ++ progress.made.bytes.items)
 
 -- what is made of more records
 abbrev pub Makes : Wanted → CommandTree → List (List (List ℕ)) → Progress → Progress → Type 0
 Makes wanted table more old new = (records : List (List (List ℕ))) (sent : List ℕ) → IsMadeIn wanted table old records sent → IsMadeIn wanted table new (records ++ more) sent
 
--- The lines of the records read of these were sent, and none waits.
-pub record IsSent (wanted : Wanted) (table : CommandTree) (before : Option (List ℕ)) (progress : Progress) (raws : List (List ℕ)) (after : Option (List ℕ)) : Type 0 where
+-- What became of raw records: the lines of those read of them were sent, or where routes are to be defined they are held.
+pub record AreTaken (wanted : Wanted) (table : CommandTree) (before : Option (List ℕ)) (progress : Progress) (raws : List (List ℕ)) (after : Option (List ℕ)) : Type 0 where
   pub records : List (List (List ℕ))
   pub read : AreReadOf wanted.separator raws records
   pub sent : List ℕ
   pub put : Appends before after sent
   pub made : IsMadeIn wanted table progress records sent
   pub none_waits : progress.made.bytes.items ≡ []
-
--- The texts of these wait, and nothing was sent.
-pub record IsHeld (separator : ℕ) (before : Option (List ℕ)) (texts : List (List ℕ)) (raws : List (List ℕ)) (after : Option (List ℕ)) : Type 0 where
-  pub texts_are : AreTexts separator texts raws
-  pub put : Appends before after []
-
--- the texts that wait
-abbrev pub held_texts : Progress → List (List ℕ)
-held_texts progress = map (λ held. held.text.items) progress.held.items
-
--- What became of raw records: their lines were sent, or where routes are to be defined their texts wait.
-pub record AreTaken (wanted : Wanted) (table : CommandTree) (before : Option (List ℕ)) (progress : Progress) (raws : List (List ℕ)) (after : Option (List ℕ)) : Type 0 where
-  pub sent : wanted.defines_routes ≡ false → IsSent wanted table before progress raws after
-  pub held : wanted.defines_routes ≡ true → IsHeld wanted.separator before (held_texts progress) raws after
+  pub none_held : wanted.defines_routes ≡ false → held_lines progress ≡ []
+  pub none_sent : wanted.defines_routes ≡ true → sent ≡ []
 
 -- The input up to here was cut: the first of the records were taken, and the batch has the others.
 pub record SoFar (wanted : Wanted) (table : CommandTree) (before : Option (List ℕ)) (batch : Batch) (progress : Progress) (input : List ℕ) (after : Option (List ℕ)) : Type 0 where
@@ -258,12 +256,6 @@ Ends wanted table result told remaining before after =
 
 -- ---- steps
 
--- the lines of more raw records are sent
-abbrev pub SendsMore : {T E : Type 0} → Wanted → CommandTree → Result T E → List (List ℕ) → Progress → Progress → Option (List ℕ) → Option (List ℕ) → Type 0
-SendsMore wanted table result more progress progress_now output output_now =
-    (before : Option (List ℕ)) (raws : List (List ℕ)) → IsSent wanted table before progress raws output
-    → MatchResult result (λ _. IsSent wanted table before progress_now (raws ++ more) output_now) (λ _. WroteFront wanted table (raws ++ more) before output_now)
-
 -- more raw records are taken
 abbrev pub TakesMore : {T E : Type 0} → Wanted → CommandTree → Result T E → List (List ℕ) → Progress → Progress → Option (List ℕ) → Option (List ℕ) → Type 0
 TakesMore wanted table result more progress progress_now output output_now =
@@ -294,7 +286,7 @@ TakesInput wanted table result progress unread unread_now output output_now = (t
     × MatchResult result (λ _. IsAtEnd unread_now × TookAll wanted table output progress (strip_bom told) output_now)
     (λ _. Wrote wanted table (strip_bom told) unread_now output output_now)
 
--- what waits is written
+-- what is held is written
 abbrev pub EndsTaken : {E : Type 0} → Wanted → CommandTree → Result Bool E → Progress → Option (List ℕ) → Option (List ℕ) → Type 0
 EndsTaken wanted table result progress output output_now = (before : Option (List ℕ)) (raws : List (List ℕ)) → AreTaken wanted table before progress raws output
     → MatchResult result (λ told. WroteOf wanted table told raws before output_now) (λ _. WroteFront wanted table raws before output_now)

@@ -1,5 +1,5 @@
 -- The records that are read, each a list of fields.
-use Rattle.std.specs.Prelude.{◌≡◌, ℕ, List, [], ◌∷◌, ◌++◌}
+use Rattle.std.specs.Prelude.{ℕ, List, [], ◌++◌}
 use Rattle.csv.specs.Reading.{AreRecords, default_config, strip_bom}
 use Rattle.csv.specs.declared.parser.Config.{Config}
 use Rattle.csv.specs.declared.parser.State.TheVariants as states
@@ -18,8 +18,3 @@ pub data AreReadOf (separator : ℕ) : List (List ℕ) → List (List (List ℕ)
   nothing_read : AreReadOf separator [] []
   one_more_batch : {raws : List (List ℕ)} {records : List (List (List ℕ))} (batch : List (List ℕ)) (more : List (List (List ℕ))) → AreReadOf separator raws records → ReadsAll separator (text_of separator batch) more
       → AreReadOf separator (raws ++ batch) (records ++ more)
-
--- The texts are those of batches of the raw records, in their order.
-abbrev pub AreTexts : ℕ → List (List ℕ) → List (List ℕ) → Type 0
-AreTexts separator [] raws = raws ≡ []
-AreTexts separator (text ∷ texts) raws = (batch : List (List ℕ)) × (others : List (List ℕ)) × (raws ≡ batch ++ others) × (text ≡ text_of separator batch) × AreTexts separator texts others

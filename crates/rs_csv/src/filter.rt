@@ -7,8 +7,9 @@ ghost use Rattle.csv.specs.Records.{fields_of};
 ghost use Rattle.rs_protocol.specs.Puts.{PutsBut};
 ghost use Rattle.rs_syntax.specs.Tree.{CommandTree};
 ghost use Rattle.rs_csv.specs.Cutting.{IsBatchOf, IsBetween, text_of};
-ghost use Rattle.rs_csv.specs.Output.{CountsOn, Defines, Ends, EndsTaken, GoesFar, IsAsked, IsPlanOf, IsQuiet, Makes, SendsMore, SoFar, TakesHead, TakesInput, TakesMore, TakesRest, held_texts, table_of};
+ghost use Rattle.rs_csv.specs.Output.{Defines, Ends, EndsTaken, GoesFar, IsAsked, IsPlanOf, IsQuiet, Makes, SoFar, TakesHead, TakesInput, TakesMore, TakesRest, held_lines, table_of};
 ghost use Rattle.rs_csv.specs.Reading.{ReadsAll};
+ghost use Rattle.rs_csv.specs.Routes.{HaveMet};
 
 use crate::batch::{Batch, Taken};
 use crate::definition::{Definition, are_scales, is_number_column, read_definition};
@@ -142,15 +143,6 @@ pub struct Planned {
     pub separator: u8,
 }
 
-/// A text of records that waits for the routes.
-#[derive(Drop)]
-pub struct Held {
-    /// The text.
-    pub text: Vec<u8>,
-    /// How many records were before it.
-    pub before: u64,
-}
-
 /// What was read and made so far.
 #[derive(Drop)]
 pub struct Progress {
@@ -158,8 +150,8 @@ pub struct Progress {
     pub planned: Option<Planned>,
     /// What is made of the records.
     pub made: Made,
-    /// The texts of records that wait for the routes.
-    pub held: Vec<Held>,
+    /// The lines that are held until the routes are known.
+    pub held: Vec<Vec<u8>>,
 }
 
 impl Progress {
@@ -170,6 +162,7 @@ impl Progress {
         ensures told { result.made.has_told ≡ false }
         ensures number { result.made.number ≡ 0 }
         ensures held { result.held.items ≡ [] }
+        ensures routes { defines_routes ≡ true → HaveMet result.made.extents [] }
     {
         Progress {
             planned: None,
@@ -224,6 +217,7 @@ fn take_header<E: Write>(
     ensures made { OnOk result (Defines job.now.wanted.session (table_of job.now.definition) made.old.bytes.items made.new.bytes.items) }
     ensures number { made.new.number ≡ made.old.number }
     ensures texts { made.new.texts ≡ made.old.texts }
+    ensures extents { made.new.extents ≡ made.old.extents }
     ensures quiet { OnOk result (IsQuiet made.old.has_told made.new.has_told (E.contents errors.old) (E.contents errors.new)) }
 {
     let plan = make_plan(job.alloc, &job.definition, &header, &job.wanted, errors)?;
@@ -243,6 +237,7 @@ fn write_made<W: Write>(made: &mut Made, output: &mut W) -> Result<(), Stop>
     ensures told { made.new.has_told ≡ made.old.has_told }
     ensures number { made.new.number ≡ made.old.number }
     ensures texts { made.new.texts ≡ made.old.texts }
+    ensures extents { made.new.extents ≡ made.old.extents }
 {
     match put_parts(output, &[made.bytes.as_slice()]) {
         Ok(()) => {
@@ -253,6 +248,21 @@ fn write_made<W: Write>(made: &mut Made, output: &mut W) -> Result<(), Stop>
     }
 }
 
+// Holds the lines that were made until the routes are known.
+fn hold_made(alloc: Global, progress: &mut Progress) -> Result<(), Stop>
+    ensures held { OnOk result ((progress.new.made.bytes.items ≡ []) × (held_lines progress.new ≡ held_lines progress.old ++ progress.old.made.bytes.items)) }
+    ensures plan { progress.new.planned ≡ progress.old.planned }
+    ensures told { progress.new.made.has_told ≡ progress.old.made.has_told }
+    ensures number { progress.new.made.number ≡ progress.old.made.number }
+    ensures texts { progress.new.made.texts ≡ progress.old.made.texts }
+    ensures extents { progress.new.made.extents ≡ progress.old.made.extents }
+{
+    let lines = Vec::from_slice(alloc, progress.made.bytes.as_slice())?;
+    progress.held.push(lines)?;
+    progress.made.bytes.clear();
+    Ok(())
+}
+
 // Tells of a record that is too long, of so many lines. There is no header after one that is.
 fn leave_out_long<E: Write>(progress: &mut Progress, lines: u64, errors: &mut E) -> Result<(), Stop>
     ensures plan { progress.new.planned ≡ progress.old.planned }
@@ -261,6 +271,7 @@ fn leave_out_long<E: Write>(progress: &mut Progress, lines: u64, errors: &mut E)
     ensures number { OnOk result (progress.new.made.number ≡ progress.old.made.number + 1) }
     ensures plans { OnOk result (IsSome progress.new.planned) }
     ensures texts { progress.new.made.texts ≡ progress.old.made.texts }
+    ensures extents { progress.new.made.extents ≡ progress.old.made.extents }
     ensures held { progress.new.held ≡ progress.old.held }
 {
     progress.made.has_told = true;
@@ -357,60 +368,7 @@ impl Filter<'_> {
         Err(Stop::OutOfMemory)
     }
 
-    /// Counts on to so many records before a text, where some were too long and are not in the texts before it.
-    pub fn count_on(&mut self, before: u64)
-        ensures job { self.new.job ≡ self.old.job }
-        ensures counts { CountsOn self.old.progress self.new.progress }
-    {
-        let progress = &mut self.progress;
-        if progress.planned.is_some() && progress.made.has_told && progress.made.number < before {
-            progress.made.number = before;
-        }
-    }
-
-    /// Makes the lines of the records of a text, and writes them.
-    pub fn write_text<W: Write, E: Write, X: Rejecting>(
-        &mut self,
-        text: &[u8],
-        output: &mut W,
-        errors: &mut E,
-        rejects: &mut X,
-    ) -> Result<(), Stop>
-        ensures job { self.new.job ≡ self.old.job }
-        ensures sent { (more : List (List ℕ)) → text.now ≡ text_of self.old.job.wanted.separator more → SendsMore self.old.job.wanted (table_of self.old.job.definition) result more self.old.progress self.new.progress (W.contents output.old) (W.contents output.new) }
-        ensures quiet { OnOk result (IsQuiet self.old.progress.made.has_told self.new.progress.made.has_told (E.contents errors.old) (E.contents errors.new)) }
-    {
-        if let Err(stop) = self.read_records(text, errors, rejects) {
-            return Err(stop);
-        }
-        write_made(&mut self.progress.made, output)
-    }
-
-    // Meets the routes of the records of a text, which waits for them.
-    fn hold_text<E: Write, X: Rejecting>(
-        &mut self,
-        text: &[u8],
-        errors: &mut E,
-        rejects: &mut X,
-    ) -> Result<(), Stop>
-        ensures job { self.new.job ≡ self.old.job }
-        ensures held { OnOk result (held_texts self.new.progress ≡ held_texts self.old.progress ++ text.now ∷ []) }
-        ensures quiet { OnOk result (IsQuiet self.old.progress.made.has_told self.new.progress.made.has_told (E.contents errors.old) (E.contents errors.new)) }
-    {
-        let before = self.progress.made.number;
-        if let Err(stop) = self.read_records(text, errors, rejects) {
-            return Err(stop);
-        }
-        let job = self.job;
-        self.progress.made.bytes.clear();
-        let Ok(text) = Vec::from_slice(job.alloc, text) else {
-            return Err(Stop::OutOfMemory);
-        };
-        self.progress.held.push(Held { text, before })?;
-        Ok(())
-    }
-
-    // Takes the text of records: their lines are written, or it waits for the routes.
+    // Takes the text of records: their lines are written, or held until the routes are known.
     fn take_text<W: Write, E: Write, X: Rejecting>(
         &mut self,
         text: &[u8],
@@ -422,11 +380,14 @@ impl Filter<'_> {
         ensures taken { (more : List (List ℕ)) → text.now ≡ text_of self.old.job.wanted.separator more → TakesMore self.old.job.wanted (table_of self.old.job.definition) result more self.old.progress self.new.progress (W.contents output.old) (W.contents output.new) }
         ensures quiet { OnOk result (IsQuiet self.old.progress.made.has_told self.new.progress.made.has_told (E.contents errors.old) (E.contents errors.new)) }
     {
+        if let Err(stop) = self.read_records(text, errors, rejects) {
+            return Err(stop);
+        }
         let job = self.job;
         if job.wanted.defines_routes {
-            self.hold_text(text, errors, rejects)
+            hold_made(job.alloc, &mut self.progress)
         } else {
-            self.write_text(text, output, errors, rejects)
+            write_made(&mut self.progress.made, output)
         }
     }
 
@@ -569,7 +530,8 @@ impl Filter<'_> {
         requires no_plan { self.old.progress.planned ≡ None }
         requires no_line { self.old.progress.made.bytes.items ≡ [] }
         requires no_number { self.old.progress.made.number ≡ 0 }
-        requires no_text { self.old.progress.held.items ≡ [] }
+        requires none_held { self.old.progress.held.items ≡ [] }
+        requires none_met { self.old.job.wanted.defines_routes ≡ true → HaveMet self.old.progress.made.extents [] }
         ensures input { TakesInput self.old.job.wanted (table_of self.old.job.definition) result self.new.progress (R.remaining input.old) (R.remaining input.new) (W.contents output.old) (W.contents output.new) }
         ensures quiet { OnOk result (IsQuiet self.old.progress.made.has_told self.new.progress.made.has_told (E.contents errors.old) (E.contents errors.new)) }
     {
@@ -604,7 +566,7 @@ impl Filter<'_> {
     }
 }
 
-// Writes what waits, and tells how many measures were rounded, where they are.
+// Writes what is held, and tells how many measures were rounded, where they are.
 fn end_lines<W: Write, E: Write>(
     job: &Job<'_>,
     progress: &mut Progress,

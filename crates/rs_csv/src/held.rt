@@ -1,21 +1,19 @@
-//! What waits for the routes: the texts of the records, which are read again once the routes are known.
-//!
-//! What is told of a record was told when it was read first.
+//! The end with routes: the lines that define them, and those of the records, which were held until the routes were known.
 
-ghost use Rattle.std.specs.Prelude.{◌≡◌, [], OnOk, IfOk, MatchResult, ℕ, List, Option, Ok, false, map};
-ghost use Rattle.std.specs.Io.KnownBytes.{Keeps};
-ghost use Rattle.rs_syntax.specs.Tree.{CommandTree};
-ghost use Rattle.rs_csv.specs.Output.{AreDefinitions, Defines, EndsTaken, IsQuiet, WroteFront, WroteOf, table_of};
-ghost use Rattle.rs_csv.specs.Reading.{AreTexts};
+ghost use Rattle.std.specs.Prelude.{◌≡◌, OnErr, OnOk, IfOk, ℕ, List, Ok, false, flat_map};
+ghost use Rattle.std.specs.Io.KnownBytes.{Appends, Keeps};
+ghost use Rattle.rs_protocol.specs.Puts.{PutsBut};
+ghost use Rattle.rs_csv.specs.Output.{EndsTaken, IsQuiet, table_of};
+ghost use Rattle.rs_csv.specs.Routes.{DefineRoutes, HaveMet, IsMet, Placed, PutsRoute};
 
-use crate::filter::{Filter, Held, Job, Progress, Stop};
+use crate::filter::{Job, Progress, Stop};
 use crate::made::Made;
 use crate::routes::{Extent, push_route};
 use rs_methods::Name;
 use rs_protocol::put_parts;
-use std::io::{Sink, Write, sink};
+use std::io::Write;
 
-// The line that defines a route. One on which no measure was met is told.
+// Adds the line that defines a route. One on which no measure was met has none, which is told.
 fn put_route<E: Write>(
     job: &Job<'_>,
     route: (Name, Extent),
@@ -23,25 +21,23 @@ fn put_route<E: Write>(
     made: &mut Made,
     errors: &mut E,
 ) -> Result<(), Stop>
-    ensures lines { OnOk result ((table : CommandTree) → Defines job.now.wanted.session table lines.old.items lines.new.items) }
-    ensures bytes { made.new.bytes.items ≡ made.old.bytes.items }
+    ensures put { OnOk result (PutsRoute job.now.wanted.session route.0.bytes route.1.ends lines.old.items lines.new.items) }
     ensures quiet { OnOk result (IsQuiet made.old.has_told made.new.has_told (E.contents errors.old) (E.contents errors.new)) }
 {
     let (name, extent) = route;
     match extent.ends {
-        Some(ends) => push_route(job.alloc, job.wanted.session, name, ends, lines),
+        Some(ends) => push_route(job.alloc, job.wanted.session, name, ends, lines)?,
         None => {
             made.has_told = true;
             made.told.tell_unmet(name.as_str(), errors);
-            Ok(())
         }
     }
+    Ok(())
 }
 
 // The lines that define the routes.
 fn route_lines<E: Write>(job: &Job<'_>, made: &mut Made, errors: &mut E) -> Result<Vec<u8>, Stop>
-    ensures lines { IfOk result (λ lines. (table : CommandTree) → AreDefinitions job.now.wanted.session table lines.items) }
-    ensures bytes { OnOk result (made.new.bytes.items ≡ made.old.bytes.items) }
+    ensures lines { IfOk result (λ lines. (events : List Placed) → HaveMet made.old.extents events → DefineRoutes job.now.wanted.session (IsMet events) lines.items) }
     ensures quiet { OnOk result (IsQuiet made.old.has_told made.new.has_told (E.contents errors.old) (E.contents errors.new)) }
 {
     let mut lines = Vec::new(job.alloc);
@@ -54,34 +50,20 @@ fn route_lines<E: Write>(job: &Job<'_>, made: &mut Made, errors: &mut E) -> Resu
     Ok(lines)
 }
 
-// Writes the lines of the records that were held, and says whether something was told.
-fn write_held<W: Write>(
-    job: &Job<'_>,
-    held: &[Held],
-    has_told: bool,
-    output: &mut W,
-) -> Result<bool, Stop>
-    ensures wrote { (raws : List (List ℕ)) → AreTexts job.now.wanted.separator (map (λ held. held.text.items) held.now) raws
-        → MatchResult result (λ told. WroteOf job.now.wanted (table_of job.now.definition) told raws (W.contents output.old) (W.contents output.new))
-        (λ _. WroteFront job.now.wanted (table_of job.now.definition) raws (W.contents output.old) (W.contents output.new)) }
-    ensures told { IfOk result (λ told. told ≡ false → has_told ≡ false) }
+// Writes the lines that were held.
+fn write_held<W: Write>(held: &[Vec<u8>], output: &mut W) -> Result<(), Stop>
+    ensures sent { OnOk result (Appends (W.contents output.old) (W.contents output.new) (flat_map (λ lines. lines.items) held.now)) }
+    ensures fault { OnErr result ((lost : List ℕ) × PutsBut (flat_map (λ lines. lines.items) held.now) lost (W.contents output.old) (W.contents output.new)) }
 {
-    let mut progress = Progress::new(job.alloc, false);
-    progress.made.has_told = has_told;
-    let mut filter = Filter { job, progress };
-    let mut sunk = sink();
-    let mut nowhere = None::<Sink>;
-    for waiting in held {
-        filter.count_on(waiting.before);
-        let text = waiting.text.as_slice();
-        if let Err(stop) = filter.write_text(text, output, &mut sunk, &mut nowhere) {
-            return Err(stop);
+    for lines in held {
+        if let Err(fault) = put_parts(output, &[lines.as_slice()]) {
+            return Err(Stop::Stream(fault));
         }
     }
-    Ok(filter.progress.made.has_told)
+    Ok(())
 }
 
-/// Writes the lines that define the routes, and those of the records that wait for them. Says whether something was told.
+/// Writes the lines that define the routes, and those of the records, which were held for them. Says whether something was told.
 pub fn write_rest<W: Write, E: Write>(
     job: &Job<'_>,
     progress: &mut Progress,
@@ -102,10 +84,8 @@ pub fn write_rest<W: Write, E: Write>(
     if let Err(fault) = put_parts(output, &[routes.as_slice()]) {
         return Err(Stop::Stream(fault));
     }
-    write_held(
-        job,
-        progress.held.as_slice(),
-        progress.made.has_told,
-        output,
-    )
+    match write_held(progress.held.as_slice(), output) {
+        Ok(()) => Ok(progress.made.has_told),
+        Err(stop) => Err(stop),
+    }
 }

@@ -5,7 +5,8 @@ ghost use Rattle.csv.specs.Records.{fields_of};
 ghost use Rattle.rs_syntax.specs.Tree.{CommandTree};
 ghost use Rattle.rs_syntax.specs.Sound.{IsName};
 ghost use Rattle.rs_csv_lines.specs.Inserts.{TellsRoute};
-ghost use Rattle.rs_csv.specs.Output.{GoesOn, IsQuiet, known_of};
+ghost use Rattle.rs_csv.specs.Output.{IsQuiet, MakesLines};
+ghost use Rattle.rs_csv.specs.Routes.{HaveMet};
 ghost use Rattle.rs_csv.specs.Texts.{IsOneText, IsTextAt, KeepsTexts, text_of_name};
 
 use crate::filter::{Planned, Stop};
@@ -54,12 +55,8 @@ impl Made {
         ensures bytes { result.bytes.items ≡ [] }
         ensures told { result.has_told ≡ false }
         ensures number { result.number ≡ 0 }
+        ensures routes { defines_routes ≡ true → HaveMet result.extents [] }
     {
-        let extents = if defines_routes {
-            Some(no_extents(alloc))
-        } else {
-            None
-        };
         Made {
             bytes: Vec::new(alloc),
             line: String::new(alloc),
@@ -68,7 +65,7 @@ impl Made {
             has_told: false,
             told: Told::new(),
             rounded: 0,
-            extents,
+            extents: no_extents(alloc, defines_routes),
             texts: ByName::new(alloc),
         }
     }
@@ -281,7 +278,7 @@ pub fn take_record<E: Write, X: Rejecting>(
     requires session { planned.now.plan.session < 64 }
     requires named { IsName planned.now.plan.table.bytes }
     requires some { 0 < length planned.now.plan.columns.items }
-    ensures made { OnOk result ((table : CommandTree) → GoesOn planned.now.plan.session table planned.now.plan (known_of made.new) made.old.number made.new.number (fields_of csv_record.now ∷ []) made.old.bytes.items made.new.bytes.items) }
+    ensures made { OnOk result ((table : CommandTree) → MakesLines planned.now.plan.session table planned.now.plan made.old made.new (fields_of csv_record.now ∷ [])) }
     ensures quiet { OnOk result (IsQuiet made.old.has_told made.new.has_told (E.contents errors.old) (E.contents errors.new)) }
     ensures texts { OnOk result (KeepsTexts (text_of_name made.old.texts) (text_of_name made.new.texts)) }
 {

@@ -1,19 +1,16 @@
 //! The routes of the input, each from the least to the greatest measure met on it.
 
-ghost use Rattle.std.specs.Prelude.{◌≡◌, ◌<◌, ◌≤◌, OnOk, true};
+ghost use Rattle.std.specs.Prelude.{◌≡◌, ◌<◌, ◌≤◌, [], IfOk, OnOk, string_bytes, true};
 ghost use Rattle.std.specs.FinMap as names;
-ghost use Rattle.rs_syntax.specs.Tree.{define_route};
-ghost use Rattle.rs_syntax.specs.View.{tree_of};
-ghost use Rattle.rs_csv.specs.Routes.{AddsRoute, AreEndsOf, ends_on, reaching};
+ghost use Rattle.rs_measure.specs.Measure.{IsMeasure};
+ghost use Rattle.rs_csv.specs.Routes.{AddsRoute, AreEndsOf, HaveMet, ends_on, reaching, route_line};
 
-use crate::filter::Stop;
 use crate::made::push_line;
 use rs_catalog::ByName;
-use rs_csv_lines::{Event, write_words};
+use rs_csv_lines::Event;
+use rs_csv_lines::put::put_session;
 use rs_measure::{GREATEST_MEASURE, Measure, write_measure};
 use rs_methods::{Name, Position};
-use rs_refusal::Refusal;
-use rs_syntax::Command;
 use std::alloc::{AllocError, Global};
 
 /// The least and the greatest measure met on a route; none where all its positions are of other methods.
@@ -55,9 +52,14 @@ impl Extent {
 /// The extents by the names of the routes.
 pub type Extents = ByName<Extent>;
 
-/// No route.
-pub fn no_extents(alloc: Global) -> Extents {
-    ByName::new(alloc)
+/// No route so far, where they are to be defined.
+pub fn no_extents(alloc: Global, defines_routes: bool) -> Option<Extents>
+    ensures { defines_routes ≡ true → HaveMet result [] }
+{
+    if !defines_routes {
+        return None;
+    }
+    Some(ByName::new(alloc))
 }
 
 /// Meets the ends of an event: those of its route reach to both, and no other's change.
@@ -75,7 +77,8 @@ pub fn meet_event(extents: &mut Extents, event: &Event) -> Result<(), AllocError
 
 // The ends of a route on which these are the least and the greatest measure: a thousandth apart where they are one.
 fn route_ends(least: Measure, greatest: Measure) -> (Measure, Measure)
-    ensures { least ≤ greatest → AreEndsOf least greatest result.0 result.1 }
+    ensures between { least ≤ greatest → AreEndsOf least greatest result.0 result.1 }
+    ensures measures { IsMeasure result.0 × IsMeasure result.1 }
 {
     let (low, high) = (least.thousandths(), greatest.thousandths());
     if low < high {
@@ -87,58 +90,40 @@ fn route_ends(least: Measure, greatest: Measure) -> (Measure, Measure)
     (Measure::from_thousandths(high - 1), greatest)
 }
 
-// The words that define a route.
-fn route_words(
+// The line that defines a route.
+fn line_of_route(
     alloc: Global,
+    session: u8,
     name: Name,
     start: Measure,
     finish: Measure,
-) -> Result<String, AllocError> {
-    let mut words = String::from_str(alloc, "DEFINE ROUTE ")?;
-    words.push_str(name.as_str())?;
-    words.push_str(" FROM ")?;
-    words.push_str(write_measure(start).as_str())?;
-    words.push_str(" TO ")?;
-    words.push_str(write_measure(finish).as_str())?;
-    Ok(words)
-}
-
-// Whether a command defines this route.
-fn is_route(asked: &Command, name: Name, start: Measure, finish: Measure) -> bool
-    ensures { result ≡ true → tree_of asked.now ≡ define_route name.bytes start finish }
+) -> Result<String, AllocError>
+    requires { session < 64 }
+    ensures { IfOk result (λ line. string_bytes line ≡ route_line session name.bytes start finish) }
 {
-    match asked {
-        Command::DefineRoute {
-            name: defined,
-            start: first,
-            finish: last,
-        } => *defined == name && *first == start && *last == finish,
-        _ => false,
-    }
+    let mut line = String::new(alloc);
+    put_session(&mut line, session)?;
+    line.push_str(" DEFINE ROUTE ")?;
+    line.push_str(name.as_str())?;
+    line.push_str(" FROM ")?;
+    line.push_str(write_measure(start).as_str())?;
+    line.push_str(" TO ")?;
+    line.push_str(write_measure(finish).as_str())?;
+    Ok(line)
 }
 
-/// Adds the line that defines a route on which these are the least and the greatest measure.
+/// Adds the line that defines a route on which these are the least and the greatest measure. Refused only for want of memory.
 pub fn push_route(
     alloc: Global,
     session: u8,
     name: Name,
     ends: (Measure, Measure),
     lines: &mut Vec<u8>,
-) -> Result<(), Stop>
+) -> Result<(), AllocError>
     requires { session < 64 }
     ensures { OnOk result (AddsRoute session name.bytes ends lines.old.items lines.new.items) }
 {
     let (start, finish) = route_ends(ends.0, ends.1);
-    let words = route_words(alloc, name, start, finish)?;
-    let mut line = String::new(alloc);
-    match write_words(alloc, session, words.as_str(), &mut line) {
-        Ok(asked) => {
-            if is_route(&asked, name, start, finish) {
-                push_line(lines, line.as_str())?;
-            }
-            Ok(())
-        }
-        Err(Refusal::OutOfMemory) => Err(Stop::OutOfMemory),
-        Err(_) => Ok(()),
-    }
+    let line = line_of_route(alloc, session, name, start, finish)?;
+    push_line(lines, line.as_str())
 }

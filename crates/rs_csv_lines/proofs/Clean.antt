@@ -91,7 +91,7 @@ name_clean (letter ∷ bytes) is = neither _ _ (letter_clean letter is.0) (word_
 digit_clean : (n : ℕ) → n < 64 → is_control (48 + n) ≡ false
 digit_clean n few = grind (arith, nat_tests)
 
-session_clean : (n : ℕ) → n < 64 → IsClean (session_text n)
+pub session_clean : (n : ℕ) → n < 64 → IsClean (session_text n)
 session_clean n few =
     let one : n / 10 < 64 = omega arith in
     let other : n % 10 < 64 = omega arith in
@@ -120,7 +120,7 @@ digits_clean (d ∷ ds) are = neither _ _ (one d are.0 are.1) (digits_clean ds a
     one : (d : ℕ) → 48 ≤ d → d ≤ 57 → is_control d ≡ false
     one d low high = grind (arith, nat_tests)
 
-measure_clean : (n : ℕ) → n ≤ 999999999 → IsClean (measure_text n)
+pub measure_clean : (n : ℕ) → n ≤ 999999999 → IsClean (measure_text n)
 measure_clean n few =
     clean_append (decimal (n / 1000) ++ codes ".") (three_digits (n % 1000)) (clean_append (decimal (n / 1000)) (codes ".") (digits_clean (decimal (n / 1000)) (digits_decimal numerals (n / 1000) (omega arith))) refl)
     (digits_clean (three_digits (n % 1000)) (three_are (n % 1000) (omega arith)))

@@ -1,10 +1,15 @@
 -- The line that is put together is a session's, and says the INSERT of its record.
 use Rattle.std.proofs.Common.{◌≡◌, ◌∙◌, ℕ, ◌<◌, ◌≤◌, Bool, true, false, inl, inr, List, [], ◌∷◌, ◌++◌, length, Some, Ok, refl, sym, ap, subst, append_assoc, le-leb, arith}
 use Rattle.std.specs.Prelude.{codes, IsUtf8}
+use Rattle.std.specs.Char.{is_ascii_alphabetic}
+use Rattle.std.specs.List.{list_all}
+use Rattle.std.proofs.lemmas.Bool.{and_parts, false≢true}
 use Rattle.rs_grammar.specs.declared.kind.TokenKind.TheVariants as kinds
 use Rattle.rs_grammar.specs.declared.kind.TheConstants.{NAME_BYTES}
+use Rattle.rs_grammar.specs.Words.{is_word_byte}
 use Rattle.rs_lexer.specs.Lexis.{token_kind, word_kind}
 use Rattle.rs_lexer.proofs.CutLaws.{cut_inside}
+use Rattle.rs_lexer.proofs.TokenLaws.{is_word, tells}
 use Rattle.rs_methods.specs.Position.{PositionExpression}
 use Rattle.rs_methods.specs.PositionText.{IsWord}
 use Rattle.rs_value.specs.declared.column.ColumnType.{ColumnType}
@@ -52,6 +57,17 @@ route_kind : (makes_names : Bool) (text name : List ℕ) → SaysRoute makes_nam
 route_kind false text name says = name_kind text name says
 route_kind true text name says = kind_of_name name says.is_name
 
+-- and it is a name
+name_of_kind : (name : List ℕ) → token_kind name ≡ Some kinds.Name → IsName name
+name_of_kind name is = let told = tells name kinds.Name is in record { word = word_of name told.word; short = told.short; not_reserved = told.free }
+  where
+    word_of : (bytes : List ℕ) → is_word bytes ≡ true → IsWord bytes
+    word_of [] is = absurd (false≢true is)
+    word_of (letter ∷ bytes) is = and_parts (is_ascii_alphabetic letter) (list_all is_word_byte bytes) is
+
+pub route_is_name : (makes_names : Bool) (text name : List ℕ) → SaysRoute makes_names text name → IsName name
+route_is_name makes_names text name says = name_of_kind name (route_kind makes_names text name says)
+
 route_is_clean : (makes_names : Bool) (text name : List ℕ) → is_text text ≡ true → SaysRoute makes_names text name → IsClean name
 route_is_clean false text name plain says = route_clean text name plain says
 route_is_clean true text name plain says = name_clean name says.is_name.word
@@ -97,9 +113,10 @@ module _ (number_of : ℕ) (fields : List (List ℕ)) where
   row_told [] row bytes puts = elim puts [ ]
   row_told (column ∷ columns) [] bytes puts = elim puts [ ]
 
--- the INSERT of a record, of this route, and the line that asks it
-abbrev pub AsksInsert : Plan → ℕ → List (List ℕ) → List ℕ → List ℕ → Type 0
-AsksInsert plan number_of fields route line = (tree : CommandTree) × (inserts : IsInsertOf plan number_of fields tree) × (inserts.route ≡ route) × Asks line (command plan.session tree)
+-- the INSERT of a record, of this route and place, and the line that asks it
+abbrev pub AsksInsert : Plan → ℕ → List (List ℕ) → List ℕ → EventLocationTree → List ℕ → Type 0
+AsksInsert plan number_of fields route location line =
+    (tree : CommandTree) × (inserts : IsInsertOf plan number_of fields tree) × (inserts.route ≡ route) × Asks line (command plan.session tree) × (inserts.place ≡ location)
 
 ends_plain : (session : ℕ) (table route place_bytes values : List ℕ) → without_return (insert_line session table route place_bytes values) ≡ insert_line session table route place_bytes values
 ends_plain session table route place_bytes values =
@@ -116,7 +133,7 @@ ends_plain session table route place_bytes values =
 pub line_asks : (plan : Plan) (number_of : ℕ) (fields : List (List ℕ)) (line route place_bytes values : List ℕ) (location : EventLocationTree) (row : Row)
     → plan.session < 64 → IsName plan.table.bytes → IsUtf8 line → length line ≤ LINE_BYTES
     → TellsRoute plan.makes_names fields plan.route route → PutsPlace plan.measures fields plan.place location place_bytes → PutsRow number_of fields plan.columns.items row values
-    → line ≡ insert_line plan.session plan.table.bytes route place_bytes values → AsksInsert plan number_of fields route line
+    → line ≡ insert_line plan.session plan.table.bytes route place_bytes values → AsksInsert plan number_of fields route location line
 line_asks plan number_of fields line route place_bytes values location row few named utf8 short puts_route puts_place puts_row is =
     let table = plan.table.bytes in
     let whole = insert_line plan.session table route place_bytes values in
@@ -132,4 +149,5 @@ line_asks plan number_of fields line route place_bytes values location row few n
       subst (λ l. Asks l (command plan.session tree)) (sym is)
           (session_asks whole plan.session (length (session_text plan.session)) tree (subst (λ l. length l ≤ LINE_BYTES) is short) text (ends_plain plan.session table route place_bytes values)
           (session_begins plan.session _ few) reads),
+      refl,
     )

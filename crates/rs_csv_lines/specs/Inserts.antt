@@ -1,10 +1,11 @@
 -- The INSERT of a record, and the line that is written for it.
-use Rattle.std.specs.Prelude.{◌≡◌, ℕ, Bool, IsTrue, List, [], ◌∷◌, ◌++◌, Some, codes, decimal}
+use Rattle.std.specs.Prelude.{◌≡◌, ◌⊎◌, ℕ, Bool, IsTrue, List, [], ◌∷◌, ◌++◌, Some, codes, decimal}
 use Rattle.csv.specs.Records.{field_at}
-use Rattle.rs_methods.specs.Position.{PositionExpression}
+use Rattle.rs_methods.specs.Position.{PositionExpression, expression_of}
 use Rattle.rs_value.specs.Row.{Row}
 use Rattle.rs_value.specs.Values.{is_text}
 use Rattle.rs_syntax.specs.Tree.{EventLocationTree, along, at_point, CommandTree, insert}
+use Rattle.rs_csv_lines.specs.declared.insert.Ends.{Ends}
 use Rattle.rs_csv_lines.specs.declared.plan.Column.{Column}
 use Rattle.rs_csv_lines.specs.declared.plan.Measures.{Measures}
 use Rattle.rs_csv_lines.specs.declared.plan.Place.{Place}
@@ -59,6 +60,11 @@ pub record IsInsertOf (plan : Plan) (number : ℕ) (fields : List (List ℕ)) (t
   pub place_told : TellsPlace plan.measures fields plan.place place
   pub row_told : TellsRow number fields plan.columns.items row
   pub is : tree ≡ insert plan.table.bytes route place row
+
+-- the event is where it begins and ends: from the one position to the other, or at the one that both are
+abbrev pub IsAt : EventLocationTree → Ends → Type 0
+IsAt location ends = (location ≡ along (expression_of ends.first) (expression_of ends.last))
+    ⊎ ((location ≡ at_point (expression_of ends.first)) × (ends.last ≡ ends.first))
 
 -- ---- the line
 

@@ -8,7 +8,7 @@ ghost use Rattle.rs_machine.specs.Request.{Asks, command};
 ghost use Rattle.rs_syntax.specs.Sound.{IsName};
 ghost use Rattle.rs_syntax.specs.Tree.{CommandTree, EventLocationTree};
 ghost use Rattle.rs_value.specs.Row.{Row};
-ghost use Rattle.rs_csv_lines.specs.Inserts.{IsInsertOf, PutsPlace, PutsFurther, PutsRow};
+ghost use Rattle.rs_csv_lines.specs.Inserts.{IsAt, IsInsertOf, PutsPlace, PutsFurther, PutsRow};
 
 use crate::plan::{Column, Measures, Misfit, Place, Plan};
 use crate::put::{put_position, put_route, put_session, put_value};
@@ -45,8 +45,8 @@ fn put_place(
     measures: Measures,
     line: &mut String,
 ) -> Result<Ends, Misfit>
-    ensures { OnOk result ((location : EventLocationTree) × (bytes : List ℕ) × PutsPlace measures (fields_of csv_record.now) place location bytes
-        × (string_bytes line.new ≡ string_bytes line.old ++ bytes)) }
+    ensures { IfOk result (λ ends. (location : EventLocationTree) × (bytes : List ℕ) × PutsPlace measures (fields_of csv_record.now) place location bytes
+        × (string_bytes line.new ≡ string_bytes line.old ++ bytes) × IsAt location ends) }
 {
     match place {
         Place::Along { from, to } => {
@@ -130,7 +130,7 @@ pub fn write_insert(
     requires named { IsName plan.now.table.bytes }
     requires some { 0 < length plan.now.columns.items }
     ensures { IfOk result (λ event. (tree : CommandTree) × (inserts : IsInsertOf plan.now number (fields_of csv_record.now) tree)
-        × (inserts.route ≡ event.route.bytes) × Asks (string_bytes line.new) (command plan.now.session tree)) }
+        × (inserts.route ≡ event.route.bytes) × Asks (string_bytes line.new) (command plan.now.session tree) × IsAt inserts.place event.ends) }
 {
     line.clear();
     put_session(line, plan.session)?;

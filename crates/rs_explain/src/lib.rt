@@ -254,7 +254,7 @@ pub fn cure_by_csv(refusal: &Refusal) -> Option<&'static str> {
             Some("--session 7 begins each line with 7; without it they begin with 0.")
         }
         Refusal::UnknownCharacter => Some(
-            "without an option it puts texts into quotes, and doubles those within; --names makes names of routes with such a character.",
+            "without an option it puts texts into quotes, doubles those within, and takes .5 and 1.; --separator ';' parts fields at ;, and --names makes names of routes with such a character.",
         ),
         Refusal::Syntax(_) => Some(
             "--names makes names of routes, and of columns of the header, that are none, as I_95 of I-95; --stations 100 reads 12+50.5 as 1250.5.",

@@ -18,7 +18,7 @@ returns-in-Ok-true-clause-input g c =
     let table = table_of c.args.self.now.job.definition in
     let output = g.W.Write.contents c.args.output.now in
     let same : c.job.inside.wanted.separator ≡ c.args.self.now.job.wanted.separator = rw (← c.self.view_is, ← c.job.view_is) refl in
-    let head = c.in-Ok-true.ensures.far output (far_start wanted table c.in-Ok.batch c.args.self.now.progress output (subst (λ separator. IsBatchOf separator c.in-Ok.batch [] []) same c.in-Ok.ensures) c.requires.no_plan c.requires.no_line c.requires.no_number c.requires.no_text) in
+    let head = c.in-Ok-true.ensures.far output (far_start wanted table c.in-Ok.batch c.args.self.now.progress output (subst (λ separator. IsBatchOf separator c.in-Ok.batch [] []) same c.in-Ok.ensures) c.requires.no_plan c.requires.no_line c.requires.no_number c.requires.none_held c.requires.none_met) in
     let rest = subst (λ (job : JobParts). TakesRest job.wanted (table_of job.definition) c.take_end.result c.take_head.new.batch c.take_head.new.self.progress c.take_end.new.self.progress (g.W.Write.contents c.take_head.new.output) (g.W.Write.contents c.take_end.new.output)) c.in-Ok-true.ensures.job c.take_end.ensures.far in
     (head.0, head.1, took_last wanted table output c.take_end.result c.take_end.new.self.progress (strip_bom head.0) _ _ (head.2.1 c.in-Ok-true.field-0-test) (rest output (strip_bom head.0) head.2.0))
 
@@ -28,7 +28,7 @@ returns-in-Err-clause-input g c =
     let table = table_of c.args.self.now.job.definition in
     let output = g.W.Write.contents c.args.output.now in
     let same : c.job.inside.wanted.separator ≡ c.args.self.now.job.wanted.separator = rw (← c.self.view_is, ← c.job.view_is) refl in
-    let head = c.in-Err.ensures.far output (far_start wanted table c.in-Ok.batch c.args.self.now.progress output (subst (λ separator. IsBatchOf separator c.in-Ok.batch [] []) same c.in-Ok.ensures) c.requires.no_plan c.requires.no_line c.requires.no_number c.requires.no_text) in
+    let head = c.in-Err.ensures.far output (far_start wanted table c.in-Ok.batch c.args.self.now.progress output (subst (λ separator. IsBatchOf separator c.in-Ok.batch [] []) same c.in-Ok.ensures) c.requires.no_plan c.requires.no_line c.requires.no_number c.requires.none_held c.requires.none_met) in
     (head.0, head.1, wrote_early wanted table output (strip_bom head.0) _ _ head.2)
 
 pub pieces-init : goal.pieces-init
@@ -37,7 +37,7 @@ pieces-init g c =
     let table = table_of c.args.self.now.job.definition in
     let output = g.W.Write.contents c.args.output.now in
     let same : c.job.inside.wanted.separator ≡ c.args.self.now.job.wanted.separator = rw (← c.self.view_is, ← c.job.view_is) refl in
-    let head = c.in-Ok-false.ensures.far output (far_start wanted table c.in-Ok.batch c.args.self.now.progress output (subst (λ separator. IsBatchOf separator c.in-Ok.batch [] []) same c.in-Ok.ensures) c.requires.no_plan c.requires.no_line c.requires.no_number c.requires.no_text) in
+    let head = c.in-Ok-false.ensures.far output (far_start wanted table c.in-Ok.batch c.args.self.now.progress output (subst (λ separator. IsBatchOf separator c.in-Ok.batch [] []) same c.in-Ok.ensures) c.requires.no_plan c.requires.no_line c.requires.no_number c.requires.none_held c.requires.none_met) in
     let three : length head.0 ≡ 3 = head.2.2 c.in-Ok-false.field-0-test in
     record { job = c.in-Ok-false.ensures.job; far = (head.0, head.1, omega (arith, three), head.2.0); quiet = c.in-Ok-false.ensures.quiet }
 

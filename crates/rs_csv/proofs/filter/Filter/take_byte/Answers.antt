@@ -42,4 +42,4 @@ returns-in-EndedLong-clause-far g c =
     rw (← c.self.view_is)
     (λ before input far.
     far_left_out filter.job.now.wanted (table_of filter.job.now.definition) before left.result c.args.batch.now c.take.new.self filter.progress left.new.progress input byte _
-    (λ whole begun is. subst (λ kind. Takes filter.job.now.wanted.separator kind c.take.new.self whole begun byte) c.in-EndedLong.is (c.in-Ok.ensures filter.job.now.wanted.separator whole begun is)) left.ensures.plan left.ensures.bytes left.ensures.told left.ensures.number left.ensures.plans left.ensures.texts left.ensures.held far)
+    (λ whole begun is. subst (λ kind. Takes filter.job.now.wanted.separator kind c.take.new.self whole begun byte) c.in-EndedLong.is (c.in-Ok.ensures filter.job.now.wanted.separator whole begun is)) left.ensures.plan left.ensures.bytes left.ensures.told left.ensures.number left.ensures.plans left.ensures.texts left.ensures.extents left.ensures.held far)

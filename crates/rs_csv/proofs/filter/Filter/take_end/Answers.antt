@@ -20,7 +20,7 @@ returns-clause-far g c = λ before input far.
       | then-is_within_long+in_default w ↦
           let left = w.leave_out_long in
           subst (λ (f : FilterParts). SoFar job.wanted table before batch f.progress input (g.W.Write.contents c.args.output.now) × (batch.is_long ≡ true → f.progress.made.has_told ≡ true) × (f.job ≡ job)) (sym w.self-is) (
-            far_told job.wanted table before batch c.self.inside.progress left.new.progress input _ left.ensures.plan left.ensures.bytes left.ensures.told w.in_default.ensures.number w.in_default.ensures.plans left.ensures.texts left.ensures.held
+            far_told job.wanted table before batch c.self.inside.progress left.new.progress input _ left.ensures.plan left.ensures.bytes left.ensures.told w.in_default.ensures.number w.in_default.ensures.plans left.ensures.texts left.ensures.extents left.ensures.held
                 (subst (λ (f : FilterParts). SoFar job.wanted table before batch f.progress input (g.W.Write.contents c.args.output.now)) (sym c.self.view_is) far),
             λ _. left.ensures.told,
             ap (λ (f : FilterParts). f.job) c.self.view_is,

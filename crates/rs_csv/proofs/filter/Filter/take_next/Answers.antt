@@ -1,6 +1,6 @@
-use Rattle.std.proofs.Common.{◌∙◌, ap, subst}
+use Rattle.std.proofs.Common.{◌∙◌, ◌++◌, ap, subst}
 use Rattle.csv.specs.Records.{fields_of}
-use Rattle.rs_csv.specs.Output.{IsMade, IsPlanOf, known_of, table_of}
+use Rattle.rs_csv.specs.Output.{IsMade, IsPlanOf, held_lines, known_of, table_of}
 use Rattle.rs_csv.proofs.Outputs.{made_header, record_makes}
 use Rattle.rs_csv.proofs.filter.Filter.take_next.Goals as goal
 
@@ -22,6 +22,7 @@ returns-in_ok-planned-in-None-clause-made g c =
     let copy = c.in_ok-header-in-None.ensures.cases in
     rw (← c.self.view_is)
     (λ records sent made.
-    made_header wanted table (known_of old) (known_of now) old.number now.number planned (fields_of c.args.csv_record.now) records sent old.bytes.items now.bytes.items
+    made_header wanted table old now planned (fields_of c.args.csv_record.now) records (sent ++ held_lines filter.progress)
     (ap fields_of (c.in_ok-planned-in-None.ensures.header ∙ copy)) (subst (λ r. IsPlanOf wanted table (fields_of r) planned.plan) copy c.in_ok-planned-in-None.ensures.plan)
-    c.in_ok-planned-in-None.ensures.number (c.in_ok-planned-in-None.ensures.made planned.plan (known_of now) 0) (subst (λ p. IsMade wanted table (known_of old) old.number p records sent old.bytes.items) c.in-None.is made))
+    c.in_ok-planned-in-None.ensures.number c.in_ok-planned-in-None.ensures.extents (c.in_ok-planned-in-None.ensures.made planned.plan (known_of now) 0)
+    (subst (λ p. IsMade wanted table (known_of old) old.number old.extents p records ((sent ++ held_lines filter.progress) ++ old.bytes.items)) c.in-None.is made))

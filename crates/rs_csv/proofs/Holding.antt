@@ -1,0 +1,30 @@
+-- Texts that are put one after another.
+use Rattle.std.proofs.Common.{◌≡◌, ◌∙◌, ℕ, ◌+◌, ◌<◌, List, [], ◌∷◌, ◌++◌, length, get_or, take, drop, Option, sym, ap, append_assoc, append-nil, take-append-drop}
+use Rattle.std.specs.Prelude.{flat_map}
+use Rattle.std.specs.Io.KnownBytes.{Appends}
+use Rattle.std.proofs.KnownBytes.{Appends-trans}
+use Rattle.std.proofs.lemmas.Grind.{flat_map-append}
+use Rattle.std.proofs.lemmas.List.{drop_more, take_more}
+use Rattle.rs_protocol.specs.Puts.{PutsBut}
+
+-- a text more at the end
+pub flat_push : {X : Type 0} (text : X → List ℕ) (list : List X) (x : X) → flat_map text (list ++ x ∷ []) ≡ flat_map text list ++ text x
+flat_push text list x = flat_map-append text list (x ∷ []) ∙ ap (λ bs. flat_map text list ++ bs) (append-nil (text x))
+
+module _ {X : Type 0} (text : X → List ℕ) (list : List X) (i : ℕ) (d : X) (within : i < length list) where
+  -- the texts before a place, and the one at it
+  pub flat_next : flat_map text (take (i + 1) list) ≡ flat_map text (take i list) ++ text (get_or list i d)
+  flat_next = ap (flat_map text) (take_more list i d within) ∙ flat_push text (take i list) (get_or list i d)
+
+  -- those before a place were put, and the one at it was not put whole
+  pub flat_stops : (lost : List ℕ) (a b c : Option (List ℕ)) → Appends a b (flat_map text (take i list)) → PutsBut (text (get_or list i d)) lost b c → PutsBut (flat_map text list) (lost ++ flat_map text (drop (i + 1) list)) a c
+  flat_stops lost a b c before puts =
+      let first : List ℕ = flat_map text (take i list) in
+      let last : List ℕ = flat_map text (drop (i + 1) list) in
+      record {
+        front = first ++ puts.front;
+        whole =
+            ap (flat_map text) (sym (take-append-drop i list) ∙ ap (λ l. take i list ++ l) (drop_more list i d within)) ∙ flat_map-append text (take i list) (get_or list i d ∷ drop (i + 1) list)
+            ∙ ap (λ t. first ++ (t ++ last)) puts.whole ∙ ap (λ t. first ++ t) (append_assoc puts.front lost last) ∙ sym (append_assoc first puts.front (lost ++ last));
+        put = Appends-trans a b c first puts.front before puts.put;
+      }
