@@ -742,7 +742,7 @@ def check_options(explained):
     parts = dict(re.findall(r"^([0-9]+) (.*(?:\n    .*)+)", explained, re.MULTILINE))
     led = {number: re.findall(r"^    By csv:  .*?(--[a-z0-9-]+)", part, re.MULTILINE) for number, part in parts.items()}
     wanted = {
-        "1": "--latin1", "3": "--session", "10": "--names", "11": "--names", "12": "--round", "20": "--routes", "22": "--column", "24": "--no-define", "30": "--routes", "31": "--at",
+        "1": "--latin1", "3": "--session", "10": "--separator", "11": "--names", "12": "--round", "20": "--routes", "22": "--column", "24": "--no-define", "30": "--routes", "31": "--at",
         "33": "--scale",
     }
     expect("the options", {number: found[0] for number, found in led.items() if found}, wanted)
