@@ -1,5 +1,5 @@
 -- A step from one column to the next, of the tests of a row and of the row itself; and what a row that fits is.
-use Rattle.std.proofs.Common.{◌≡◌, ℕ, ◌+◌, ◌<◌, min, List, [], ◌∷◌, Bool, true, false, not, ◌==◌, ◌&&◌, cond, Option, Some, None, length, get_or, drop, refl, sym, ap, ◌∙◌, subst, eqb-true, arith}
+use Rattle.std.proofs.Common.{◌≡◌, ℕ, ◌+◌, ◌<◌, min, List, [], ◌∷◌, Bool, true, false, not, ◌==◌, ◌&&◌, cond, Some, None, length, get_or, drop, refl, sym, ap, ◌∙◌, subst, eqb-true, arith}
 use Rattle.std.proofs.lemmas.Bool.{leb-true, and_parts}
 use Rattle.std.proofs.lemmas.List.{drop_more}
 use Rattle.std.specs.List.{AllByRecursion}

@@ -1,5 +1,5 @@
 -- The order of the bytes that keep rows is the order of rows.
-use Rattle.std.proofs.Common.{◌≡◌, ℕ, ◌<◌, ◌≤◌, ℤ, nat_abs, ◌^◌, List, [], ◌∷◌, ◌++◌, length, Bool, true, false, ◌↔◌, IsTrue, refl, sym, ap, ◌∙◌, subst, arith}
+use Rattle.std.proofs.Common.{◌≡◌, ℕ, ◌≤◌, ℤ, nat_abs, ◌^◌, List, [], ◌∷◌, ◌++◌, Bool, true, false, ◌↔◌, IsTrue, refl, sym, ap, ◌∙◌}
 use Rattle.std.specs.declared.cmp.Ordering.{Ordering}
 use Rattle.std.specs.declared.cmp.Ordering.TheVariants.{Less, Equal, Greater}
 use Rattle.std.specs.Ordering.{nat_cmp, int_cmp, ordering_then, is_eq}
@@ -8,7 +8,7 @@ use Rattle.std.specs.List.{AllByRecursion, list_any}
 use Rattle.std.specs.Int.{w64, to_be_bytes}
 use Rattle.std.proofs.lemmas.Cmp.{tied_itself}
 use Rattle.rs_value.specs.Row.{Datum, null, number, text, Row, datum_cmp, row_cmp}
-use Rattle.rs_value.specs.Values.{IsValue, is_control}
+use Rattle.rs_value.specs.Values.{is_control}
 use Rattle.rs_value.specs.Kept.{above_least, kept_datum, kept_bytes, MayBeKept, Keeps}
 use Rattle.rs_value.proofs.EncodingOrder.{above_zeros, false_parts, not_control, less, greater, above_cmp, is_above, below_all, eight_bytes_cmp, beside_cmp, then_assoc, then_equal}
 use Rattle.rs_value.specs.RowOrder.{row_antisymmetric, row_total}

@@ -1,14 +1,13 @@
 -- What is read at the front of bytes that keep a row.
-use Rattle.std.proofs.Common.{◌≡◌, ◌≢◌, ℕ, zero, suc, ◌+◌, ◌^◌, ◌<◌, ◌≤◌, min, ℤ, pos, ◌+ℤ◌, ◌-ℤ◌, List, [], ◌∷◌, ◌++◌, length, take, drop, get_or, true, false, ◌==◌, refl, sym, ap, ◌∙◌, subst, arith, length-append}
+use Rattle.std.proofs.Common.{◌≡◌, ◌≢◌, ℕ, ◌+◌, ◌^◌, ◌<◌, ◌≤◌, min, ℤ, pos, ◌+ℤ◌, ◌-ℤ◌, List, [], ◌∷◌, ◌++◌, length, take, drop, get_or, sym, ap, ◌∙◌, subst, arith, length-append}
 use Rattle.std.proofs.Math.IntN.{+ℤ-neg_ℤ_cancel}
-use Rattle.std.specs.List.{AllByRecursion, position_or_len}
+use Rattle.std.specs.List.{position_or_len}
 use Rattle.std.specs.Int.{w64, to_be_bytes, from_be_bytes}
-use Rattle.std.proofs.lemmas.Bool.{ne_eqb}
 use Rattle.std.proofs.lemmas.List.{drop-drop}
 use Rattle.std.proofs.lemmas.Nat.{from_be_bytes-to_be_bytes_8}
 use Rattle.rs_value.specs.Row.{Datum, null, number, text, Row}
-use Rattle.rs_value.specs.Kept.{kept_datum, kept_bytes, MayBeKept, Keeps, is_zero, first_width, first_datum}
-use Rattle.rs_value.proofs.KeptRows.{front_keeps, rest_keeps, first_fits, first_is, keeps_is, keeps_none, datum_some}
+use Rattle.rs_value.specs.Kept.{kept_datum, kept_bytes, Keeps, is_zero, first_width, first_datum}
+use Rattle.rs_value.proofs.KeptRows.{front_keeps, rest_keeps, first_fits, first_is, datum_some}
 
 pub front_cut : (bytes front : List ℕ) (place : ℕ) (row : Row) → place ≡ min (first_width bytes) (length bytes) → front ≡ take place bytes → Keeps bytes row → Keeps front (take 1 row)
 front_cut bytes front place row at is h =

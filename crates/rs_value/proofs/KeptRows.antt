@@ -1,5 +1,5 @@
 -- Bytes that keep rows: made of one value after another, read from the front.
-use Rattle.std.proofs.Common.{◌≡◌, ℕ, zero, suc, ◌+◌, ◌-◌, ◌^◌, ◌<◌, ◌≤◌, ℤ, pos, negsuc, ◌+ℤ◌, ◌-ℤ◌, nat_abs, List, [], ◌∷◌, ◌++◌, length, take, drop, get_or, replicate, map, Bool, true, false, ◌==◌, IsTrue, refl, sym, ap, ◌∙◌, subst, arith, append_assoc, append-nil, length-append}
+use Rattle.std.proofs.Common.{◌≡◌, ℕ, zero, suc, ◌+◌, ◌^◌, ◌<◌, ◌≤◌, ℤ, pos, negsuc, ◌+ℤ◌, ◌-ℤ◌, nat_abs, List, [], ◌∷◌, ◌++◌, length, take, drop, replicate, false, ◌==◌, refl, sym, ap, ◌∙◌, subst, arith, append_assoc, append-nil, length-append}
 use Rattle.std.proofs.Math.IntN.{+ℤ-neg_ℤ_cancel}
 use Rattle.std.specs.List.{AllByRecursion, position_or_len, list_any}
 use Rattle.std.specs.Int.{w64, to_be_bytes, from_be_bytes}
@@ -7,9 +7,9 @@ use Rattle.std.proofs.lemmas.Bool.{le-ltb, ne_eqb}
 use Rattle.std.proofs.lemmas.List.{take_at, drop_at}
 use Rattle.std.proofs.lemmas.Nat.{from_be_bytes-to_be_bytes_8}
 use Rattle.rs_value.specs.Row.{Datum, null, number, text, Row}
-use Rattle.rs_value.specs.Values.{IsValue, is_control, is_text}
-use Rattle.rs_value.specs.Kept.{above_least, kept_datum, kept_bytes, IsShort, MayBeKept, Keeps, is_zero, first_width, first_datum, row_within, row_in}
-use Rattle.rs_value.proofs.EncodingOrder.{IsAbove, is_above, below_all, false_parts, above_zeros, not_control}
+use Rattle.rs_value.specs.Values.{IsValue, is_control}
+use Rattle.rs_value.specs.Kept.{above_least, kept_datum, kept_bytes, MayBeKept, Keeps, is_zero, first_width, first_datum, row_within, row_in}
+use Rattle.rs_value.proofs.EncodingOrder.{is_above, below_all, false_parts, above_zeros, not_control}
 
 pub all_append : (P : Datum → Type 0) (x y : Row) → AllByRecursion P x → AllByRecursion P y → AllByRecursion P (x ++ y)
 all_append P [] y h g = g

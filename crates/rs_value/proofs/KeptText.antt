@@ -1,7 +1,6 @@
 -- The text of values that are kept, one after another.
-use Rattle.std.proofs.Common.{◌≡◌, ℕ, suc, ◌<◌, List, [], ◌∷◌, ◌++◌, length, drop, get_or, ◌==◌, false, refl, sym, ap, ◌∙◌, arith, append_assoc, append-nil, length-append}
-use Rattle.rs_value.specs.Row.{Datum, null, Row}
-use Rattle.rs_value.specs.Values.{IsValue}
+use Rattle.std.proofs.Common.{◌≡◌, ℕ, List, [], ◌∷◌, ◌++◌, length, drop, get_or, ◌==◌, false, sym, ap, ◌∙◌, arith, append_assoc, append-nil, length-append}
+use Rattle.rs_value.specs.Row.{null, Row}
 use Rattle.rs_value.specs.Text.{datum_text, values_text}
 use Rattle.rs_value.specs.Kept.{kept_datum, kept_bytes, Keeps}
 use Rattle.rs_value.proofs.KeptRows.{datum_some}

@@ -6,7 +6,7 @@ use Rattle.std.specs.Cmp.{IsTotalOrder}
 use Rattle.std.specs.FinMap.{IsAntisymmetric, nat_cmp-IsAntisymmetric, int_cmp-IsAntisymmetric, slice_cmp-IsAntisymmetric}
 use Rattle.std.specs.Ordering.{ordering_then}
 use Rattle.std.proofs.lemmas.Cmp.{nat_cmp_total, int_cmp_total, nat_list_cmp_total, on_total, then_total, lists_total}
-use Rattle.rs_value.specs.Row.{Datum, null, number, text, Row, rank, number_in, text_in, datum_cmp, row_cmp}
+use Rattle.rs_value.specs.Row.{Datum, null, number, text, rank, number_in, text_in, datum_cmp, row_cmp}
 
 pub datum_total : IsTotalOrder datum_cmp
 unfolding datum_cmp

@@ -19,6 +19,7 @@ use crate::kept_encoding::{kept_of, push_encoded};
 use crate::kept_making::{bytes_of_literals, bytes_of_nulls, columns_in, columns_of, joined};
 use crate::kept_text::push_each;
 use crate::lent::LentValue;
+use crate::row_bytes::RowBytes;
 use crate::value::Literal;
 use std::alloc::{AllocError, Global};
 use std::cmp::Ordering;
@@ -27,7 +28,7 @@ use std::marker::Model;
 /// A row that is kept: one value for each column, from the left.
 #[derive(Debug, Drop)]
 pub struct KeptRow {
-    bytes: Vec<u8>,
+    bytes: RowBytes,
 }
 
 impl Model for KeptRow {
@@ -63,7 +64,7 @@ impl KeptRow {
     pub fn copied(&self, alloc: Global) -> Result<Self, AllocError>
         ensures { IfOk result (λ kept. kept ≡ self.now) }
     {
-        let bytes = Vec::from_slice(alloc, &self.bytes)?;
+        let bytes = RowBytes::from_slice(alloc, self.bytes.as_slice())?;
         Ok(KeptRow { bytes })
     }
 
@@ -71,7 +72,7 @@ impl KeptRow {
     pub fn beside(&self, alloc: Global, other: &KeptRow) -> Result<Self, AllocError>
         ensures { IfOk result (λ kept. kept ≡ self.now ++ other.now) }
     {
-        let bytes = joined(alloc, &self.bytes, &other.bytes)?;
+        let bytes = joined(alloc, self.bytes.as_slice(), other.bytes.as_slice())?;
         Ok(KeptRow { bytes })
     }
 
@@ -80,7 +81,7 @@ impl KeptRow {
     pub fn chosen(&self, alloc: Global, columns: &[u8]) -> Result<Self, AllocError>
         ensures { IfOk result (λ kept. kept ≡ map (λ column. get_or self.now column null) columns.now) }
     {
-        let bytes = columns_of(alloc, &self.bytes, columns)?;
+        let bytes = columns_of(alloc, self.bytes.as_slice(), columns)?;
         Ok(KeptRow { bytes })
     }
 
@@ -88,7 +89,7 @@ impl KeptRow {
     pub fn chosen_in(&self, room: KeptRow, columns: &[u8]) -> Result<Self, AllocError>
         ensures { IfOk result (λ kept. kept ≡ map (λ column. get_or self.now column null) columns.now) }
     {
-        let bytes = columns_in(room.bytes, &self.bytes, columns)?;
+        let bytes = columns_in(room.bytes, self.bytes.as_slice(), columns)?;
         Ok(KeptRow { bytes })
     }
 
@@ -96,7 +97,7 @@ impl KeptRow {
     pub fn width(&self) -> usize
         ensures { result ≡ length self.now }
     {
-        count_values(&self.bytes)
+        count_values(self.bytes.as_slice())
     }
 
     /// The value in a column, the leftmost 0; NULL past the end.
@@ -104,7 +105,7 @@ impl KeptRow {
         ensures value { lent_datum result ≡ get_or self.now column null }
         ensures kept { MayBeKept (lent_datum result) }
     {
-        first_value(after_values(&self.bytes, column))
+        first_value(after_values(self.bytes.as_slice(), column))
     }
 
     /// The row that bytes of these columns say, as `encode` writes them; none as `decode`. The only refusal is for want of memory.
@@ -127,7 +128,7 @@ impl KeptRow {
         requires row { IsRowOf schema.now.items self.now }
         ensures { OnOk result ((row : List ℕ) × SaysRow schema.now.items row self.now × (bytes.new.items ≡ bytes.old.items ++ row)) }
     {
-        push_encoded(&self.bytes, schema, bytes)
+        push_encoded(self.bytes.as_slice(), schema, bytes)
     }
 }
 
@@ -149,5 +150,5 @@ pub fn same_row(left: &KeptRow, right: &KeptRow) -> bool
 pub fn push_values(text: &mut String, row: &KeptRow) -> Result<(), AllocError>
     ensures { OnOk result (string_bytes text.new ≡ string_bytes text.old ++ values_text row.now) }
 {
-    push_each(text, &row.bytes)
+    push_each(text, row.bytes.as_slice())
 }

@@ -9,6 +9,7 @@ ghost use Rattle.rs_value.specs.Row.{Row, null};
 
 use crate::encoding::{above_least, eight_bytes, length_before_zero, number_above};
 use crate::lent::LentValue;
+use crate::row_bytes::RowBytes;
 use std::alloc::AllocError;
 
 /// The byte that is NULL.
@@ -24,7 +25,7 @@ const TEXT: u8 = 2;
 const END: u8 = 0;
 
 /// Puts a value after the bytes. The only refusal is for want of memory.
-pub(crate) fn push_kept(bytes: &mut Vec<u8>, value: LentValue<'_>) -> Result<(), AllocError>
+pub(crate) fn push_kept(bytes: &mut RowBytes, value: LentValue<'_>) -> Result<(), AllocError>
     ensures { OnOk result (bytes.new.items ≡ bytes.old.items ++ kept_datum (lent_datum value.entry)) }
 {
     match value {
@@ -35,20 +36,21 @@ pub(crate) fn push_kept(bytes: &mut Vec<u8>, value: LentValue<'_>) -> Result<(),
 }
 
 // Puts a number after the bytes.
-fn push_number(bytes: &mut Vec<u8>, number: i64) -> Result<(), AllocError>
+fn push_number(bytes: &mut RowBytes, number: i64) -> Result<(), AllocError>
     ensures { OnOk result (bytes.new.items ≡ bytes.old.items ++ 1 ∷ to_be_bytes w64 (above_least number)) }
 {
-    bytes.extend_from_slice(&[NUMBER])?;
-    bytes.extend_from_slice(&above_least(number).to_be_bytes())
+    let [a, b, c, d, e, f, g, h] = above_least(number).to_be_bytes();
+    bytes.extend_from_slice(&[NUMBER, a, b, c, d, e, f, g, h])
 }
 
 // Puts a text after the bytes.
-fn push_text(bytes: &mut Vec<u8>, text: &[u8]) -> Result<(), AllocError>
+fn push_text(bytes: &mut RowBytes, text: &[u8]) -> Result<(), AllocError>
     ensures { OnOk result (bytes.new.items ≡ bytes.old.items ++ 2 ∷ text.now ++ 0 ∷ []) }
 {
-    bytes.extend_from_slice(&[TEXT])?;
+    bytes.push(TEXT)?;
     bytes.extend_from_slice(text)?;
-    bytes.extend_from_slice(&[END])
+    bytes.push(END)?;
+    Ok(())
 }
 
 /// How many bytes keep a value.

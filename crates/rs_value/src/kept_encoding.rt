@@ -14,6 +14,7 @@ use crate::encoding::{
 };
 use crate::kept_bytes::{first_value, push_kept, split_first, text_width};
 use crate::lent::LentValue;
+use crate::row_bytes::{INLINE_BYTES, RowBytes};
 use crate::text::as_text;
 use std::alloc::{AllocError, Global};
 
@@ -40,12 +41,12 @@ pub(crate) fn kept_of(
     alloc: Global,
     schema: &Schema,
     encoded: &[u8],
-) -> Result<Option<Vec<u8>>, AllocError>
+) -> Result<Option<RowBytes>, AllocError>
     ensures row { IfOk result (λ found. IfSome found (λ bytes. (row : Row) × Keeps bytes.items row × SaysRow schema.now.items encoded.now row)) }
     ensures none { IfOk result (λ found. IfNone found ((row : Row) → SaysRow schema.now.items encoded.now row → ⊥)) }
 {
     let columns = schema.as_slice();
-    let mut bytes = Vec::with_capacity(alloc, room_for(columns, encoded))?;
+    let mut bytes = RowBytes::with_capacity(alloc, room_for(columns, encoded))?;
     let mut rest = encoded;
     for column in columns {
         let Some((first, others)) = rest.split_at_checked(column_width(*column)) else {
@@ -64,8 +65,11 @@ pub(crate) fn kept_of(
     }
 }
 
-// How many bytes keep a row that bytes of these columns say.
+// How many bytes keep a row that bytes of these columns say, where they may be more than lie in the value itself.
 fn room_for(columns: &[ColumnType], encoded: &[u8]) -> usize {
+    if encoded.len() <= INLINE_BYTES {
+        return 0;
+    }
     let mut total = 0_usize;
     let mut rest = encoded;
     for column in columns {

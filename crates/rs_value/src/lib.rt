@@ -18,6 +18,7 @@ mod kept_order;
 pub mod kept_text;
 pub mod lent;
 pub mod limits;
+mod row_bytes;
 pub mod row_order;
 pub mod row_text;
 pub mod text;

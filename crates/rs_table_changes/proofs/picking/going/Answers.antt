@@ -12,7 +12,7 @@ use Rattle.rs_table_changes.specs.Picked.{Picks}
 use Rattle.rs_spans.specs.Removal.{goes_by}
 use Rattle.rs_table_changes.proofs.PickLaws.{all_more, none_at, picks_more, picks_same, row_said}
 use Rattle.std.specs.Option.{option_copied}
-use Rattle.rs_table_changes.proofs.picking.going.Goals.{then-is_going+in_ok-push+in_ok-push-2, else-is_going}
+use Rattle.rs_table_changes.proofs.picking.going.Goals.{then-is_going+in_ok-push+in_ok-push-2, else-is_going+in-Heap-1, else-is_going+in-Inline-1}
 use Rattle.rs_table_changes.proofs.picking.going.Goals as goal
 
 pub span_of-requires : goal.span_of-requires
@@ -49,7 +49,12 @@ loop-place-preserved c =
                 (all_more (λ (s : Stretch). IsRowOf types s.row) (map seen c.loop-place.spans.items) (seen span) so.rows (row_said types cell (seen span) c.in_ok-span.ensures.said c.in_ok-span.ensures.span));
             width = w.in_ok-push.ensures.width ∙ so.width;
           })
-      | else-is_going w ↦ rw (w.cells-is, w.spans-is) (record {
+      | else-is_going+in-Heap-1 w ↦ rw (w.cells-is, w.spans-is) (record {
+        picks = picks_same types (goes_by (option_copied c.args.goes)) found place cell (listed c.loop-place.cells) (map seen c.loop-place.spans.items) c.get-cell.ensures (seen span) c.in_ok-span.ensures.span so.picks (sym c.is_going.ensures ∙ w.if-is_going.false);
+        rows = so.rows;
+        width = so.width;
+      })
+      | else-is_going+in-Inline-1 w ↦ rw (w.cells-is, w.spans-is) (record {
         picks = picks_same types (goes_by (option_copied c.args.goes)) found place cell (listed c.loop-place.cells) (map seen c.loop-place.spans.items) c.get-cell.ensures (seen span) c.in_ok-span.ensures.span so.picks (sym c.is_going.ensures ∙ w.if-is_going.false);
         rows = so.rows;
         width = so.width;

@@ -12,7 +12,7 @@ use Rattle.rs_table_changes.specs.Picked.{Picks}
 use Rattle.rs_facts.proofs.Rows.{same_row, same_row-apart, same_row-equal}
 use Rattle.rs_table_changes.proofs.PickLaws.{all_more, none_at, picks_more, picks_same, row_said}
 use Rattle.std.proofs.lemmas.Bool.{false≢true}
-use Rattle.rs_table_changes.proofs.picking.of_row.Goals.{then-same_row+in_ok-push+in_ok-push-2, else-same_row}
+use Rattle.rs_table_changes.proofs.picking.of_row.Goals.{then-same_row+in_ok-push+in_ok-push-2, else-same_row+in-Heap-1, else-same_row+in-Inline-1}
 use Rattle.rs_table_changes.proofs.picking.of_row.Goals as goal
 
 pub span_of-requires : goal.span_of-requires
@@ -49,7 +49,12 @@ loop-place-preserved c =
                 (all_more (λ (s : Stretch). IsRowOf types s.row) (map seen c.loop-place.spans.items) (seen span) so.rows (row_said types cell (seen span) c.in_ok-span.ensures.said c.in_ok-span.ensures.span));
             width = w.in_ok-push.ensures.width ∙ so.width;
           })
-      | else-same_row w ↦ rw (w.cells-is, w.spans-is) (record {
+      | else-same_row+in-Heap-1 w ↦ rw (w.cells-is, w.spans-is) (record {
+        picks = picks_same types (λ other. same_row other c.args.row.now) found place cell (listed c.loop-place.cells) (map seen c.loop-place.spans.items) c.get-cell.ensures (seen span) c.in_ok-span.ensures.span so.picks (same_row-apart (seen span).row c.args.row.now (λ e. false≢true (sym w.if-same_row.false ∙ c.same_row.ensures.1 e)));
+        rows = so.rows;
+        width = so.width;
+      })
+      | else-same_row+in-Inline-1 w ↦ rw (w.cells-is, w.spans-is) (record {
         picks = picks_same types (λ other. same_row other c.args.row.now) found place cell (listed c.loop-place.cells) (map seen c.loop-place.spans.items) c.get-cell.ensures (seen span) c.in_ok-span.ensures.span so.picks (same_row-apart (seen span).row c.args.row.now (λ e. false≢true (sym w.if-same_row.false ∙ c.same_row.ensures.1 e)));
         rows = so.rows;
         width = so.width;

@@ -1,4 +1,4 @@
-use Rattle.std.proofs.Common.{length, arith}
+use Rattle.std.proofs.Common.{arith}
 use Rattle.std.proofs.lemmas.List.{length-map}
 use Rattle.rs_value.specs.View.{literal_datum, literal_row}
 use Rattle.rs_value.proofs.FittingLemmas.{fits_each, fits_short}

@@ -1,5 +1,3 @@
-use Rattle.std.proofs.Common.{drop}
-use Rattle.rs_value.specs.Kept.{Keeps}
 use Rattle.rs_value.proofs.KeptReading.{dropped_more}
 use Rattle.rs_value.proofs.kept_bytes.after_values.Goals as goal
 

@@ -1,4 +1,4 @@
-use Rattle.std.proofs.Common.{◌≡◌, ◌≤◌, ◌+◌, length, arith, rules}
+use Rattle.std.proofs.Common.{◌≡◌, ◌≤◌, length, arith, rules}
 use Rattle.rs_value.proofs.KeptReading.{few_values}
 use Rattle.rs_value.proofs.kept_bytes.count_values.Goals as goal
 

@@ -1,7 +1,6 @@
 use Rattle.std.proofs.Common.{◌+◌, [], ◌∷◌, ◌++◌, drop, sym, subst, ◌∙◌, arith, take-append-drop, get_or, ap₂, rules}
 use Rattle.std.proofs.lemmas.List.{nil_from_length}
 use Rattle.rs_value.specs.declared.column.ColumnType.TheVariants as types
-use Rattle.rs_value.specs.Row.{Row}
 use Rattle.rs_value.specs.Encoding.{SaysDatum, SaysRow}
 use Rattle.rs_value.specs.LentView.{lent_datum}
 use Rattle.rs_value.proofs.EncodingSteps.{read_next}

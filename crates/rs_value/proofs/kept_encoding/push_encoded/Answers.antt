@@ -1,6 +1,5 @@
-use Rattle.std.proofs.Common.{◌≡◌, ◌+◌, ◌++◌, drop, get_or, sym, subst, ap, ◌∙◌, arith, append_assoc}
+use Rattle.std.proofs.Common.{◌++◌, get_or, sym, subst, ap, ◌∙◌, append_assoc}
 use Rattle.rs_value.specs.declared.column.ColumnType.TheVariants as types
-use Rattle.rs_value.specs.Row.{null, Row}
 use Rattle.rs_value.specs.Encoding.{SaysRow}
 use Rattle.rs_value.specs.LentView.{lent_datum}
 use Rattle.rs_value.specs.Values.{IsOfType, IsRowOf}

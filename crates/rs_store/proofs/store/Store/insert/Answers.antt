@@ -27,7 +27,7 @@ use Rattle.std.specs.FinMap as names
 use Rattle.rs_store.proofs.store.Store.insert.Given.{Over}
 use Rattle.rs_store.proofs.store.Store.insert.Goals as goal
 
-module _ (g : Over) (c : goal.After-drop-insertion-2 g) where
+module _ (g : Over) (c : goal.Joined-insertion-2 g) where
   abbrev was : StoreState g.row.D.Denot
   was = store_over g.D.Disk c.self.inside.pager c.self.inside.file c.self.inside.catalog c.self.inside.referents
 
