@@ -82,8 +82,8 @@ fn open_run(kind: Kind, spans: &[Span], opened: &[usize], next: usize) -> Option
     None
 }
 
-/// Sees to it that one run more can be open: where there are as many as can be, those are closed that end before the
-/// next span, and else all. Answers whether none was closed that a later span may be one with.
+/// Sees to it that one run more can be open: those are closed that end before the next span, so that few are looked at, and
+/// where as many are left as can be, all. Answers whether none was closed that a later span may be one with.
 fn make_room(kind: Kind, spans: &[Span], opened: &mut Open, next: usize) -> bool
     requires within { (i : ℕ) → Contains opened.old.items i → i < length spans.now }
     requires inside { next < length spans.now }
@@ -92,9 +92,6 @@ fn make_room(kind: Kind, spans: &[Span], opened: &mut Open, next: usize) -> bool
     ensures closed { result ≡ true → (i : ℕ) → Contains opened.old.items i → Contains opened.new.items i
         ⊎ ((d : a_span) → (get_or spans.now i d).hi + gap_of kind ≤ (get_or spans.now next d).lo) }
 {
-    if !opened.is_full() {
-        return true;
-    }
     close(kind, spans, opened, spans[next].lo);
     if !opened.is_full() {
         return true;

@@ -1,25 +1,29 @@
 -- The parts of a span outside what others take: which thousandths they have.
-use Rattle.std.proofs.Common.{◌≡◌, ◌↔◌, IsTrue, ℕ, zero, suc, ◌-◌, ◌<◌, ◌≤◌, max, Bool, true, false, not, ◌&&◌, ◌||◌, cond, ◌⊎◌, inl, inr, List, [], ◌∷◌, ◌++◌, map, length, take, drop, get_or, Less, Equal, Greater, refl, sym, ap, ◌∙◌, subst, arith}
-use Rattle.std.proofs.lemmas.Bool.{and_parts, and_cases, lt-ltb, le-ltb, ltb-true, ltb-false, le-leb, leb-true, cond-true, cond-false, cases_lt}
+use Rattle.std.proofs.Common.{◌≡◌, ◌↔◌, IsTrue, ℕ, zero, suc, ◌+◌, ◌-◌, ◌<◌, ◌≤◌, max, Bool, true, false, not, ◌&&◌, ◌||◌, cond, ◌⊎◌, inl, inr, List, [], ◌∷◌, ◌++◌, map, length, take, drop, get_or, Less, Equal, Greater, refl, sym, ap, ◌∙◌, subst, add-one, arith}
+use Rattle.std.proofs.lemmas.Bool.{false≢true, and_parts, and_cases, lt-ltb, le-ltb, ltb-true, ltb-false, le-leb, leb-true, cond-true, cond-false, cases_lt}
 use Rattle.std.proofs.lemmas.List.{take-append-drop, take_rest, drop-map}
 use Rattle.std.proofs.lemmas.List.Folds.{list_any-append}
-use Rattle.std.specs.List.{list_any, AllByRecursion, AllWithin}
+use Rattle.std.specs.List.{list_any, AllByRecursion, AllWithin, IsAllAdjacentAnswer}
 use Rattle.std.specs.List.Sorted.{IsPartitionedBy}
-use Rattle.std.specs.Ordering.{match_ordering}
+use Rattle.std.specs.Borrow.{Bor}
+use Rattle.std.specs.Ordering.{match_ordering, eq_by_cmp}
 use Rattle.std.specs.Prelude.{nat_le, nat_lt}
+use Rattle.rs_coalesce.specs.Lent.{seen_lent}
 use Rattle.rs_value.specs.Row.{Row, row_cmp}
 use Rattle.rs_value.specs.declared.column.Kind.TheVariants.{Line}
 use Rattle.rs_facts.specs.Fact.{contains}
 use Rattle.rs_facts.specs.Insert.{within}
 use Rattle.rs_facts.specs.Runs.{Stretch}
-use Rattle.rs_facts.specs.Spans.{places_of, Precedes, AreKept}
+use Rattle.rs_facts.specs.Spans.{places_of, Precedes, AreKept, ArePlaced}
+use Rattle.rs_facts.specs.declared.fact.Span.{Span}
 use Rattle.rs_facts.proofs.KeptLaws.{every-weaker, kept-free, kept-behind}
 use Rattle.rs_facts.proofs.Placing.{cases_within, within-true, within-false, within-bounds, contains-with_row}
 use Rattle.rs_facts.proofs.Rows.{same_row, same_row-true, same_row-equal, same_row-apart, row_cmp-antisymmetric, row_cmp-itself, row_cmp-on, row_cmp-less_apart, row_cmp-back, cases_row}
 use Rattle.rs_facts.proofs.RowSets.{either-way}
 use Rattle.rs_facts.proofs.Sets.{contains-none}
 use Rattle.rs_facts.proofs.SpanLaws.{contains-append}
-use Rattle.rs_sweep.specs.Parts.{in_part, LiesIn, part_of, walked}
+use Rattle.rs_sweep.specs.Lists.{AreInLine}
+use Rattle.rs_sweep.specs.Parts.{in_part, LiesIn, part_of, walked, left_along}
 use Rattle.rs_sweep.specs.Taken.{keyed, ends_before, is_met}
 use Rattle.rs_sweep.specs.declared.taken.Rows.{Rows}
 use Rattle.rs_sweep.specs.declared.parts.Part.{Part}
@@ -298,6 +302,10 @@ met-same s span test l says =
     either-way test (same_row s.row span.row) (λ e. same_row-equal s.row span.row (says.0 e)) (λ e. says.1 (same_row-true s.row span.row e))
     ∙ sym (ap (λ t. t && same_row s.row span.row) (lt-ltb s.lo span.hi l))
 
+pub rows-same : (a b : Row) (test : Bool) → IsTrue test ↔ (a ≡ b) → test ≡ eq_by_cmp row_cmp a b
+unfolding same_row
+rows-same a b test says = either-way test (same_row a b) (λ e. same_row-equal a b (says.0 e)) (λ e. says.1 (same_row-true a b e))
+
 pub met-far : (s span : Stretch) → span.hi ≤ s.lo → nat_lt s.lo span.hi ≡ is_met s span
 unfolding is_met same_row
 met-far s span l = le-ltb s.lo span.hi l ∙ sym (ap (λ t. t && same_row s.row span.row) (le-ltb s.lo span.hi l))
@@ -312,3 +320,136 @@ found-is f span taken n before found none is =
 pub every-part : (rows : Rows) (span : Stretch) (parts : List Part) → AllByRecursion (LiesIn (keyed rows span)) parts → AllByRecursion (LiesIn span) parts
 every-part rows span [] h = tt
 every-part rows span (part ∷ parts) h = let one = h.0 in (record { from = one.from; some = one.some; upto = one.upto }, every-part rows span parts h.1)
+
+-- ---- spans in a line
+
+after_one : (x : Bor Span) (xs : List (Bor Span)) → ArePlaced Line (map seen_lent (x ∷ xs)) → ((k : ℕ) (d : Bor Span) → suc k < length (x ∷ xs) → nat_le (get_or (x ∷ xs) k d).now.hi (get_or (x ∷ xs) (suc k) d).now.lo ≡ true)
+    → AllByRecursion (λ (later : Stretch). x.now.hi ≤ later.lo) (map seen_lent xs)
+after_one x [] placed near = tt
+after_one x (y ∷ ys) placed near =
+    let one = leb-true x.now.hi y.now.lo (near 0 x (omega arith)) in (
+      one,
+      every-weaker (λ later. y.now.hi ≤ later.lo) (λ later. x.now.hi ≤ later.lo) (λ later h. omega (arith, one, placed.1.0, h)) (map seen_lent ys)
+          (after_one y ys placed.1 (λ k d below. near (suc k) d (omega (arith, below)))),
+    )
+
+-- where neighbours lie apart, all do
+pub in-line : (spans : List (Bor Span)) → ArePlaced Line (map seen_lent spans) → ((k : ℕ) (d : Bor Span) → suc k < length spans → nat_le (get_or spans k d).now.hi (get_or spans (suc k) d).now.lo ≡ true) → AreInLine (map seen_lent spans)
+in-line [] placed near = tt
+in-line (x ∷ xs) placed near = (after_one x xs placed near, in-line xs placed.1 (λ k d below. near (suc k) d (omega (arith, below))))
+
+pub line-behind : (n : ℕ) (spans : List Stretch) → AreInLine spans → AreInLine (drop n spans)
+line-behind zero spans line = line
+line-behind (suc n) [] line = tt
+line-behind (suc n) (s ∷ spans) line = line-behind n spans line.1
+
+pub placed-behind : (n : ℕ) (spans : List Stretch) → ArePlaced Line spans → ArePlaced Line (drop n spans)
+placed-behind zero spans placed = placed
+placed-behind (suc n) [] placed = tt
+placed-behind (suc n) (s ∷ spans) placed = placed-behind n spans placed.1
+
+-- none holds before all begin
+none_early : (spans : List Stretch) (k : ℕ) (row : Row) → AllByRecursion (λ s. k < s.lo) spans → contains (places_of spans k) row ≡ false
+none_early [] k row early = contains-none row
+none_early (s ∷ spans) k row early =
+    contains-with_row s.lo s.hi s.row (places_of spans) k row
+    ∙ (λ i. (within-false s.lo s.hi k (inl early.0) i && same_row s.row row) || none_early spans k row early.1 i)
+
+-- none holds after all have ended
+none_late : (spans : List Stretch) (lo k : ℕ) (row : Row) → AllByRecursion (λ s. s.hi ≤ lo) spans → lo ≤ k → contains (places_of spans k) row ≡ false
+none_late [] lo k row late from = contains-none row
+none_late (s ∷ spans) lo k row late from =
+    contains-with_row s.lo s.hi s.row (places_of spans) k row
+    ∙ (λ i. (within-false s.lo s.hi k (inr (omega (arith, late.0, from))) i && same_row s.row row) || none_late spans lo k row late.1 from i)
+
+-- spans that have ended take nothing of a span
+pub ended-free : (span : Stretch) (right : List Stretch) (n k : ℕ) → AllByRecursion (λ s. s.hi ≤ span.lo) (take n right)
+    → (within span.lo span.hi k && not (contains (places_of (drop n right) k) span.row)) ≡ (within span.lo span.hi k && not (contains (places_of right k) span.row))
+ended-free span right n k ended = elim (cases_within span.lo span.hi k) [
+  | inl w ↦ ap (λ t. within span.lo span.hi k && not t) (sym (all ∙ ap (λ t. t || contains (places_of (drop n right) k) span.row) (none_late (take n right) span.lo k span.row ended w.1)))
+  | inr w ↦ (λ i. w.0 i && not (contains (places_of (drop n right) k) span.row)) ∙ sym (λ i. w.0 i && not (contains (places_of right k) span.row))
+]
+  where
+    all : contains (places_of right k) span.row ≡ (contains (places_of (take n right) k) span.row || contains (places_of (drop n right) k) span.row)
+    all = ap (λ zs. contains (places_of zs k) span.row) (sym (take-append-drop n right)) ∙ contains-append (take n right) (drop n right) k span.row
+
+pub along-past : (lo : ℕ) (span s : Stretch) (rest : List Stretch) → nat_lt s.lo span.hi ≡ false → left_along lo span (s ∷ rest) ≡ part_of lo span.hi
+unfolding same_row
+along-past lo span s rest far = cond-false (nat_lt s.lo span.hi) (cond (same_row s.row span.row) (part_of lo s.lo ++ left_along (max lo s.hi) span rest) (left_along lo span rest)) (part_of lo span.hi) far
+
+pub along-taken : (lo : ℕ) (span s : Stretch) (rest : List Stretch) → nat_lt s.lo span.hi ≡ true → same_row s.row span.row ≡ true → left_along lo span (s ∷ rest) ≡ part_of lo s.lo ++ left_along (max lo s.hi) span rest
+unfolding same_row
+along-taken lo span s rest near same =
+    cond-true (nat_lt s.lo span.hi) (cond (same_row s.row span.row) (part_of lo s.lo ++ left_along (max lo s.hi) span rest) (left_along lo span rest)) (part_of lo span.hi) near
+    ∙ cond-true (same_row s.row span.row) (part_of lo s.lo ++ left_along (max lo s.hi) span rest) (left_along lo span rest) same
+
+pub along-other : (lo : ℕ) (span s : Stretch) (rest : List Stretch) → nat_lt s.lo span.hi ≡ true → same_row s.row span.row ≡ false → left_along lo span (s ∷ rest) ≡ left_along lo span rest
+unfolding same_row
+along-other lo span s rest near other =
+    cond-true (nat_lt s.lo span.hi) (cond (same_row s.row span.row) (part_of lo s.lo ++ left_along (max lo s.hi) span rest) (left_along lo span rest)) (part_of lo span.hi) near
+    ∙ cond-false (same_row s.row span.row) (part_of lo s.lo ++ left_along (max lo s.hi) span rest) (left_along lo span rest) other
+
+pub along-any : (lo : ℕ) (span : Stretch) (others : List Stretch) (k : ℕ) → AreInLine others → ArePlaced Line others → list_any (in_part k) (left_along lo span others) ≡ (within lo span.hi k && not (contains (places_of others k) span.row))
+along-any lo span [] k line placed = part-any lo span.hi k ∙ and_true (within lo span.hi k) (contains (places_of [] k) span.row) (contains-none span.row)
+along-any lo span (s ∷ rest) k line placed = elim (nat_lt s.lo span.hi) as (λ t. nat_lt s.lo span.hi ≡ t → list_any (in_part k) (left_along lo span (s ∷ rest)) ≡ (within lo span.hi k && not (contains (places_of (s ∷ rest) k) span.row))) [
+  | true ↦ λ near. elim (same_row s.row span.row) as (λ t. same_row s.row span.row ≡ t → list_any (in_part k) (left_along lo span (s ∷ rest)) ≡ (within lo span.hi k && not (contains (places_of (s ∷ rest) k) span.row))) [
+    | true ↦ λ same.
+        let free : k < s.hi → contains (places_of rest k) span.row ≡ false = λ below. none_early rest k span.row (every-weaker (λ later. s.hi ≤ later.lo) (λ later. k < later.lo) (λ later h. omega (arith, h, below)) rest line.0) in
+        ap (list_any (in_part k)) (along-taken lo span s rest near same)
+        ∙ list_any-append (in_part k) (part_of lo s.lo) (left_along (max lo s.hi) span rest)
+        ∙ (λ i. part-any lo s.lo k i || along-any (max lo s.hi) span rest k line.1 placed.1 i)
+        ∙ met_cases lo span.hi s.lo s.hi k (contains (places_of rest k) span.row) placed.0 (ltb-true s.lo span.hi near) free
+        ∙ ap (λ t. within lo span.hi k && not t) (sym (contains-with_row s.lo s.hi s.row (places_of rest) k span.row ∙ (λ i. (within s.lo s.hi k && same i) || contains (places_of rest k) span.row) ∙ ap (λ t. t || contains (places_of rest k) span.row) (and_one (within s.lo s.hi k))))
+    | false ↦ λ other.
+        ap (list_any (in_part k)) (along-other lo span s rest near other)
+        ∙ along-any lo span rest k line.1 placed.1
+        ∙ ap (λ t. within lo span.hi k && not t) (sym (contains-with_row s.lo s.hi s.row (places_of rest) k span.row ∙ (λ i. (within s.lo s.hi k && other i) || contains (places_of rest k) span.row) ∙ ap (λ t. t || contains (places_of rest k) span.row) (and_false (within s.lo s.hi k))))
+  ] refl
+  | false ↦ λ far.
+      let past = ltb-false s.lo span.hi far in
+      ap (list_any (in_part k)) (along-past lo span s rest far)
+      ∙ part-any lo span.hi k
+      ∙ (elim (cases_within lo span.hi k) [
+        | inl w ↦
+            let early : AllByRecursion (λ (t : Stretch). k < t.lo) (s ∷ rest) = (omega (arith, past, w.2), every-weaker (λ later. s.hi ≤ later.lo) (λ later. k < later.lo) (λ later h. omega (arith, h, placed.0, past, w.2)) rest line.0) in
+            w.0 ∙ sym (λ i. w.0 i && not (none_early (s ∷ rest) k span.row early i))
+        | inr w ↦ w.0 ∙ sym (λ i. w.0 i && not (contains (places_of (s ∷ rest) k) span.row))
+      ])
+] refl
+
+pub along-inside : (lo : ℕ) (span : Stretch) (others : List Stretch) → span.lo ≤ lo → AllByRecursion (LiesIn span) (left_along lo span others)
+along-inside lo span [] l = part-inside span lo span.hi l (omega arith)
+along-inside lo span (s ∷ rest) l = elim (nat_lt s.lo span.hi) as (λ t. nat_lt s.lo span.hi ≡ t → AllByRecursion (LiesIn span) (left_along lo span (s ∷ rest))) [
+  | true ↦ λ near. elim (same_row s.row span.row) as (λ t. same_row s.row span.row ≡ t → AllByRecursion (LiesIn span) (left_along lo span (s ∷ rest))) [
+    | true ↦ λ same. subst (AllByRecursion (LiesIn span)) (sym (along-taken lo span s rest near same)) (every-both (LiesIn span) (part_of lo s.lo) (left_along (max lo s.hi) span rest) (part-inside span lo s.lo l (omega (arith, ltb-true s.lo span.hi near))) (along-inside (max lo s.hi) span rest (omega (arith, l))))
+    | false ↦ λ other. subst (AllByRecursion (LiesIn span)) (sym (along-other lo span s rest near other)) (along-inside lo span rest l)
+  ] refl
+  | false ↦ λ far. subst (AllByRecursion (LiesIn span)) (sym (along-past lo span s rest far)) (part-inside span lo span.hi l (omega arith))
+] refl
+
+-- the first spans that have ended, and those that end after them
+pub ended-more : (n m total lo reach : ℕ) (right : List Stretch) → reach ≤ lo → AllByRecursion (λ s. s.hi ≤ reach) (take n right) → AllByRecursion (λ s. s.hi ≤ lo) (take m (drop n right)) → total ≡ n + m → AllByRecursion (λ s. s.hi ≤ lo) (take total right)
+ended-more zero m total lo reach right le front back is =
+    let all : m ≡ total = omega (arith, is) in
+    subst (λ t. AllByRecursion (λ (s : Stretch). s.hi ≤ lo) (take t right)) all back
+ended-more (suc n) m zero lo reach right le front back is = tt
+ended-more (suc n) m (suc total) lo reach [] le front back is = tt
+ended-more (suc n) m (suc total) lo reach (s ∷ right) le front back is = (omega (arith, front.0, le), ended-more n m total lo reach right le front.1 back (omega (arith, is)))
+
+-- one that has ended, after others
+pub ended-next : (n lo : ℕ) (spans : List (Bor Span)) (d : Bor Span) → n < length spans → AllByRecursion (λ (s : Stretch). s.hi ≤ lo) (take n (map seen_lent spans)) → (get_or spans n d).now.hi ≤ lo → AllByRecursion (λ (s : Stretch). s.hi ≤ lo) (take (suc n) (map seen_lent spans))
+ended-next n lo [] d below all one = absurd (omega (arith, below))
+ended-next zero lo (x ∷ xs) d below all one = (one, tt)
+ended-next (suc n) lo (x ∷ xs) d below all one = (all.0, ended-next n lo xs d (omega (arith, below)) all.1 one)
+
+abbrev pub ends_by : Bor Span → Bor Span → Bool
+ends_by one next = nat_le one.now.hi next.now.lo
+
+-- the answer of `is_sorted_by`
+pub adjacent-ends : (spans : List (Bor Span)) (r : Bool) → IsAllAdjacentAnswer (λ x y b. b ≡ ends_by x y) spans r → r ≡ true → (k : ℕ) (d : Bor Span) → suc k < length spans → ends_by (get_or spans k d) (get_or spans (suc k) d) ≡ true
+adjacent-ends spans true all e k d inside = subst (λ n. ends_by (get_or spans k d) (get_or spans n d) ≡ true) (add-one k) (sym (all k d (omega (arith, inside))))
+adjacent-ends spans false answer e k d inside = absurd (false≢true e)
+
+-- the spans from one on
+pub rest-is : (n : ℕ) (spans : List (Bor Span)) → map seen_lent (take (length spans - n) (drop n spans)) ≡ drop n (map seen_lent spans)
+rest-is n spans = ap (map seen_lent) (take_rest spans n) ∙ sym (drop-map seen_lent n spans)

@@ -8,6 +8,11 @@ abbrev pub AreSorted : List Stretch → Type 0
 AreSorted [] = Unit {0}
 AreSorted (span ∷ spans) = AllByRecursion (λ later. span.lo ≤ later.lo) spans × AreSorted spans
 
+-- each begins where the one before it ends, or later
+abbrev pub AreInLine : List Stretch → Type 0
+AreInLine [] = Unit {0}
+AreInLine (span ∷ spans) = AllByRecursion (λ later. span.hi ≤ later.lo) spans × AreInLine spans
+
 -- each row has so many values
 abbrev pub AreWide : ℕ → List Stretch → Type 0
 AreWide width spans = AllByRecursion (λ span. length span.row ≡ width) spans

@@ -6,6 +6,7 @@ use Rattle.rs_value.specs.declared.column.Kind.{Kind}
 use Rattle.rs_value.specs.Row.{Row, row_cmp}
 use Rattle.rs_facts.specs.Fact.{contains}
 use Rattle.rs_facts.specs.Insert.{within}
+use Rattle.rs_facts.specs.Operators.{without}
 use Rattle.rs_facts.specs.Runs.{Stretch, stretch}
 use Rattle.rs_facts.specs.Spans.{places_of, ArePlaced}
 use Rattle.rs_sweep.specs.Lists.{AreWide}
@@ -31,6 +32,11 @@ abbrev pub walked : ℕ → Stretch → List Stretch → List Part
 walked lo span [] = part_of lo span.hi
 walked lo span (stretch ∷ stretches) = if is_met stretch span then part_of lo stretch.lo ++ walked (max lo stretch.hi) span stretches else part_of lo span.hi
 
+-- what spans in a line leave of a span from a thousandth on, those of other rows left alone
+abbrev pub left_along : ℕ → Stretch → List Stretch → List Part
+left_along lo span [] = part_of lo span.hi
+left_along lo span (other ∷ others) = if nat_lt other.lo span.hi then (if eq_by_cmp row_cmp other.row span.row then part_of lo other.lo ++ left_along (max lo other.hi) span others else left_along lo span others) else part_of lo span.hi
+
 -- the same row
 abbrev pub unchanged : Row → Row
 unchanged row = row
@@ -46,3 +52,9 @@ pub record IsCut (change : Row → Row) (rows : Rows) (taken spans old now : Lis
   pub means : (row : Row) (k : ℕ) → contains (places_of added k) row ≡ list_any (λ span. within span.lo span.hi k && (not (contains (places_of taken k) (key rows span.row)) && eq_by_cmp row_cmp (change span.row) row)) spans
   pub placed : (kind : Kind) → ArePlaced kind spans → ArePlaced kind added
   pub wide : (m n : ℕ) → ((row : Row) → length row ≡ m → length (change row) ≡ n) → AreWide m spans → AreWide n added
+
+-- what spans leave of others where these have their rows: the spans are these, cut
+pub record IsLeft (right left now : List Stretch) : Type 0 where
+  pub means : (k : ℕ) → places_of now k ≡ without (places_of left k) (places_of right k)
+  pub placed : (kind : Kind) → ArePlaced kind left → ArePlaced kind now
+  pub wide : (width : ℕ) → AreWide width left → AreWide width now

@@ -12,6 +12,7 @@ mod conditions;
 mod covering;
 mod difference;
 mod filter;
+mod in_line;
 mod laying;
 mod order;
 mod overlaying;

@@ -100,7 +100,7 @@ fn walk(
 }
 
 /// Adds a part, unless it is empty.
-fn add_part(parts: &mut Vec<Part>, lo: u32, hi: u32) -> Result<(), AllocError>
+pub(crate) fn add_part(parts: &mut Vec<Part>, lo: u32, hi: u32) -> Result<(), AllocError>
     ensures { OnOk result (parts.new.items ≡ parts.old.items ++ part_of lo hi) }
 {
     if lo < hi {

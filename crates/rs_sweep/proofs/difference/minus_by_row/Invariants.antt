@@ -3,7 +3,7 @@ use Rattle.rs_facts.specs.Spans.{seen}
 use Rattle.rs_sweep.specs.Parts.{IsCut, unchanged}
 use Rattle.rs_sweep.specs.Taken.{taken_of}
 use Rattle.rs_sweep.specs.declared.taken.Rows.TheVariants.{Each}
-use Rattle.rs_sweep.proofs.difference.minus.Given as goal
+use Rattle.rs_sweep.proofs.difference.minus_by_row.Given as goal
 
 abbrev pub invariant-loop-span : goal.invariant-loop-span
 invariant-loop-span l = record {
