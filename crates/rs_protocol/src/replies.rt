@@ -2,35 +2,43 @@
 //!
 //! Digits are made on the stack, so that a reply takes no memory.
 
-ghost use Rattle.std.specs.Prelude.{flat_map};
-ghost use Rattle.rs_machine.specs.ReplyText.{row_text, ok_text, refusal_text, reply_text};
+ghost use Rattle.std.specs.Prelude.{◌≡◌, ℕ, codes, flat_map};
+ghost use Rattle.rs_machine.specs.ReplyText.{head_of, row_text, ok_text, refusal_text, reply_text};
 ghost use Rattle.rs_serve.specs.ReplyView.{reply_of, rows_of};
 ghost use Rattle.rs_protocol.specs.Inner.{PutsLater};
 
 use crate::put::{Pending, put_later};
 use crate::stream::Fault;
+use arrayvec::ArrayString;
 use itoa::Buffer;
 use rs_refusal::Refusal;
 use rs_serve::{Finish, Reply};
 use std::io::Write;
 
-/// Puts `S ROW` and what follows it.
+/// Room for what comes before a row: digits of a number, and ` ROW `.
+const HEAD_BYTES: usize = 48;
+
+/// What comes before each row of a session: `S ROW `.
+fn row_head(session: u8) -> ArrayString<HEAD_BYTES>
+    ensures { result.bytes ≡ head_of session (codes "ROW") }
+{
+    let mut head = ArrayString::new();
+    head.push_str(Buffer::new().format(session));
+    head.push_str(" ROW ");
+    head
+}
+
+/// Puts a row after what comes before it.
 fn put_row<W: Write>(
     writer: &mut W,
     pending: &mut Pending,
-    session: u8,
+    head: &str,
     row: &str,
 ) -> Result<(), Fault>
-    ensures { PutsLater result (row_text session row.now) pending.old.items pending.new.items
+    ensures { (session : ℕ) → head.now ≡ head_of session (codes "ROW") → PutsLater result (row_text session row.now) pending.old.items pending.new.items
         (W.contents writer.old) (W.contents writer.new) }
 {
-    let mut session_digits = Buffer::new();
-    let session_text = session_digits.format(session).as_bytes();
-    put_later(
-        writer,
-        pending,
-        &[session_text, b" ROW ", row.as_bytes(), b"\n"],
-    )
+    put_later(writer, pending, &[head.as_bytes(), row.as_bytes(), b"\n"])
 }
 
 /// Puts `S OK n`.
@@ -83,8 +91,9 @@ pub(crate) fn put_rows<W: Write>(
     ensures { PutsLater result (flat_map (row_text session) (rows_of rows.now)) pending.old.items pending.new.items
         (W.contents writer.old) (W.contents writer.new) }
 {
+    let head = row_head(session);
     for row in rows {
-        put_row(writer, pending, session, row.as_str())?;
+        put_row(writer, pending, head.as_str(), row.as_str())?;
     }
     Ok(())
 }

@@ -15,15 +15,15 @@ pub returns-in_err-put_row : goal.returns-in_err-put_row
 returns-in_err-put_row g c =
     let p = err_from_is_err_and c.from_residual.result c.from_residual.ensures.1 in
     rw (p.1, p.2)
-    (PutsLater-stops-in _ c.in_err-put_row.field-0.0 (row_text c.args.session) string_bytes c.args.rows.now c.loop-row.row-index c.row-item.result c.as_str.result.now c.args.pending.now.items c.loop-row.pending.items
+    (PutsLater-stops-in _ c.in_err-put_row.field-0.0 (row_text c.args.session) string_bytes c.args.rows.now c.loop-row.row-index c.row-item.result c.as_str-in-loop-row.result.now c.args.pending.now.items c.loop-row.pending.items
     (g.W.Write.contents c.args.writer.now) (g.W.Write.contents c.loop-row.writer) (g.W.Write.contents c.put_row.new.writer)
-    c.loop-row-test.true (c.as_str.ensures.value ∙ ap string_bytes c.row-item.is) c.loop-row.invariant c.in_err-put_row.ensures)
+    c.loop-row-test.true (c.as_str-in-loop-row.ensures.value ∙ ap string_bytes c.row-item.is) c.loop-row.invariant (c.in_err-put_row.ensures c.args.session (c.as_str.ensures.value ∙ c.row_head-head.ensures)))
 
 pub loop-row-preserved : goal.loop-row-preserved
 loop-row-preserved g c =
-    PutsLater-shown _ (row_text c.args.session) string_bytes c.args.rows.now c.loop-row.row-index c.row-item.result c.as_str.result.now c.args.pending.now.items c.loop-row.pending.items c.put_row.new.pending.items
+    PutsLater-shown _ (row_text c.args.session) string_bytes c.args.rows.now c.loop-row.row-index c.row-item.result c.as_str-in-loop-row.result.now c.args.pending.now.items c.loop-row.pending.items c.put_row.new.pending.items
     (g.W.Write.contents c.args.writer.now) (g.W.Write.contents c.loop-row.writer) (g.W.Write.contents c.put_row.new.writer)
-    c.loop-row-test.true (c.as_str.ensures.value ∙ ap string_bytes c.row-item.is) c.loop-row.invariant c.in_ok-put_row.ensures
+    c.loop-row-test.true (c.as_str-in-loop-row.ensures.value ∙ ap string_bytes c.row-item.is) c.loop-row.invariant (c.in_ok-put_row.ensures c.args.session (c.as_str.ensures.value ∙ c.row_head-head.ensures))
 
 pub returns : goal.returns
 returns g c =
