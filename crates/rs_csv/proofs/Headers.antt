@@ -10,9 +10,10 @@ use Rattle.rs_value.specs.declared.column.ColumnType.{ColumnType}
 use Rattle.rs_syntax.specs.declared.commands.ColumnDefinition.{ColumnDefinition}
 use Rattle.rs_syntax.specs.View.{column_tree}
 use Rattle.rs_csv_lines.specs.declared.plan.Column.{Column}
+use Rattle.rs_csv_lines.specs.declared.plan.Scale.{Scale}
 use Rattle.rs_csv.specs.declared.filter.Wanted.{Wanted}
 use Rattle.rs_csv.specs.declared.names.Case.{Case}
-use Rattle.rs_csv.specs.Header.{Has, HasNone, IsOnly, IsTwice, IsColumnOf, AreColumnsOf, IsTold, Renames, is_equals}
+use Rattle.rs_csv.specs.Header.{Has, HasNone, IsOnly, IsTwice, IsColumnOf, AreColumnsOf, AreScales, IsScaled, IsTold, Renames, is_equals}
 
 -- what was found among the places before one
 abbrev pub HasBelow : (ℕ → Type 0) → ℕ → Option ℕ → Type 0
@@ -85,6 +86,35 @@ columns_step wanted header items i item columns now column less is are one grown
     let all : map column_tree (take (i + 1) items) ≡ map column_tree (take i items) ++ column_tree item ∷ [] = ap (map column_tree) more ∙ map-append column_tree (take i items) (item ∷ []) in
     subst (λ definitions. AreColumnsOf wanted header definitions now) (sym all)
     (subst (AreColumnsOf wanted header (map column_tree (take i items) ++ column_tree item ∷ [])) (sym grown) (columns_more wanted header (map column_tree (take i items)) columns (column_tree item) column are one))
+
+-- ---- scales
+
+scales_more : (wanted : Wanted) (columns : List ColumnDefinition) (scales : List Scale) (column : ColumnDefinition) (scale : Scale)
+    → AreScales wanted columns scales → IsScaled (map (λ words. words.now) wanted.scales.now) column.name.bytes scale → AreScales wanted (columns ++ column ∷ []) (scales ++ scale ∷ [])
+scales_more wanted [] [] column scale are is = (is, tt)
+scales_more wanted [] (one ∷ scales) column scale are is = absurd are
+scales_more wanted (one ∷ columns) [] column scale are is = absurd are
+scales_more wanted (one ∷ columns) (other ∷ scales) column scale are is = (are.0, scales_more wanted columns scales column scale are.1 is)
+
+pub scales_step : (wanted : Wanted) (items : List ColumnDefinition) (i : ℕ) (item : ColumnDefinition) (scales now : List Scale) (scale : Scale) → i < length items → item ≡ get_or items i item
+    → AreScales wanted (take i items) scales → IsScaled (map (λ words. words.now) wanted.scales.now) item.name.bytes scale → now ≡ scales ++ scale ∷ [] → AreScales wanted (take (i + 1) items) now
+scales_step wanted items i item scales now scale less is are one grown =
+    let more : take (i + 1) items ≡ take i items ++ item ∷ [] = take_more items i item less ∙ ap (λ it. take i items ++ it ∷ []) (sym is) in
+    subst (λ columns. AreScales wanted columns now) (sym more) (subst (AreScales wanted (take i items ++ item ∷ [])) (sym grown) (scales_more wanted (take i items) scales item scale are one))
+
+-- the scale of the column at a place
+pub scale_at : (wanted : Wanted) (items : List ColumnDefinition) (scales : List Scale) (i : ℕ) (item : ColumnDefinition) (d : Scale) → AreScales wanted items scales → i < length items → item ≡ get_or items i item
+    → IsScaled (map (λ words. words.now) wanted.scales.now) item.name.bytes (get_or scales i d)
+scale_at wanted [] scales i item d are less is = let wrong : ⊥ = omega arith in absurd wrong
+scale_at wanted (one ∷ items) [] i item d are less is = absurd are
+scale_at wanted (one ∷ items) (other ∷ scales) zero item d are less is = subst (λ (column : ColumnDefinition). IsScaled (map (λ words. words.now) wanted.scales.now) column.name.bytes other) (sym is) are.0
+scale_at wanted (one ∷ items) (other ∷ scales) (suc i) item d are less is = scale_at wanted items scales i item d are.1 (omega arith) is
+
+pub scales_length : (wanted : Wanted) (items : List ColumnDefinition) (scales : List Scale) → AreScales wanted items scales → length scales ≡ length items
+scales_length wanted [] [] are = refl
+scales_length wanted [] (one ∷ scales) are = absurd are
+scales_length wanted (one ∷ items) [] are = absurd are
+scales_length wanted (one ∷ items) (other ∷ scales) are = ap suc (scales_length wanted items scales are.1)
 
 -- ---- renamings
 

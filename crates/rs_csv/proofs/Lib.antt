@@ -13,3 +13,4 @@ mod Meeting
 mod Defining
 mod RouteLines
 mod Holding
+mod NamesFiles

@@ -10,8 +10,8 @@ use Rattle.rs_syntax.specs.Tree.{CommandTree}
 use Rattle.rs_machine.specs.Request.{Asks, command}
 use Rattle.rs_csv_lines.specs.declared.plan.Plan.{Plan}
 use Rattle.rs_csv_lines.specs.Inserts.{IsInsertOf}
-use Rattle.rs_csv.specs.declared.filter.Planned.{Planned}
-use Rattle.rs_csv.specs.declared.filter.Progress.{Progress}
+use Rattle.rs_csv.specs.declared.progress.Planned.{Planned}
+use Rattle.rs_csv.specs.declared.progress.Progress.{Progress}
 use Rattle.rs_csv.specs.declared.filter.Wanted.{Wanted}
 use Rattle.rs_csv.specs.declared.made.Made.{Made}
 use Rattle.rs_csv.specs.declared.routes.Extent.{Extent}

@@ -1,8 +1,9 @@
 -- What is put into a row of a record that is left out, by one more step.
-use Rattle.std.proofs.Common.{◌≡◌, ◌∙◌, ℕ, zero, suc, ◌+◌, ◌<◌, List, [], ◌∷◌, ◌++◌, Some, None, refl, sym, ap, append_assoc, append-nil, take, get_or, length, arith}
+use Rattle.std.proofs.Common.{◌≡◌, ◌∙◌, ℕ, zero, suc, ◌+◌, ◌<◌, List, [], ◌∷◌, ◌++◌, Option, Some, None, inl, refl, sym, ap, subst, append_assoc, append-nil, take, get_or, length, arith}
 use Rattle.std.proofs.lemmas.List.{replicate-append-replicate, take_more}
 use Rattle.csv.specs.Records.{field_at}
-use Rattle.rs_csv.specs.Rejects.{doubled, fields_text, padding, raw_field, twice}
+use Rattle.std.specs.Io.KnownBytes.{Appends}
+use Rattle.rs_csv.specs.Rejects.{GivesRow, doubled, fields_text, padding, raw_field, reject_line, twice}
 
 doubled_append : (a b : List ℕ) → doubled (a ++ b) ≡ doubled a ++ doubled b
 doubled_append [] b = refl
@@ -47,3 +48,16 @@ unfolding field_at
 field_there [] i less none = let wrong : ⊥ = omega arith in wrong
 field_there (one ∷ fields) zero less none = cc
 field_there (one ∷ fields) (suc i) less none = field_there fields i (omega arith) none
+
+-- ---- what is taken of a record
+
+-- where it isn't known what was taken, any row is
+pub gives_unknown : (separator : ℕ) (header fields : List (List ℕ)) (before after : Option (List ℕ)) → before ≡ None → GivesRow separator header fields before after
+gives_unknown separator header fields before after none = record {
+  head = [];
+  row = reject_line separator [] 0 [];
+  reason = [];
+  head_is = inl refl;
+  row_is = (0, 0, omega arith, refl);
+  taken = subst (λ known. Appends known after (reject_line separator [] 0 [])) (sym none) tt;
+}

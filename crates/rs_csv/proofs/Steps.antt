@@ -12,7 +12,7 @@ use Rattle.rs_syntax.specs.Tree.{CommandTree}
 use Rattle.rs_csv.specs.declared.batch.Batch.{Batch}
 use Rattle.rs_csv.specs.declared.batch.Taken.TheVariants as kinds
 use Rattle.rs_csv.specs.declared.batch.TheConstants.{RECORD_BYTES}
-use Rattle.rs_csv.specs.declared.filter.Progress.{Progress}
+use Rattle.rs_csv.specs.declared.progress.Progress.{Progress}
 use Rattle.rs_csv.specs.declared.filter.Stop.{Stop}
 use Rattle.rs_csv.specs.declared.filter.Wanted.{Wanted}
 use Rattle.rs_csv.specs.declared.quoting.Place.TheVariants as places

@@ -6,7 +6,7 @@ use Rattle.std.proofs.KnownBytes.{Appends-nil, Appends-trans}
 use Rattle.std.proofs.lemmas.Bool.{false≢true}
 use Rattle.rs_protocol.specs.Puts.{PutsBut}
 use Rattle.rs_syntax.specs.Tree.{CommandTree}
-use Rattle.rs_csv.specs.declared.filter.Progress.{Progress}
+use Rattle.rs_csv.specs.declared.progress.Progress.{Progress}
 use Rattle.rs_csv.specs.declared.filter.Wanted.{Wanted}
 use Rattle.rs_csv.specs.Cutting.{text_of}
 use Rattle.rs_csv.specs.Reading.{ReadsAll, nothing_read, one_more_batch}

@@ -6,6 +6,7 @@ use Rattle.csv.specs.Records.{field_at}
 use Rattle.rs_value.specs.declared.column.ColumnType.{ColumnType}
 use Rattle.rs_value.specs.declared.column.Kind.{Kind}
 use Rattle.rs_value.specs.declared.column.Kind.TheVariants as kinds
+use Rattle.rs_syntax.specs.declared.commands.ColumnDefinition.{ColumnDefinition}
 use Rattle.rs_csv_lines.specs.declared.plan.Column.{Column}
 use Rattle.rs_csv_lines.specs.declared.plan.Place.{Place}
 use Rattle.rs_csv_lines.specs.declared.plan.Source.{Source}
@@ -133,3 +134,9 @@ abbrev pub AreColumnsOf : Wanted → List (List ℕ) → List (List ℕ × Colum
 AreColumnsOf wanted header [] [] = Unit {0}
 AreColumnsOf wanted header (definition ∷ definitions) (column ∷ columns) = IsColumnOf wanted header definition column × AreColumnsOf wanted header definitions columns
 AreColumnsOf wanted header _ _ = ⊥
+
+-- the scale of each column, in their order
+abbrev pub AreScales : Wanted → List ColumnDefinition → List Scale → Type 0
+AreScales wanted [] [] = Unit {0}
+AreScales wanted (column ∷ columns) (scale ∷ scales) = IsScaled (map (λ words. words.now) wanted.scales.now) column.name.bytes scale × AreScales wanted columns scales
+AreScales wanted _ _ = ⊥

@@ -7,3 +7,5 @@ pub mod Cutting
 pub mod Reading
 pub mod Output
 pub mod Laws
+pub mod Stops
+pub mod NamesFile

@@ -12,16 +12,17 @@ use Rattle.rs_syntax.specs.Tree.{CommandTree, define_table}
 use Rattle.rs_syntax.specs.View.{column_tree}
 use Rattle.rs_machine.specs.Request.{Asks, command}
 use Rattle.rs_csv_lines.specs.declared.plan.Plan.{Plan}
+use Rattle.rs_csv_lines.specs.declared.plan.Scale.{Scale}
 use Rattle.rs_csv_lines.specs.Inserts.{IsInsertOf}
 use Rattle.rs_csv_lines.specs.Texts.{session_text}
-use Rattle.rs_csv.specs.Header.{AreColumnsOf, IsNamed, IsPlaceNamed}
+use Rattle.rs_csv.specs.Header.{AreColumnsOf, AreScales, IsNamed, IsPlaceNamed}
 use Rattle.rs_csv.specs.Cutting.{IsBatchOf, IsCut, kept, kept_of}
 use Rattle.rs_csv.specs.Reading.{AreReadOf}
 use Rattle.rs_csv.specs.Routes.{DefineRoutes, HaveMet, IsMet, MeetsMore, Placed}
 use Rattle.rs_csv.specs.declared.batch.Batch.{Batch}
 use Rattle.rs_csv.specs.declared.definition.Definition.{Definition}
-use Rattle.rs_csv.specs.declared.filter.Planned.{Planned}
-use Rattle.rs_csv.specs.declared.filter.Progress.{Progress}
+use Rattle.rs_csv.specs.declared.progress.Planned.{Planned}
+use Rattle.rs_csv.specs.declared.progress.Progress.{Progress}
 use Rattle.rs_csv.specs.declared.filter.Stop.{Stop}
 use Rattle.rs_csv.specs.declared.filter.Wanted.{Wanted}
 use Rattle.rs_csv.specs.declared.made.Made.{Made}
@@ -46,10 +47,11 @@ pub record JobParts : Type 0 where
   pub wanted : Wanted
   pub definition : Definition
 
--- The lines are of a session that there is, and the table is defined by a line of that session.
-pub record IsJob (wanted : Wanted) (definition : Definition) : Type 0 where
+-- The lines are of a session that there is, the table is defined by a line of that session, and these are the scales of its columns.
+pub record IsJob (wanted : Wanted) (definition : Definition) (scales : List Scale) : Type 0 where
   pub in_range : wanted.session < 64
   pub defines : IsDefinition wanted.session definition
+  pub scaled : AreScales wanted definition.columns.items scales
 
 -- The plan is of this table: its name, and its columns in their order. Each field that it takes has in the header the name that is wanted.
 pub record IsPlanOf (wanted : Wanted) (table : CommandTree) (header : List (List ℕ)) (plan : Plan) : Type 0 where

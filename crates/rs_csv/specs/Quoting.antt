@@ -18,13 +18,13 @@ after separator places.Plain byte = after_plain separator byte
 after separator places.Inside byte = if byte == 34 then places.Behind else places.Inside
 after separator places.Behind byte = if byte == 34 then places.Inside else after_plain separator byte
 
--- it goes on a field without quotes, or begins one
-abbrev pub is_plain : ℕ → ℕ → Bool
-is_plain separator byte = not (byte == separator || is_line_end byte || byte == 34)
+-- it goes on a record outside quotes
+abbrev pub goes_on : ℕ → Bool
+goes_on byte = not (is_line_end byte || byte == 34)
 
-abbrev pub ArePlain : ℕ → List ℕ → Type 0
-ArePlain separator [] = Unit {0}
-ArePlain separator (byte ∷ bytes) = (is_plain separator byte ≡ true) × ArePlain separator bytes
+abbrev pub AreRun : List ℕ → Type 0
+AreRun [] = Unit {0}
+AreRun (byte ∷ bytes) = (goes_on byte ≡ true) × AreRun bytes
 
 -- a place outside quotes
 abbrev pub IsOutside : Place → Type 0

@@ -5,8 +5,8 @@
 ghost use Rattle.std.specs.Prelude.{◌≡◌, ◌≤◌, ◌+◌, [], ◌∷◌, ◌++◌, ℕ, List, IfOk, OnOk, length, take};
 ghost use Rattle.rs_csv.specs.Cutting.{EndsRecord, GoesOn, IsBatchOf, IsBatchWithin, IsBetween, Runs, Takes, after_all};
 
-use crate::quoting::{Place, count_plain, push_marked};
-use crate::spot::count_lines;
+use crate::quoting::{Place, count_run, push_marked};
+use crate::spot::Lines;
 use std::alloc::{AllocError, Global};
 
 /// How many bytes a record has at the most, beside its line end.
@@ -43,8 +43,10 @@ pub struct Batch {
     length: usize,
     // Whether it is too long.
     is_long: bool,
-    // How many line feeds the one had that is too long, or was so last.
-    long_lines: u64,
+    // The lines that have ended so far.
+    lines: Lines,
+    // Those that had ended where that record begins.
+    begun_lines: Lines,
 }
 
 impl Batch {
@@ -60,7 +62,8 @@ impl Batch {
             begun: 1,
             length: 0,
             is_long: false,
-            long_lines: 0,
+            lines: Lines::new(),
+            begun_lines: Lines::new(),
         })
     }
 
@@ -83,9 +86,14 @@ impl Batch {
         self.is_long
     }
 
-    /// How many line feeds the record had that is too long, or was so last.
-    pub fn long_lines(&self) -> u64 {
-        self.long_lines
+    /// The lines of the input that have ended so far.
+    pub fn lines(&self) -> Lines {
+        self.lines
+    }
+
+    /// Those that had ended where the record begins that has not ended.
+    pub fn begun_lines(&self) -> Lines {
+        self.begun_lines
     }
 
     /// Takes the records away.
@@ -105,46 +113,33 @@ impl Batch {
         }
         self.length = self.length.saturating_add(1);
         self.place = self.place.after(self.separator, byte);
+        self.lines = self.lines.after(byte);
         Ok(())
     }
 
     // At the end of a record.
-    fn end_record(&mut self, byte: u8) -> Taken
+    fn end_record(&mut self) -> Taken
         ensures { (separator : ℕ) (whole : List ℕ) (raw : List ℕ) → IsBatchWithin (RECORD_BYTES + 1) separator self.old whole raw → after_all separator Place.Start raw ≡ Place.Start → EndsRecord separator result self.new whole raw }
     {
         self.begun = self.text.len();
         self.length = 0;
+        self.begun_lines = self.lines;
         if self.is_long {
             self.is_long = false;
-            self.count_long(byte);
             Taken::EndedLong
         } else {
             Taken::Ended
         }
     }
 
-    // Counts the line feeds of a record that is too long.
-    fn count_long(&mut self, byte: u8)
-        ensures { self.new ≡ record self.old { long_lines = self.new.long_lines } }
-    {
-        if byte == b'\n' {
-            self.long_lines = self.long_lines.saturating_add(1);
-        }
-    }
-
     // After a byte that ends no record.
-    fn go_on(&mut self, byte: u8) -> Taken
+    fn go_on(&mut self) -> Taken
         ensures { (separator : ℕ) (whole : List ℕ) (begun : List ℕ) → IsBatchWithin (RECORD_BYTES + 1) separator self.old whole begun → GoesOn separator result self.new whole begun }
     {
         if self.is_long {
-            self.count_long(byte);
             return Taken::Within;
         }
         if self.length > RECORD_BYTES {
-            self.long_lines = match self.text.get(self.begun..) {
-                Some(taken) => count_lines(taken),
-                None => 0,
-            };
             self.text.truncate(self.begun);
             self.is_long = true;
             return Taken::TooLong;
@@ -152,7 +147,7 @@ impl Batch {
         Taken::Within
     }
 
-    /// Takes the bytes at the beginning that go on a field without quotes, where the next byte stands in none, and says how many.
+    /// Takes the bytes at the beginning that go on the record outside quotes, where the next byte stands in none, and says how many.
     pub fn take_run(&mut self, bytes: &[u8]) -> Result<usize, AllocError>
         ensures within { IfOk result (λ count. count ≤ length bytes.now) }
         ensures runs { IfOk result (λ count. (separator : ℕ) (whole : List ℕ) (begun : List ℕ) → IsBatchOf separator self.old whole begun → Runs separator self.new whole begun (take count bytes.now)) }
@@ -160,14 +155,19 @@ impl Batch {
         if self.is_long || !self.place.is_outside() {
             return Ok(0);
         }
-        let count = count_plain(self.separator, bytes);
+        let count = count_run(bytes);
+        let run = &bytes[..count];
         let length = self.length.saturating_add(count);
-        if count == 0 || length > RECORD_BYTES {
+        let Some((last, _)) = run.split_last() else {
+            return Ok(0);
+        };
+        if length > RECORD_BYTES {
             return Ok(0);
         }
-        self.text.extend_from_slice(&bytes[..count])?;
+        self.text.extend_from_slice(run)?;
         self.length = length;
-        self.place = Place::Plain;
+        self.place = Place::Plain.after(self.separator, *last);
+        self.lines = self.lines.within();
         Ok(count)
     }
 
@@ -178,9 +178,9 @@ impl Batch {
         let ends = self.place.ends_record(byte);
         self.push(byte)?;
         if ends {
-            Ok(self.end_record(byte))
+            Ok(self.end_record())
         } else {
-            Ok(self.go_on(byte))
+            Ok(self.go_on())
         }
     }
 }

@@ -1,6 +1,6 @@
 //! The filter: CSV is read in pieces, and the lines of its records are written.
 
-ghost use Rattle.std.specs.Prelude.{◌≡◌, ◌⊎◌, ◌+◌, ◌<◌, [], ◌∷◌, ◌++◌, OnOk, OnErr, IfOk, ℕ, List, Option, None, IsSome, Ok, false, true};
+ghost use Rattle.std.specs.Prelude.{◌≡◌, ◌⊎◌, ◌+◌, ◌<◌, [], ◌∷◌, ◌++◌, OnOk, OnErr, IfErr, IfOk, ℕ, List, Option, None, IsSome, Ok, false, true};
 ghost use Rattle.std.specs.List.{concat};
 ghost use Rattle.std.specs.Io.KnownBytes.{Appends, Consumes, Keeps};
 ghost use Rattle.csv.specs.Records.{fields_of};
@@ -10,21 +10,22 @@ ghost use Rattle.rs_csv.specs.Cutting.{IsBatchOf, IsBetween, text_of};
 ghost use Rattle.rs_csv.specs.Output.{Defines, Ends, EndsTaken, GoesFar, IsAsked, IsPlanOf, IsQuiet, Makes, SoFar, TakesHead, TakesInput, TakesMore, TakesRest, held_lines, table_of};
 ghost use Rattle.rs_csv.specs.Reading.{ReadsAll};
 ghost use Rattle.rs_csv.specs.Routes.{HaveMet};
+ghost use Rattle.rs_csv.specs.Stops.{IsFailure, IsMidway, IsOfWords};
 
 use crate::batch::{Batch, Taken};
 use crate::definition::{Definition, are_scales, is_number_column, read_definition};
 use crate::head::{is_mark, read_head};
-use crate::header::make_plan;
+use crate::header::column_scales;
 use crate::held::write_rest;
-use crate::made::{Made, next_number, push_line, take_record};
+use crate::made::take_record;
+use crate::names_file::MadeNames;
+use crate::progress::{Progress, header_of, hold_made, leave_out_long, take_header, write_made};
 use crate::rejects::Rejecting;
-use crate::spot::{Spot, lines_in};
-use crate::tell::{tell_record, tell_rounded};
-use crate::texts::Texts;
-use crate::told::Kind;
+use crate::spot::{Lines, LinesRead};
+use crate::tell::tell_rounded;
 use csv::{ByteRecord, ReaderBuilder};
-use rs_csv_lines::Plan;
-use rs_protocol::{Fault, put_parts};
+use rs_csv_lines::Scale;
+use rs_protocol::Fault;
 use rs_refusal::Refusal;
 use std::alloc::{AllocError, AllocFailed, Global};
 use std::io::{Read, Write};
@@ -120,6 +121,8 @@ pub struct Job<'a> {
     pub wanted: Wanted<'a>,
     /// The table.
     pub definition: Definition,
+    /// What the numbers of each column are multiplied by.
+    pub scales: Vec<Scale>,
 }
 
 impl<'a> Model for Job<'a> {
@@ -129,47 +132,7 @@ impl<'a> Model for Job<'a> {
 
     ghost view = { λ job. record { wanted = job.wanted; definition = job.definition } };
 
-    ghost invariant = { λ job. IsJob job.wanted job.definition };
-}
-
-/// How the records are made into lines, by their header.
-#[derive(Drop)]
-pub struct Planned {
-    /// What is to be written for each record.
-    pub plan: Plan,
-    /// The names of the fields.
-    pub header: ByteRecord,
-    /// The byte between two fields.
-    pub separator: u8,
-}
-
-/// What was read and made so far.
-#[derive(Drop)]
-pub struct Progress {
-    /// The plan, once the header was read.
-    pub planned: Option<Planned>,
-    /// What is made of the records.
-    pub made: Made,
-    /// The lines that are held until the routes are known.
-    pub held: Vec<Vec<u8>>,
-}
-
-impl Progress {
-    /// Nothing.
-    pub fn new(alloc: Global, defines_routes: bool) -> Self
-        ensures planned { result.planned ≡ None }
-        ensures bytes { result.made.bytes.items ≡ [] }
-        ensures told { result.made.has_told ≡ false }
-        ensures number { result.made.number ≡ 0 }
-        ensures held { result.held.items ≡ [] }
-        ensures routes { defines_routes ≡ true → HaveMet result.made.extents [] }
-    {
-        Progress {
-            planned: None,
-            made: Made::new(alloc, defines_routes),
-            held: Vec::new(alloc),
-        }
-    }
+    ghost invariant = { λ job. IsJob job.wanted job.definition job.scales.items };
 }
 
 /// What is to be made of a CSV, and what was read and made of it so far.
@@ -183,7 +146,7 @@ pub struct Filter<'a> {
 
 impl<'a> Model for Filter<'a> {
     ghost use Rattle.std.specs.Coded.{codes};
-    ghost use Rattle.rs_csv.specs.contracts.filter.Progress.{the_row};
+    ghost use Rattle.rs_csv.specs.contracts.progress.Progress.{the_row};
     ghost use Rattle.rs_csv.specs.Output.{FilterParts, IsPlanned, table_of};
 
     ghost Value = { FilterParts };
@@ -195,103 +158,6 @@ impl<'a> Model for Filter<'a> {
     ghost invariant = { λ filter. IsPlanned filter.job.now.wanted (table_of filter.job.now.definition) filter.progress };
 }
 
-// Makes the line that defines the table, where it is wanted.
-fn put_definition(job: &Job<'_>, bytes: &mut Vec<u8>) -> Result<(), AllocError>
-    ensures { OnOk result (Defines job.now.wanted.session (table_of job.now.definition) bytes.old.items bytes.new.items) }
-{
-    if !job.wanted.defines_table {
-        return Ok(());
-    }
-    push_line(bytes, job.definition.line.as_str())
-}
-
-// Takes the first record, which is the header.
-fn take_header<E: Write>(
-    job: &Job<'_>,
-    header: ByteRecord,
-    made: &mut Made,
-    errors: &mut E,
-) -> Result<Planned, Stop>
-    ensures header { IfOk result (λ planned. planned.header ≡ header) }
-    ensures plan { IfOk result (λ planned. IsPlanOf job.now.wanted (table_of job.now.definition) (fields_of header) planned.plan) }
-    ensures made { OnOk result (Defines job.now.wanted.session (table_of job.now.definition) made.old.bytes.items made.new.bytes.items) }
-    ensures number { made.new.number ≡ made.old.number }
-    ensures texts { made.new.texts ≡ made.old.texts }
-    ensures extents { made.new.extents ≡ made.old.extents }
-    ensures quiet { OnOk result (IsQuiet made.old.has_told made.new.has_told (E.contents errors.old) (E.contents errors.new)) }
-{
-    let plan = make_plan(job.alloc, &job.definition, &header, &job.wanted, errors)?;
-    put_definition(job, &mut made.bytes)?;
-    let separator = job.wanted.separator;
-    Ok(Planned {
-        plan,
-        header,
-        separator,
-    })
-}
-
-// Writes the lines that were made.
-fn write_made<W: Write>(made: &mut Made, output: &mut W) -> Result<(), Stop>
-    ensures sent { OnOk result ((made.new.bytes.items ≡ []) × Appends (W.contents output.old) (W.contents output.new) made.old.bytes.items) }
-    ensures fault { OnErr result ((lost : List ℕ) × PutsBut made.old.bytes.items lost (W.contents output.old) (W.contents output.new)) }
-    ensures told { made.new.has_told ≡ made.old.has_told }
-    ensures number { made.new.number ≡ made.old.number }
-    ensures texts { made.new.texts ≡ made.old.texts }
-    ensures extents { made.new.extents ≡ made.old.extents }
-{
-    match put_parts(output, &[made.bytes.as_slice()]) {
-        Ok(()) => {
-            made.bytes.clear();
-            Ok(())
-        }
-        Err(fault) => Err(Stop::Stream(fault)),
-    }
-}
-
-// Holds the lines that were made until the routes are known.
-fn hold_made(alloc: Global, progress: &mut Progress) -> Result<(), Stop>
-    ensures held { OnOk result ((progress.new.made.bytes.items ≡ []) × (held_lines progress.new ≡ held_lines progress.old ++ progress.old.made.bytes.items)) }
-    ensures plan { progress.new.planned ≡ progress.old.planned }
-    ensures told { progress.new.made.has_told ≡ progress.old.made.has_told }
-    ensures number { progress.new.made.number ≡ progress.old.made.number }
-    ensures texts { progress.new.made.texts ≡ progress.old.made.texts }
-    ensures extents { progress.new.made.extents ≡ progress.old.made.extents }
-{
-    let lines = Vec::from_slice(alloc, progress.made.bytes.as_slice())?;
-    progress.held.push(lines)?;
-    progress.made.bytes.clear();
-    Ok(())
-}
-
-// Tells of a record that is too long, of so many lines. There is no header after one that is.
-fn leave_out_long<E: Write>(progress: &mut Progress, lines: u64, errors: &mut E) -> Result<(), Stop>
-    ensures plan { progress.new.planned ≡ progress.old.planned }
-    ensures bytes { progress.new.made.bytes.items ≡ progress.old.made.bytes.items }
-    ensures told { progress.new.made.has_told ≡ true }
-    ensures number { OnOk result (progress.new.made.number ≡ progress.old.made.number + 1) }
-    ensures plans { OnOk result (IsSome progress.new.planned) }
-    ensures texts { progress.new.made.texts ≡ progress.old.made.texts }
-    ensures extents { progress.new.made.extents ≡ progress.old.made.extents }
-    ensures held { progress.new.held ≡ progress.old.held }
-{
-    progress.made.has_told = true;
-    let line = progress.made.lines.saturating_add(1);
-    progress.made.lines = progress.made.lines.saturating_add(lines);
-    if progress.planned.is_none() {
-        let spot = Spot { number: 0, line };
-        tell_record(errors, spot, Kind::LongRecord.words());
-        return Err(Stop::NoColumn);
-    }
-    progress.made.number = next_number(progress.made.number)?;
-    let number = progress.made.number;
-    progress.made.told.leave_out();
-    if progress.made.told.meet(Kind::LongRecord) {
-        let spot = Spot { number, line };
-        tell_record(errors, spot, Kind::LongRecord.words());
-    }
-    Ok(())
-}
-
 impl Filter<'_> {
     // Takes a record.
     fn take_next<E: Write, X: Rejecting>(
@@ -301,6 +167,7 @@ impl Filter<'_> {
         errors: &mut E,
         rejects: &mut X,
     ) -> Result<(), Stop>
+        ensures stops { IfErr result IsMidway }
         ensures job { self.new.job ≡ self.old.job }
         ensures made { OnOk result (Makes self.old.job.wanted (table_of self.old.job.definition) (fields_of csv_record.now ∷ []) self.old.progress self.new.progress) }
         ensures quiet { OnOk result (IsQuiet self.old.progress.made.has_told self.new.progress.made.has_told (E.contents errors.old) (E.contents errors.new)) }
@@ -326,23 +193,25 @@ impl Filter<'_> {
         }
     }
 
-    // Counts the lines of a text that was read.
-    fn end_text(&mut self, lines: u64)
+    // Ends a text, after which so many lines have ended.
+    fn end_text(&mut self, after: Lines)
         ensures job { self.new.job ≡ self.old.job }
         ensures made { Makes self.old.job.wanted (table_of self.old.job.definition) [] self.old.progress self.new.progress }
         ensures told { self.new.progress.made.has_told ≡ self.old.progress.made.has_told }
         ensures held { self.new.progress.held ≡ self.old.progress.held }
     {
-        self.progress.made.lines = self.progress.made.lines.saturating_add(lines);
+        self.progress.made.lines = LinesRead::before_text(after);
     }
 
-    // Makes the lines of the records of a text.
+    // Makes the lines of the records of a text, after which so many lines have ended.
     fn read_records<E: Write, X: Rejecting>(
         &mut self,
         text: &[u8],
+        after: Lines,
         errors: &mut E,
         rejects: &mut X,
     ) -> Result<(), Stop>
+        ensures stops { IfErr result IsMidway }
         ensures job { self.new.job ≡ self.old.job }
         ensures made { OnOk result ((records : List (List (List ℕ))) × ReadsAll self.old.job.wanted.separator text.now records × Makes self.old.job.wanted (table_of self.old.job.definition) records self.old.progress self.new.progress) }
         ensures quiet { OnOk result (IsQuiet self.old.progress.made.has_told self.new.progress.made.has_told (E.contents errors.old) (E.contents errors.new)) }
@@ -359,7 +228,7 @@ impl Filter<'_> {
             match reader.read_byte_record(&mut record) {
                 Ok(true) => self.take_next(&record, text, errors, rejects)?,
                 Ok(false) => {
-                    self.end_text(lines_in(reader.position()));
+                    self.end_text(after);
                     return Ok(());
                 }
                 Err(_) => return Err(Stop::OutOfMemory),
@@ -368,19 +237,21 @@ impl Filter<'_> {
         Err(Stop::OutOfMemory)
     }
 
-    // Takes the text of records: their lines are written, or held until the routes are known.
+    // Takes the text of records, after which so many lines have ended: theirs are written, or held until the routes are known.
     fn take_text<W: Write, E: Write, X: Rejecting>(
         &mut self,
         text: &[u8],
+        after: Lines,
         output: &mut W,
         errors: &mut E,
         rejects: &mut X,
     ) -> Result<(), Stop>
+        ensures stops { IfErr result IsMidway }
         ensures job { self.new.job ≡ self.old.job }
         ensures taken { (more : List (List ℕ)) → text.now ≡ text_of self.old.job.wanted.separator more → TakesMore self.old.job.wanted (table_of self.old.job.definition) result more self.old.progress self.new.progress (W.contents output.old) (W.contents output.new) }
         ensures quiet { OnOk result (IsQuiet self.old.progress.made.has_told self.new.progress.made.has_told (E.contents errors.old) (E.contents errors.new)) }
     {
-        if let Err(stop) = self.read_records(text, errors, rejects) {
+        if let Err(stop) = self.read_records(text, after, errors, rejects) {
             return Err(stop);
         }
         let job = self.job;
@@ -399,13 +270,15 @@ impl Filter<'_> {
         errors: &mut E,
         rejects: &mut X,
     ) -> Result<(), Stop>
+        ensures stops { IfErr result IsMidway }
         ensures job { self.new.job ≡ self.old.job }
         ensures taken { (more : List (List ℕ)) (begun : List ℕ) → IsBatchOf self.old.job.wanted.separator batch.old (concat more) begun → IsBetween batch.old begun
             → TakesMore self.old.job.wanted (table_of self.old.job.definition) result more self.old.progress self.new.progress (W.contents output.old) (W.contents output.new) }
         ensures batch { (whole : List ℕ) (begun : List ℕ) → IsBatchOf self.old.job.wanted.separator batch.old whole begun → IsBetween batch.old begun → OnOk result (IsBatchOf self.old.job.wanted.separator batch.new [] begun) }
         ensures quiet { OnOk result (IsQuiet self.old.progress.made.has_told self.new.progress.made.has_told (E.contents errors.old) (E.contents errors.new)) }
     {
-        if let Err(stop) = self.take_text(batch.text(), output, errors, rejects) {
+        let after = batch.begun_lines();
+        if let Err(stop) = self.take_text(batch.text(), after, output, errors, rejects) {
             return Err(stop);
         }
         batch.clear();
@@ -421,6 +294,7 @@ impl Filter<'_> {
         errors: &mut E,
         rejects: &mut X,
     ) -> Result<(), Stop>
+        ensures stops { IfErr result IsMidway }
         ensures job { self.new.job ≡ self.old.job }
         ensures far { GoesFar self.old.job.wanted (table_of self.old.job.definition) result (byte ∷ []) batch.old batch.new self.old.progress self.new.progress (W.contents output.old) (W.contents output.new) }
         ensures quiet { OnOk result (IsQuiet self.old.progress.made.has_told self.new.progress.made.has_told (E.contents errors.old) (E.contents errors.new)) }
@@ -438,7 +312,7 @@ impl Filter<'_> {
                 }
             }
             Taken::TooLong => self.take_batch(batch, output, errors, rejects),
-            Taken::EndedLong => { leave_out_long(&mut self.progress, batch.long_lines(), errors) }
+            Taken::EndedLong => leave_out_long(&mut self.progress, batch.begun_lines(), errors),
         }
     }
 
@@ -451,6 +325,7 @@ impl Filter<'_> {
         errors: &mut E,
         rejects: &mut X,
     ) -> Result<(), Stop>
+        ensures stops { IfErr result IsMidway }
         ensures job { self.new.job ≡ self.old.job }
         ensures far { GoesFar self.old.job.wanted (table_of self.old.job.definition) result piece.now batch.old batch.new self.old.progress self.new.progress (W.contents output.old) (W.contents output.new) }
         ensures quiet { OnOk result (IsQuiet self.old.progress.made.has_told self.new.progress.made.has_told (E.contents errors.old) (E.contents errors.new)) }
@@ -480,6 +355,7 @@ impl Filter<'_> {
         errors: &mut E,
         rejects: &mut X,
     ) -> Result<bool, Stop>
+        ensures stops { IfErr result IsMidway }
         ensures job { self.new.job ≡ self.old.job }
         ensures far { (before : Option (List ℕ)) → SoFar self.old.job.wanted (table_of self.old.job.definition) before batch.old self.old.progress [] (W.contents output.old)
             → TakesHead self.old.job.wanted (table_of self.old.job.definition) result before batch.new self.new.progress (R.remaining input.old) (R.remaining input.new) (W.contents output.new) }
@@ -507,16 +383,17 @@ impl Filter<'_> {
         errors: &mut E,
         rejects: &mut X,
     ) -> Result<(), Stop>
+        ensures stops { IfErr result IsMidway }
         ensures job { self.new.job ≡ self.old.job }
         ensures far { TakesRest self.old.job.wanted (table_of self.old.job.definition) result batch.old self.old.progress self.new.progress (W.contents output.old) (W.contents output.new) }
         ensures quiet { OnOk result (IsQuiet self.old.progress.made.has_told self.new.progress.made.has_told (E.contents errors.old) (E.contents errors.new)) }
     {
         if batch.is_within_long() {
-            if let Err(stop) = leave_out_long(&mut self.progress, batch.long_lines(), errors) {
+            if let Err(stop) = leave_out_long(&mut self.progress, batch.lines(), errors) {
                 return Err(stop);
             }
         }
-        self.take_text(batch.text(), output, errors, rejects)
+        self.take_text(batch.text(), batch.lines(), output, errors, rejects)
     }
 
     // Reads the records to the end of the input.
@@ -532,6 +409,7 @@ impl Filter<'_> {
         requires no_number { self.old.progress.made.number ≡ 0 }
         requires none_held { self.old.progress.held.items ≡ [] }
         requires none_met { self.old.job.wanted.defines_routes ≡ true → HaveMet self.old.progress.made.extents [] }
+        ensures stops { IfErr result IsMidway }
         ensures input { TakesInput self.old.job.wanted (table_of self.old.job.definition) result self.new.progress (R.remaining input.old) (R.remaining input.new) (W.contents output.old) (W.contents output.new) }
         ensures quiet { OnOk result (IsQuiet self.old.progress.made.has_told self.new.progress.made.has_told (E.contents errors.old) (E.contents errors.new)) }
     {
@@ -573,6 +451,7 @@ fn end_lines<W: Write, E: Write>(
     output: &mut W,
     errors: &mut E,
 ) -> Result<bool, Stop>
+    ensures stops { IfErr result IsFailure }
     ensures wrote { EndsTaken job.now.wanted (table_of job.now.definition) result progress.old (W.contents output.old) (W.contents output.new) }
     ensures told { IfOk result (λ told. told ≡ false → progress.old.made.has_told ≡ false) }
     ensures quiet { result ≡ Ok false → job.now.wanted.rounds ≡ false → Keeps (E.contents errors.old) (E.contents errors.new) }
@@ -600,8 +479,8 @@ fn check_words(definition: &Definition, wanted: &Wanted<'_>) -> Result<(), Stop>
     }
 }
 
-/// Writes the lines of a CSV, and says whether something was told and left out. Where measures are rounded, it is told of how many. The texts
-/// are given of which names were made.
+/// Writes the lines of a CSV, and says whether something was told and left out. Where measures are rounded, it is told of how many. What
+/// names were made of is given.
 ///
 /// The lines are of the table that the words define. `Refused` where `run` refuses the line that the words are, `NoTable` where it defines no table, `NoScale` where they scale no column of numbers, `NoNumber` where they number none; `NoColumn` where the header lacks a column, which is told. Then nothing is written.
 pub fn write_lines<R: Read, W: Write, E: Write, X: Rejecting>(
@@ -611,9 +490,10 @@ pub fn write_lines<R: Read, W: Write, E: Write, X: Rejecting>(
     output: &mut W,
     errors: &mut E,
     rejects: &mut X,
-    texts: &mut Texts,
+    names: &mut MadeNames,
 ) -> Result<bool, Stop>
     requires { wanted.session < 64 }
+    ensures of_words { IfErr result (λ stop. IsOfWords stop → Consumes (R.remaining input.old) (R.remaining input.new) [] × Keeps (W.contents output.old) (W.contents output.new)) }
     ensures wrote { (table : CommandTree) × (IsAsked wanted.entry table ⊎ Keeps (W.contents output.old) (W.contents output.new))
         × ((told : List ℕ) × Consumes (R.remaining input.old) (R.remaining input.new) told
         × Ends wanted.entry table result told (R.remaining input.new) (W.contents output.old) (W.contents output.new)) }
@@ -627,10 +507,15 @@ pub fn write_lines<R: Read, W: Write, E: Write, X: Rejecting>(
     if let Err(stop) = check_words(&definition, &wanted) {
         return Err(stop);
     }
+    let scales = match column_scales(alloc, &definition, &wanted) {
+        Ok(scales) => scales,
+        Err(stop) => return Err(stop),
+    };
     let job = Job {
         alloc,
         wanted,
         definition,
+        scales,
     };
     let mut filter = Filter {
         job: &job,
@@ -642,6 +527,7 @@ pub fn write_lines<R: Read, W: Write, E: Write, X: Rejecting>(
     let mut progress = filter.progress;
     let result = end_lines(&job, &mut progress, output, errors);
     let made = progress.made;
-    *texts = made.texts;
+    names.texts = made.texts;
+    names.header = header_of(progress.planned);
     result
 }

@@ -1,7 +1,8 @@
 //! The head of the input: its first three bytes, which may be a byte order mark.
 
-ghost use Rattle.std.specs.Prelude.{◌≡◌, ◌<◌, ◌∷◌, [], ◌↔◌, length, ℕ, List, MatchResult, IsTrue};
+ghost use Rattle.std.specs.Prelude.{◌≡◌, ◌<◌, ◌∷◌, [], ◌↔◌, length, ℕ, List, IfErr, MatchResult, IsTrue};
 ghost use Rattle.std.specs.Io.KnownBytes.{Consumes, IsAtEnd};
+ghost use Rattle.rs_csv.specs.Stops.{IsFailure};
 
 use crate::filter::Stop;
 use arrayvec::ArrayVec;
@@ -13,7 +14,8 @@ const BYTE_ORDER_MARK: [u8; 3] = [0xef, 0xbb, 0xbf];
 
 /// The first three bytes of the input, or all where there are fewer.
 pub fn read_head<R: Read>(input: &mut R) -> Result<ArrayVec<u8, 3>, Stop>
-    ensures { MatchResult result (λ head. Consumes (R.remaining input.old) (R.remaining input.new) head.items × (length head.items < 3 → IsAtEnd (R.remaining input.new)))
+    ensures stops { IfErr result IsFailure }
+    ensures read { MatchResult result (λ head. Consumes (R.remaining input.old) (R.remaining input.new) head.items × (length head.items < 3 → IsAtEnd (R.remaining input.new)))
         (λ _. (told : List ℕ) × Consumes (R.remaining input.old) (R.remaining input.new) told) }
 {
     let mut head = ArrayVec::new();

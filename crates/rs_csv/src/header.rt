@@ -1,10 +1,11 @@
 //! The header: which field gives the route, the place, and each column of the table.
 
-ghost use Rattle.std.specs.Prelude.{◌≡◌, ◌↔◌, ◌<◌, ℕ, List, IfOk, OnOk, map, true};
+ghost use Rattle.std.specs.Prelude.{◌≡◌, ◌↔◌, ◌<◌, ℕ, List, IfErr, IfOk, OnOk, map, true};
 ghost use Rattle.std.specs.Io.KnownBytes.{Keeps};
 ghost use Rattle.csv.specs.Records.{fields_of};
-ghost use Rattle.rs_csv.specs.Header.{IsCalled, IsNamed, IsNumbered, IsPlaceNamed, IsScaled, IsSourceOf};
+ghost use Rattle.rs_csv.specs.Header.{AreScales, IsCalled, IsNamed, IsNumbered, IsPlaceNamed, IsScaled, IsSourceOf};
 ghost use Rattle.rs_csv.specs.Output.{IsDefinition, IsPlanOf, table_of};
+ghost use Rattle.rs_csv.specs.Stops.{IsMidway};
 
 use crate::definition::Definition;
 use crate::filter::{Stop, Wanted};
@@ -22,6 +23,7 @@ fn column_field<E: Write>(
     column: &str,
     errors: &mut E,
 ) -> Result<usize, Stop>
+    ensures stops { IfErr result IsMidway }
     ensures named { IfOk result (λ place. (name : List ℕ) × IsCalled (map (λ words. words.now) wanted.now.columns.now) column.now name
         × IsNamed wanted.now.makes_names (fields_of header.now) name place) }
     ensures quiet { OnOk result (Keeps (E.contents errors.old) (E.contents errors.new)) }
@@ -53,6 +55,7 @@ fn column_source<E: Write>(
     column: &str,
     errors: &mut E,
 ) -> Result<Source, Stop>
+    ensures stops { IfErr result IsMidway }
     ensures source { IfOk result (λ source. IsSourceOf wanted.now (fields_of header.now) column.now source) }
     ensures quiet { OnOk result (Keeps (E.contents errors.old) (E.contents errors.new)) }
 {
@@ -65,7 +68,8 @@ fn column_source<E: Write>(
 
 // What the numbers of a column are multiplied by: 1, where the words do not say so.
 fn column_scale(wanted: &Wanted<'_>, column: &str) -> Result<Scale, Stop>
-    ensures { IfOk result (λ scale. IsScaled (map (λ words. words.now) wanted.now.scales.now) column.now scale) }
+    ensures scaled { IfOk result (λ scale. IsScaled (map (λ words. words.now) wanted.now.scales.now) column.now scale) }
+    ensures stops { IfErr result (λ stop. stop ≡ Stop.NoScale) }
 {
     for telling in wanted.scales {
         if let Some((name, text)) = telling.split_once('=') {
@@ -80,6 +84,22 @@ fn column_scale(wanted: &Wanted<'_>, column: &str) -> Result<Scale, Stop>
     Ok(Scale::One)
 }
 
+/// What the numbers of each column of a table are multiplied by.
+pub fn column_scales(
+    alloc: Global,
+    definition: &Definition,
+    wanted: &Wanted<'_>,
+) -> Result<Vec<Scale>, Stop>
+    ensures { IfOk result (λ scales. AreScales wanted.now definition.now.columns.items scales.items) }
+{
+    let mut scales = Vec::new(alloc);
+    for column in &definition.columns {
+        let scale = column_scale(wanted, column.name.as_str())?;
+        scales.push(scale)?;
+    }
+    Ok(scales)
+}
+
 // Which fields say the place of an event of this kind.
 fn place_fields<E: Write>(
     kind: Kind,
@@ -87,6 +107,7 @@ fn place_fields<E: Write>(
     wanted: &Wanted<'_>,
     errors: &mut E,
 ) -> Result<Place, Stop>
+    ensures stops { IfErr result IsMidway }
     ensures named { IfOk result (λ place. IsPlaceNamed wanted.now (fields_of header.now) kind place) }
     ensures quiet { OnOk result (Keeps (E.contents errors.old) (E.contents errors.new)) }
 {
@@ -109,10 +130,13 @@ pub fn make_plan<E: Write>(
     definition: &Definition,
     header: &ByteRecord,
     wanted: &Wanted<'_>,
+    scales: &[Scale],
     errors: &mut E,
 ) -> Result<Plan, Stop>
+    requires scaled { AreScales wanted.now definition.now.columns.items scales.now }
     requires in_range { wanted.now.session < 64 }
     requires defines { IsDefinition wanted.now.session definition.now }
+    ensures stops { IfErr result IsMidway }
     ensures plan { IfOk result (λ plan. IsPlanOf wanted.now (table_of definition.now) (fields_of header.now) plan) }
     ensures quiet { OnOk result (Keeps (E.contents errors.old) (E.contents errors.new)) }
 {
@@ -122,7 +146,7 @@ pub fn make_plan<E: Write>(
     for column in &definition.columns {
         let source = column_source(header, wanted, column.name.as_str(), errors)?;
         let column_type = column.column_type;
-        let scale = column_scale(wanted, column.name.as_str())?;
+        let scale = scales[columns.len()];
         columns.push(Column {
             column_type,
             source,

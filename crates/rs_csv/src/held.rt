@@ -1,13 +1,15 @@
 //! The end with routes: the lines that define them, and those of the records, which were held until the routes were known.
 
-ghost use Rattle.std.specs.Prelude.{◌≡◌, OnErr, OnOk, IfOk, ℕ, List, Ok, false, flat_map};
+ghost use Rattle.std.specs.Prelude.{◌≡◌, OnErr, OnOk, IfErr, IfOk, ℕ, List, Ok, false, flat_map};
 ghost use Rattle.std.specs.Io.KnownBytes.{Appends, Keeps};
 ghost use Rattle.rs_protocol.specs.Puts.{PutsBut};
 ghost use Rattle.rs_csv.specs.Output.{EndsTaken, IsQuiet, table_of};
 ghost use Rattle.rs_csv.specs.Routes.{DefineRoutes, HaveMet, IsMet, Placed, PutsRoute};
+ghost use Rattle.rs_csv.specs.Stops.{IsFailure};
 
-use crate::filter::{Job, Progress, Stop};
+use crate::filter::{Job, Stop};
 use crate::made::Made;
+use crate::progress::Progress;
 use crate::routes::{Extent, push_route};
 use rs_methods::Name;
 use rs_protocol::put_parts;
@@ -21,6 +23,7 @@ fn put_route<E: Write>(
     made: &mut Made,
     errors: &mut E,
 ) -> Result<(), Stop>
+    ensures stops { IfErr result (λ stop. stop ≡ Stop.OutOfMemory) }
     ensures put { OnOk result (PutsRoute job.now.wanted.session route.0.bytes route.1.ends lines.old.items lines.new.items) }
     ensures quiet { OnOk result (IsQuiet made.old.has_told made.new.has_told (E.contents errors.old) (E.contents errors.new)) }
 {
@@ -37,6 +40,7 @@ fn put_route<E: Write>(
 
 // The lines that define the routes.
 fn route_lines<E: Write>(job: &Job<'_>, made: &mut Made, errors: &mut E) -> Result<Vec<u8>, Stop>
+    ensures stops { IfErr result (λ stop. stop ≡ Stop.OutOfMemory) }
     ensures lines { IfOk result (λ lines. (events : List Placed) → HaveMet made.old.extents events → DefineRoutes job.now.wanted.session (IsMet events) lines.items) }
     ensures quiet { OnOk result (IsQuiet made.old.has_told made.new.has_told (E.contents errors.old) (E.contents errors.new)) }
 {
@@ -52,6 +56,7 @@ fn route_lines<E: Write>(job: &Job<'_>, made: &mut Made, errors: &mut E) -> Resu
 
 // Writes the lines that were held.
 fn write_held<W: Write>(held: &[Vec<u8>], output: &mut W) -> Result<(), Stop>
+    ensures stops { IfErr result IsFailure }
     ensures sent { OnOk result (Appends (W.contents output.old) (W.contents output.new) (flat_map (λ lines. lines.items) held.now)) }
     ensures fault { OnErr result ((lost : List ℕ) × PutsBut (flat_map (λ lines. lines.items) held.now) lost (W.contents output.old) (W.contents output.new)) }
 {
@@ -70,6 +75,7 @@ pub fn write_rest<W: Write, E: Write>(
     output: &mut W,
     errors: &mut E,
 ) -> Result<bool, Stop>
+    ensures stops { IfErr result IsFailure }
     ensures wrote { EndsTaken job.now.wanted (table_of job.now.definition) result progress.old (W.contents output.old) (W.contents output.new) }
     ensures told { IfOk result (λ told. told ≡ false → progress.old.made.has_told ≡ false) }
     ensures quiet { result ≡ Ok false → Keeps (E.contents errors.old) (E.contents errors.new) }

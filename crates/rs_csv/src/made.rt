@@ -1,28 +1,31 @@
 //! What is made of the records so far: lines that are still to be written, and whether something was told.
 
-ghost use Rattle.std.specs.Prelude.{◌≡◌, ◌+◌, ◌++◌, ◌∷◌, [], ◌<◌, IfOk, OnOk, length, false, true};
+ghost use Rattle.std.specs.Prelude.{◌≡◌, ◌+◌, ◌-◌, ◌^◌, ◌++◌, ◌∷◌, [], ◌<◌, IfErr, IfOk, OnOk, length, false, true};
 ghost use Rattle.csv.specs.Records.{fields_of};
 ghost use Rattle.rs_syntax.specs.Tree.{CommandTree};
 ghost use Rattle.rs_syntax.specs.Sound.{IsName};
 ghost use Rattle.rs_csv_lines.specs.Inserts.{TellsRoute};
 ghost use Rattle.rs_csv.specs.Output.{IsQuiet, MakesLines};
+ghost use Rattle.rs_csv.specs.Rejects.{HasLineOrRow};
 ghost use Rattle.rs_csv.specs.Routes.{HaveMet};
+ghost use Rattle.rs_csv.specs.Stops.{IsFailure};
 ghost use Rattle.rs_csv.specs.Texts.{IsOneText, IsTextAt, KeepsTexts, text_of_name};
 
-use crate::filter::{Planned, Stop};
-use crate::rejects::{Rejecting, push_reject, push_reject_header};
+use crate::filter::Stop;
+use crate::left_out::LeftOut;
+use crate::progress::Planned;
+use crate::rejects::Rejecting;
 use crate::routes::{Extents, meet_event, no_extents};
-use crate::spot::{Spot, line_of};
-use crate::tell::{tell_misfit, tell_record, tell_spot, tell_taken_name};
-use crate::texts::{Texts, first_text, take_text};
-use crate::told::{Kind, Told};
+use crate::spot::{Lines, LinesRead, Spot};
+use crate::texts::{Texts, take_text};
+use crate::told::Told;
 use csv::ByteRecord;
 use rs_catalog::ByName;
 use rs_csv_lines::fields::content;
 use rs_csv_lines::names::trimmed;
-use rs_csv_lines::{Misfit, Plan, faults_of, write_insert};
+use rs_csv_lines::{Misfit, Plan, write_insert};
 use rs_methods::Name;
-use rs_protocol::{Fault, put_parts};
+use rs_protocol::Fault;
 use std::alloc::{AllocError, Global};
 use std::io::Write;
 
@@ -35,8 +38,8 @@ pub struct Made {
     pub line: String,
     /// How many records there were.
     pub number: u64,
-    /// How many lines were before the text that is read.
-    pub lines: u64,
+    /// The lines of the text that is read.
+    pub lines: LinesRead,
     /// Whether something was told.
     pub has_told: bool,
     /// What was told.
@@ -61,7 +64,7 @@ impl Made {
             bytes: Vec::new(alloc),
             line: String::new(alloc),
             number: 0,
-            lines: 0,
+            lines: LinesRead::before_text(Lines::new()),
             has_told: false,
             told: Told::new(),
             rounded: 0,
@@ -73,7 +76,8 @@ impl Made {
 
 /// The number of the record after so many.
 pub fn next_number(number: u64) -> Result<u64, Stop>
-    ensures { IfOk result (λ next. next ≡ number + 1) }
+    ensures counted { IfOk result (λ next. next ≡ number + 1) }
+    ensures stops { IfErr result (λ stop. (stop ≡ Stop.Stream Fault.Read) × (number ≡ 2 ^ 64 - 1)) }
 {
     match number.checked_add(1) {
         Some(next) => Ok(next),
@@ -90,8 +94,8 @@ pub fn push_line(bytes: &mut Vec<u8>, line: &str) -> Result<(), AllocError>
     Ok(())
 }
 
-// The text of a record's route.
-fn route_text<'a>(plan: &Plan, csv_record: &'a ByteRecord) -> &'a [u8]
+/// The text of a record's route.
+pub fn route_text<'a>(plan: &Plan, csv_record: &'a ByteRecord) -> &'a [u8]
     ensures { IsTextAt (fields_of csv_record.now) plan.now.route result.now }
 {
     match csv_record.get(plan.route) {
@@ -118,152 +122,6 @@ fn is_only_text(
     take_text(alloc, texts, name, route_text(plan, csv_record))
 }
 
-/// A record that is left out.
-#[derive(Clone, Copy)]
-pub struct LeftOut<'a> {
-    /// The plan and the header.
-    pub planned: &'a Planned,
-    /// The record.
-    pub csv_record: &'a ByteRecord,
-    /// Where it stands.
-    pub spot: Spot,
-}
-
-impl LeftOut<'_> {
-    // Has its row taken, with the reason, where such are wanted.
-    fn reject<X: Rejecting>(
-        &self,
-        alloc: Global,
-        reason: &[u8],
-        told: &mut Told,
-        rejects: &mut X,
-    ) -> Result<(), Stop> {
-        if !rejects.is_wanted() {
-            return Ok(());
-        }
-        let header = &self.planned.header;
-        let separator = self.planned.separator;
-        let mut row = Vec::new(alloc);
-        if told.lacks_header() {
-            push_reject_header(&mut row, header, separator)?;
-        }
-        push_reject(&mut row, header, self.csv_record, separator, reason)?;
-        match rejects.reject(row.as_slice()) {
-            Ok(()) => Ok(()),
-            Err(fault) => Err(Stop::Stream(fault)),
-        }
-    }
-
-    // Tells it by words alone.
-    fn tell_kind<E: Write, X: Rejecting>(
-        &self,
-        alloc: Global,
-        kind: Kind,
-        told: &mut Told,
-        errors: &mut E,
-        rejects: &mut X,
-    ) -> Result<(), Stop> {
-        told.leave_out();
-        if told.meet(kind) {
-            tell_record(errors, self.spot, kind.words());
-        }
-        self.reject(alloc, kind.words(), told, rejects)
-    }
-
-    // Tells that its route would have the name that is made of another text.
-    fn tell_name<E: Write, X: Rejecting>(
-        &self,
-        alloc: Global,
-        first: &[u8],
-        name: &Name,
-        told: &mut Told,
-        errors: &mut E,
-        rejects: &mut X,
-    ) -> Result<(), Stop> {
-        let text = route_text(&self.planned.plan, self.csv_record);
-        let mut reason = Vec::new(alloc);
-        tell_taken_name(&mut reason, text, first, name);
-        told.leave_out();
-        if told.meet(Kind::TakenName) {
-            tell_record(errors, self.spot, reason.as_slice());
-        }
-        self.reject(alloc, reason.as_slice(), told, rejects)
-    }
-
-    // What is wrong with it, of which this was met first.
-    fn faults(
-        &self,
-        alloc: Global,
-        first: Misfit,
-        line: &mut String,
-    ) -> Result<Vec<Misfit>, Misfit> {
-        let mut faults = match first {
-            Misfit::Field(..) => faults_of(
-                alloc,
-                &self.planned.plan,
-                self.csv_record,
-                self.spot.number,
-                line,
-            )?,
-            _ => Vec::new(alloc),
-        };
-        if faults.is_empty() {
-            faults.push(first)?;
-        }
-        Ok(faults)
-    }
-
-    // Tells what is wrong with it, and adds it to the reason.
-    fn tell_fault<E: Write>(
-        &self,
-        alloc: Global,
-        fault: Misfit,
-        reason: &mut Vec<u8>,
-        told: &mut Told,
-        errors: &mut E,
-    ) -> Result<(), AllocError> {
-        let mut words = Vec::new(alloc);
-        tell_misfit(&mut words, &self.planned.header, self.csv_record, fault);
-        if told.meet(Kind::of_misfit(fault)) {
-            tell_spot(errors, self.spot);
-            let _ = put_parts(errors, &[part_before(fault), words.as_slice(), b"\n"]);
-        }
-        if !reason.is_empty() {
-            reason.extend_from_slice(b"; ")?;
-        }
-        reason.extend_from_slice(words.as_slice())
-    }
-
-    // Tells what is wrong with it, of which this was met first.
-    fn tell_faults<E: Write, X: Rejecting>(
-        &self,
-        alloc: Global,
-        first: Misfit,
-        line: &mut String,
-        told: &mut Told,
-        errors: &mut E,
-        rejects: &mut X,
-    ) -> Result<(), Stop> {
-        let Ok(faults) = self.faults(alloc, first, line) else {
-            return Err(Stop::OutOfMemory);
-        };
-        told.leave_out();
-        let mut reason = Vec::new(alloc);
-        for fault in &faults {
-            self.tell_fault(alloc, *fault, &mut reason, told, errors)?;
-        }
-        self.reject(alloc, reason.as_slice(), told, rejects)
-    }
-}
-
-// What stands between the place of a record and what is wrong with it.
-fn part_before(fault: Misfit) -> &'static [u8] {
-    match fault {
-        Misfit::Field(..) => b", ",
-        _ => b": ",
-    }
-}
-
 /// Makes the line of a record, or tells why there is none. A record with more fields than the header has none: a separator may lack its
 /// quotes there, so it is not known which field is which.
 pub fn take_record<E: Write, X: Rejecting>(
@@ -278,6 +136,8 @@ pub fn take_record<E: Write, X: Rejecting>(
     requires session { planned.now.plan.session < 64 }
     requires named { IsName planned.now.plan.table.bytes }
     requires some { 0 < length planned.now.plan.columns.items }
+    ensures stops { IfErr result IsFailure }
+    ensures rejects { OnOk result (HasLineOrRow planned.now.separator (fields_of planned.now.header) (fields_of csv_record.now) made.old.bytes.items made.new.bytes.items (X.taken rejects.old) (X.taken rejects.new)) }
     ensures made { OnOk result ((table : CommandTree) → MakesLines planned.now.plan.session table planned.now.plan made.old made.new (fields_of csv_record.now ∷ [])) }
     ensures quiet { OnOk result (IsQuiet made.old.has_told made.new.has_told (E.contents errors.old) (E.contents errors.new)) }
     ensures texts { OnOk result (KeepsTexts (text_of_name made.old.texts) (text_of_name made.new.texts)) }
@@ -286,19 +146,20 @@ pub fn take_record<E: Write, X: Rejecting>(
     let plan = &planned.plan;
     if csv_record.len() > planned.header.len() {
         made.has_told = true;
-        let left = left_out(planned, csv_record, text, made.number, made.lines);
-        left.tell_kind(alloc, Kind::MoreFields, &mut made.told, errors, rejects)?;
+        let left = left_out(planned, csv_record, text, made.number, &mut made.lines);
+        left.tell_more_fields(alloc, &mut made.told, errors, rejects)?;
         return Ok(());
     }
     match write_insert(alloc, plan, csv_record, made.number, &mut made.line) {
         Ok(event) => {
-            let name = event.route;
-            let is_only = is_only_text(alloc, plan, csv_record, name, &mut made.texts)?;
+            let is_only = is_only_text(alloc, plan, csv_record, event.route, &mut made.texts)?;
             if !is_only {
                 made.has_told = true;
-                let first = first_text(&made.texts, &name);
-                let left = left_out(planned, csv_record, text, made.number, made.lines);
-                left.tell_name(alloc, first, &name, &mut made.told, errors, rejects)?;
+                let left = left_out(planned, csv_record, text, made.number, &mut made.lines);
+                let wrong = left.wrong(None, &made.texts);
+                let line = &mut made.line;
+                let told = &mut made.told;
+                left.tell_faults(alloc, &wrong, line, told, errors, rejects)?;
                 return Ok(());
             }
             push_line(&mut made.bytes, made.line.as_str())?;
@@ -310,34 +171,33 @@ pub fn take_record<E: Write, X: Rejecting>(
         Err(Misfit::OutOfMemory) => return Err(Stop::OutOfMemory),
         Err(misfit) => {
             made.has_told = true;
-            let left = left_out(planned, csv_record, text, made.number, made.lines);
-            left.tell_faults(
-                alloc,
-                misfit,
-                &mut made.line,
-                &mut made.told,
-                errors,
-                rejects,
-            )?;
+            let left = left_out(planned, csv_record, text, made.number, &mut made.lines);
+            let wrong = left.wrong(Some(misfit), &made.texts);
+            let line = &mut made.line;
+            let told = &mut made.told;
+            left.tell_faults(alloc, &wrong, line, told, errors, rejects)?;
         }
     }
     Ok(())
 }
 
-// A record of this number, that is left out, after so many lines before its text.
+// A record of this number that is left out, in a text of which so many lines were read.
 fn left_out<'a>(
     planned: &'a Planned,
     csv_record: &'a ByteRecord,
     text: &[u8],
     number: u64,
-    lines: u64,
-) -> LeftOut<'a> {
+    lines: &mut LinesRead,
+) -> LeftOut<'a>
+    ensures planned { result.planned.now ≡ planned.now }
+    ensures csv_record { result.csv_record.now ≡ csv_record.now }
+{
     LeftOut {
         planned,
         csv_record,
         spot: Spot {
             number,
-            line: line_of(text, csv_record, lines),
+            line: lines.line_of(text, csv_record),
         },
     }
 }

@@ -4,8 +4,9 @@
 //! stand in quotes begins with one.
 
 ghost use Rattle.std.specs.Prelude.{◌≡◌, ◌≤◌, ◌++◌, OnOk, length, take, true};
-ghost use Rattle.rs_csv.specs.Quoting.{after, opens, ends_record, is_plain, mark, ArePlain, IsOutside};
+ghost use Rattle.rs_csv.specs.Quoting.{after, opens, ends_record, mark, AreRun, IsOutside};
 
+use memchr::memchr3;
 use std::alloc::AllocError;
 
 /// Where a byte stands in a record.
@@ -84,24 +85,15 @@ impl Place {
     }
 }
 
-// Whether a byte goes on a field without quotes, or begins one.
-fn is_plain(separator: u8, byte: u8) -> bool
-    ensures { result ≡ is_plain separator byte }
-{
-    !(byte == separator || (byte == b'\n' || byte == b'\r') || byte == b'"')
-}
-
-/// How many bytes at the beginning go on a field without quotes.
-pub fn count_plain(separator: u8, bytes: &[u8]) -> usize
+/// How many bytes at the beginning go on a record outside quotes, from one field to the next: none is a quote or ends a line.
+pub fn count_run(bytes: &[u8]) -> usize
     ensures within { result ≤ length bytes.now }
-    ensures plain { ArePlain separator (take result bytes.now) }
+    ensures run { AreRun (take result bytes.now) }
 {
-    for place in 0..bytes.len() {
-        if !is_plain(separator, bytes[place]) {
-            return place;
-        }
+    match memchr3(b'"', b'\n', b'\r', bytes) {
+        Some(place) => place,
+        None => bytes.len(),
     }
-    bytes.len()
 }
 
 /// Adds a byte to a text of records, three times where it opens a field.

@@ -2,13 +2,14 @@
 //!
 //! It promises that a row has the fields of its record as they stood, and the reason in quotes after them.
 
-ghost use Rattle.std.specs.Prelude.{◌≡◌, ◌≤◌, ◌++◌, ℕ, OnOk, length, take};
+ghost use Rattle.std.specs.Prelude.{◌≡◌, ◌≤◌, ◌++◌, ℕ, List, Option, None, IfOk, OnOk, false, length, take};
+ghost use Rattle.std.specs.Io.KnownBytes.{Appends};
 ghost use Rattle.csv.specs.Records.{fields_of};
-ghost use Rattle.rs_csv.specs.Rejects.{fields_text, padding, quoted, raw_field, reject_line, twice};
+ghost use Rattle.rs_csv.specs.Rejects.{IsHeaderRow, fields_text, option_taken, padding, quoted, raw_field, reject_line, twice};
 
 use csv::ByteRecord;
 use rs_protocol::{Fault, put_parts};
-use std::alloc::AllocError;
+use std::alloc::{AllocError, Global};
 use std::io::Write;
 
 /// The name of the column that has the reason.
@@ -16,15 +17,22 @@ const REASON: &[u8] = b"left_out_because";
 
 /// What takes records that are left out.
 pub trait Rejecting {
+    /// The bytes that it took, where they are known. They are not where no records are wanted.
+    ghost taken: { Self → Option (List ℕ) };
+
     /// Whether they are wanted.
-    fn is_wanted(&self) -> bool;
+    fn is_wanted(&self) -> bool
+        ensures { result ≡ false → taken self.now ≡ None };
 
     /// Takes the row of one.
-    fn reject(&mut self, row: &[u8]) -> Result<(), Fault>;
+    fn reject(&mut self, row: &[u8]) -> Result<(), Fault>
+        ensures { OnOk result (Appends (taken self.old) (taken self.new) row.now) };
 }
 
 /// A writer takes their rows, where there is one.
 impl<W: Write> Rejecting for Option<W> {
+    ghost taken = { option_taken W.contents };
+
     fn is_wanted(&self) -> bool {
         self.is_some()
     }
@@ -115,6 +123,27 @@ fn has_reasons(header: &ByteRecord) -> bool {
     }
 }
 
+/// How many columns a header has, without that of reasons of an earlier time.
+pub fn width_of(header: &ByteRecord) -> usize {
+    if has_reasons(header) {
+        header.len().saturating_sub(1)
+    } else {
+        header.len()
+    }
+}
+
+/// How many fields a record has, without a reason of an earlier time.
+pub fn count_of(header: &ByteRecord, csv_record: &ByteRecord) -> usize
+    ensures { result ≤ length (fields_of csv_record.now) }
+{
+    let fields = csv_record.len();
+    if has_reasons(header) && fields >= header.len() {
+        fields.saturating_sub(1)
+    } else {
+        fields
+    }
+}
+
 /// Adds the row of a record, with the reason in the column after those of the header. A reason of an earlier time is left out, and what
 /// a record lacks is empty.
 pub fn push_reject(
@@ -126,31 +155,27 @@ pub fn push_reject(
 ) -> Result<(), AllocError>
     ensures { OnOk result ((count : ℕ) × (lacking : ℕ) × (count ≤ length (fields_of csv_record.now)) × (row.new.items ≡ row.old.items ++ reject_line separator (take count (fields_of csv_record.now)) lacking reason.now)) }
 {
-    let has_reasons = has_reasons(header);
-    let width = header.len();
-    let fields = csv_record.len();
-    let count = if has_reasons && fields >= width {
-        fields.saturating_sub(1)
-    } else {
-        fields
-    };
-    let wanted = if has_reasons {
-        width.saturating_sub(1)
-    } else {
-        width
-    };
+    let count = count_of(header, csv_record);
     push_fields(row, csv_record, count, separator)?;
-    push_padding(row, wanted.saturating_sub(count), separator)?;
+    push_padding(row, width_of(header).saturating_sub(count), separator)?;
     push_quoted(row, reason)?;
     row.push(b'\n')?;
     Ok(())
 }
 
-/// Adds the header of such rows.
-pub fn push_reject_header(
-    row: &mut Vec<u8>,
+/// The header of such rows, where it is wanted.
+pub fn header_row(
+    alloc: Global,
     header: &ByteRecord,
     separator: u8,
-) -> Result<(), AllocError> {
-    push_reject(row, header, header, separator, REASON)
+    is_wanted: bool,
+) -> Result<Vec<u8>, AllocError>
+    ensures { IfOk result (λ row. IsHeaderRow separator (fields_of header.now) row.items) }
+{
+    let mut row = Vec::new(alloc);
+    if !is_wanted {
+        return Ok(row);
+    }
+    push_reject(&mut row, header, header, separator, REASON)?;
+    Ok(row)
 }

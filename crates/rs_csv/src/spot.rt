@@ -1,6 +1,6 @@
-//! Where a record stands: its number, and the line of the input on which it begins.
+//! Where a record stands: its number, and the line of the input on which it begins. A line ends with LF, with CR LF, or with CR alone.
 
-use csv::{ByteRecord, Position};
+use csv::ByteRecord;
 
 /// Where a record stands.
 #[derive(Clone, Copy)]
@@ -11,46 +11,98 @@ pub struct Spot {
     pub line: u64,
 }
 
-/// How many line feeds are in some bytes.
-pub fn count_lines(bytes: &[u8]) -> u64 {
-    let mut count = 0_u64;
-    for byte in bytes {
-        if *byte == b'\n' {
-            count = count.saturating_add(1);
+/// How many lines have ended after some bytes of the input.
+#[derive(Clone, Copy)]
+pub struct Lines {
+    // How many.
+    ended: u64,
+    // Whether the last byte is a CR, with which an LF is one end.
+    after_return: bool,
+}
+
+impl Lines {
+    /// Before the first byte.
+    pub fn new() -> Lines {
+        Lines {
+            ended: 0,
+            after_return: false,
         }
     }
-    count
-}
 
-// How many line feeds are among the ends of lines at the beginning of some bytes.
-fn count_ends(bytes: &[u8]) -> u64 {
-    let mut count = 0_u64;
-    for byte in bytes {
-        match *byte {
-            b'\n' => count = count.saturating_add(1),
-            b'\r' => {}
-            _ => return count,
+    /// After a byte more.
+    pub fn after(self, byte: u8) -> Lines {
+        let after_return = byte == b'\r';
+        let ends = after_return || byte == b'\n' && !self.after_return;
+        Lines {
+            ended: self.ended.saturating_add(u64::from(ends)),
+            after_return,
         }
     }
-    count
+
+    /// After bytes more of which none ends a line.
+    pub fn within(self) -> Lines {
+        Lines {
+            ended: self.ended,
+            after_return: false,
+        }
+    }
+
+    /// The line of the next byte, from 1, where that ends none.
+    pub fn next_line(self) -> u64 {
+        self.ended.saturating_add(1)
+    }
 }
 
-/// The line on which a record of a text begins, which begins with an empty line, after so many lines before the text.
-pub fn line_of(text: &[u8], csv_record: &ByteRecord, before: u64) -> u64 {
-    let Some(start) = csv_record.position() else {
-        return before;
-    };
-    let ends = match text.get(start.byte() as usize..) {
-        Some(rest) => count_ends(rest),
-        None => 0,
-    };
-    before
-        .saturating_add(start.line())
-        .saturating_add(ends)
-        .saturating_sub(1)
+/// The lines of a text that is read, up to a place in it. No byte is counted twice.
+#[derive(Clone, Copy)]
+pub struct LinesRead {
+    // How many ended.
+    lines: Lines,
+    // The place.
+    place: usize,
 }
 
-/// How many lines a text has that a reader has read to its end, without the empty one.
-pub fn lines_in(end: Position) -> u64 {
-    end.line().saturating_sub(2)
+impl LinesRead {
+    /// At the beginning of a text, whose first line is empty and is not in the input.
+    pub fn before_text(lines: Lines) -> LinesRead {
+        LinesRead { lines, place: 1 }
+    }
+
+    /// Those that ended.
+    pub fn ended(&self) -> Lines {
+        self.lines
+    }
+
+    // Goes on to a place of the text, where that is further.
+    fn go_to(&mut self, text: &[u8], place: usize) {
+        if let Some(bytes) = text.get(self.place..place) {
+            for byte in bytes {
+                self.lines = self.lines.after(*byte);
+            }
+            self.place = place;
+        }
+    }
+
+    // Goes past the ends of lines that are next.
+    fn pass_ends(&mut self, text: &[u8]) {
+        let Some(bytes) = text.get(self.place..) else {
+            return;
+        };
+        for byte in bytes {
+            if *byte != b'\n' && *byte != b'\r' {
+                return;
+            }
+            self.lines = self.lines.after(*byte);
+            self.place = self.place.saturating_add(1);
+        }
+    }
+
+    /// The line on which a record of the text begins, which comes after those that were asked for before.
+    pub fn line_of(&mut self, text: &[u8], csv_record: &ByteRecord) -> u64 {
+        if let Some(start) = csv_record.position() {
+            self.go_to(text, start.byte() as usize);
+        }
+        self.pass_ends(text);
+        self.lines.next_line()
+    }
 }

@@ -1,14 +1,15 @@
-//! What is told on the errors stream: which record was left out, and why.
+//! What is told on the errors stream: which record was left out, and why. What is no printable text is shown as `?`, byte by byte.
 //!
 //! The status does not depend on that stream: a write to it that fails is ignored.
 
 use crate::spot::Spot;
+use crate::texts::TakenName;
 use csv::ByteRecord;
 use itoa::Buffer;
 use rs_csv_lines::fields::content;
 use rs_csv_lines::{Cause, Misfit};
-use rs_methods::Name;
 use rs_protocol::put_parts;
+use rs_value::as_text;
 use std::io::Write;
 
 /// How many bytes of a field are shown at the most.
@@ -32,7 +33,7 @@ pub enum Lack {
 fn cause_words(cause: Cause) -> &'static [u8] {
     match cause {
         Cause::Missing => b"no such field",
-        Cause::NotText => b"not text",
+        Cause::NotText => b" is not text",
         Cause::NotName => b" is not a name",
         Cause::NotPosition => b" is not a position",
         Cause::NotNumber => b" is not a number",
@@ -71,16 +72,51 @@ fn beginning(text: &[u8]) -> &[u8] {
     text.get(..end).unwrap_or(text)
 }
 
+// Shows a byte of a text, `?` in place of a control character.
+fn show_byte<E: Write>(errors: &mut E, byte: u8) {
+    let shown = if byte < b' ' || byte == 127 {
+        b'?'
+    } else {
+        byte
+    };
+    let _ = put_parts(errors, &[&[shown]]);
+}
+
+// Shows a text, `?` in place of each byte that is no printable text.
+fn show_text<E: Write>(errors: &mut E, text: &[u8]) {
+    if as_text(text).is_some() {
+        let _ = put_parts(errors, &[text]);
+        return;
+    }
+    for chunk in text.utf8_chunks() {
+        for byte in chunk.valid().as_bytes() {
+            show_byte(errors, *byte);
+        }
+        for _ in chunk.invalid() {
+            show_byte(errors, b'?');
+        }
+    }
+}
+
+// Shows the beginning of a text.
+fn show_beginning<E: Write>(errors: &mut E, text: &[u8]) {
+    let shown = beginning(text);
+    show_text(errors, shown);
+    if shown.len() < text.len() {
+        let _ = put_parts(errors, &[b".."]);
+    }
+}
+
 // Shows a field.
 fn show_field<E: Write>(errors: &mut E, field: &[u8]) {
     let text = content(field);
     if text.is_empty() {
         let _ = put_parts(errors, &[b"an empty field"]);
-        return;
+    } else if text.iter().all(|byte| *byte == b' ') {
+        let _ = put_parts(errors, &[b"a blank field"]);
+    } else {
+        show_beginning(errors, text);
     }
-    let shown = beginning(text);
-    let rest: &[u8] = if shown.len() < text.len() { b".." } else { b"" };
-    let _ = put_parts(errors, &[shown, rest]);
 }
 
 // Tells how many decimals a field has.
@@ -99,10 +135,16 @@ fn column_name(header: &ByteRecord, place: usize) -> &[u8] {
     }
 }
 
-// Tells what is wrong with a field of a record, which is shown where it is text.
+// Tells the name of a column, before what is wrong with its field.
+fn tell_name<E: Write>(errors: &mut E, header: &ByteRecord, place: usize) {
+    show_text(errors, column_name(header, place));
+    let _ = put_parts(errors, &[b": "]);
+}
+
+// Tells what is wrong with a field of a record, which is shown where there is one.
 fn tell_field<E: Write>(errors: &mut E, field: &[u8], cause: Cause) {
     match cause {
-        Cause::Missing | Cause::NotText => {}
+        Cause::Missing => {}
         _ => show_field(errors, field),
     }
     match cause {
@@ -137,7 +179,7 @@ pub fn tell_misfit<E: Write>(
 ) {
     match misfit {
         Misfit::Field(place, cause) => {
-            let _ = put_parts(errors, &[column_name(header, place), b": "]);
+            tell_name(errors, header, place);
             tell_field(errors, csv_record.get(place).unwrap_or(b""), cause);
         }
         Misfit::LongLine => {
@@ -149,19 +191,36 @@ pub fn tell_misfit<E: Write>(
     }
 }
 
-/// Tells that the route of a record would have the name that is made of another text.
-pub fn tell_taken_name<E: Write>(errors: &mut E, text: &[u8], first: &[u8], name: &Name) {
+/// Tells that a text, which is the route of a record, would have the name that is made of another text.
+pub fn tell_taken_name<E: Write>(
+    errors: &mut E,
+    header: &ByteRecord,
+    place: usize,
+    text: &[u8],
+    taken: &TakenName<'_>,
+) {
+    tell_name(errors, header, place);
+    show_beginning(errors, text);
+    let name = taken.name.as_str().as_bytes();
+    let _ = put_parts(errors, &[b" would be ", name, b", as "]);
+    show_beginning(errors, taken.text);
+    let _ = put_parts(errors, &[b" is"]);
+}
+
+/// Tells that a record has so many fields, where the header has fewer, and the first that is past it.
+pub fn tell_more_fields<E: Write>(errors: &mut E, count: usize, width: usize, first: &[u8]) {
+    let mut digits = Buffer::new();
+    let mut width_digits = Buffer::new();
     let _ = put_parts(
         errors,
         &[
-            beginning(text),
-            b" would be ",
-            name.as_str().as_bytes(),
-            b", as ",
-            beginning(first),
-            b" is",
+            digits.format(count as u64).as_bytes(),
+            b" fields, where the header has ",
+            width_digits.format(width as u64).as_bytes(),
+            b"; the first past it is ",
         ],
     );
+    show_field(errors, first);
 }
 
 /// Tells that a record was left out, by words alone.
@@ -187,7 +246,8 @@ pub fn tell_count<E: Write>(errors: &mut E, words: &[u8], count: u64, told: u64)
 fn show_names<E: Write>(errors: &mut E, header: &ByteRecord) {
     for place in 0..header.len().min(SHOWN_NAMES) {
         let part: &[u8] = if place == 0 { b"" } else { b", " };
-        let _ = put_parts(errors, &[part, beginning(column_name(header, place))]);
+        let _ = put_parts(errors, &[part]);
+        show_text(errors, beginning(column_name(header, place)));
     }
     if header.len() > SHOWN_NAMES {
         let _ = put_parts(errors, &[b", .."]);

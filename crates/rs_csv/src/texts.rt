@@ -4,15 +4,20 @@ ghost use Rattle.std.specs.Prelude.{◌≡◌, ◌≢◌, List, ℕ, Some, IfOk,
 ghost use Rattle.rs_csv.specs.Texts.{KeepsTexts, text_of_name};
 
 use rs_catalog::ByName;
+use rs_csv_lines::made_name;
 use rs_methods::Name;
 use std::alloc::{AllocError, Global};
 
 /// The text of which each name is made.
 pub type Texts = ByName<Vec<u8>>;
 
-/// No text.
-pub fn no_texts(alloc: Global) -> Texts {
-    ByName::new(alloc)
+/// A name that is made of a text.
+#[derive(Clone, Copy)]
+pub struct TakenName<'a> {
+    /// The name.
+    pub name: Name,
+    /// The text.
+    pub text: &'a [u8],
 }
 
 /// Takes a text of which a name is made, and says whether it is the only one so far. Another one than before changes nothing.
@@ -33,10 +38,16 @@ pub fn take_text(
     Ok(true)
 }
 
-/// The text of which a name was made first.
-pub fn first_text<'a>(texts: &'a Texts, name: &Name) -> &'a [u8] {
-    match texts.get(name) {
-        Some(text) => text.as_slice(),
-        None => b"",
+/// The name that a text would be made, where it is made of another text.
+pub fn taken_name<'a>(texts: &'a Texts, text: &[u8]) -> Option<TakenName<'a>> {
+    let Some(name) = made_name(text) else {
+        return None;
+    };
+    match texts.get(&name) {
+        Some(other) if other.as_slice() != text => Some(TakenName {
+            name,
+            text: other.as_slice(),
+        }),
+        _ => None,
     }
 }

@@ -91,6 +91,14 @@ impl Kind {
         }
     }
 
+    /// Whether it is told with the name of a column.
+    pub fn is_of_field(self) -> bool {
+        match self {
+            Kind::LongLine | Kind::LongRecord | Kind::MoreFields | Kind::NoMeasure => false,
+            _ => true,
+        }
+    }
+
     // The place of its count.
     fn place(self) -> usize
         ensures { result < KINDS }

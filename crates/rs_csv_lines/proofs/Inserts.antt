@@ -68,8 +68,8 @@ name_of_kind name is = let told = tells name kinds.Name is in record { word = wo
 pub route_is_name : (makes_names : Bool) (text name : List ℕ) → SaysRoute makes_names text name → IsName name
 route_is_name makes_names text name says = name_of_kind name (route_kind makes_names text name says)
 
-route_is_clean : (makes_names : Bool) (text name : List ℕ) → is_text text ≡ true → SaysRoute makes_names text name → IsClean name
-route_is_clean false text name plain says = route_clean text name plain says
+route_is_clean : (makes_names : Bool) (text name : List ℕ) → (makes_names ≡ false → is_text text ≡ true) → SaysRoute makes_names text name → IsClean name
+route_is_clean false text name plain says = route_clean text name (plain refl) says
 route_is_clean true text name plain says = name_clean name says.is_name.word
 
 -- what is put says what is told

@@ -1,5 +1,5 @@
 -- The INSERT of a record, and the line that is written for it.
-use Rattle.std.specs.Prelude.{◌≡◌, ◌⊎◌, ℕ, Bool, IsTrue, List, [], ◌∷◌, ◌++◌, Some, codes, decimal}
+use Rattle.std.specs.Prelude.{◌≡◌, ◌⊎◌, ℕ, Bool, false, IsTrue, List, [], ◌∷◌, ◌++◌, Some, codes, decimal}
 use Rattle.csv.specs.Records.{field_at}
 use Rattle.rs_methods.specs.Position.{PositionExpression, expression_of}
 use Rattle.rs_value.specs.Row.{Row}
@@ -21,10 +21,12 @@ use Rattle.rs_csv_lines.specs.Texts.{session_text, PutsPosition, PutsDatum}
 abbrev pub Field : List (List ℕ) → ℕ → (List ℕ → Type 0) → Type 0
 Field fields i IsSo = (field : List ℕ) × (field_at fields i ≡ Some field) × IsTrue (is_text (content field)) × IsSo field
 
--- what the record says of its route, and of its place
-abbrev pub TellsRoute : Bool → List (List ℕ) → ℕ → List ℕ → Type 0
-TellsRoute makes_names fields i route = Field fields i (λ field. SaysRoute makes_names (content field) route)
+-- what the record says of its route: a text that is its name, or where names are made whatever bytes it is made of
+abbrev pub TellsRoute : (makes_names : Bool) → List (List ℕ) → ℕ → List ℕ → Type 0
+TellsRoute makes_names fields i route =
+    (field : List ℕ) × (field_at fields i ≡ Some field) × (makes_names ≡ false → IsTrue (is_text (content field))) × SaysRoute makes_names (content field) route
 
+-- what it says of its place
 abbrev pub TellsPositionAt : Measures → List (List ℕ) → ℕ → PositionExpression → Type 0
 TellsPositionAt reading fields i position = Field fields i (λ field. TellsPosition reading (content field) position)
 

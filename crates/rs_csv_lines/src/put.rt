@@ -4,7 +4,7 @@
 //!
 //! Where memory runs out, a part may have been put.
 
-ghost use Rattle.std.specs.Prelude.{◌≡◌, ◌++◌, ◌<◌, OnOk, IfOk, ℕ, Bool, List, string_bytes, decimal};
+ghost use Rattle.std.specs.Prelude.{◌≡◌, ◌++◌, ◌<◌, OnOk, IfOk, ℕ, Bool, List, string_bytes, decimal, false, true};
 ghost use Rattle.csv.specs.Records.{fields_of};
 ghost use Rattle.rs_measure.specs.Measure.{measure_text};
 ghost use Rattle.rs_methods.specs.Position.{absolute, expression_of};
@@ -13,12 +13,11 @@ ghost use Rattle.rs_value.specs.Row as rows;
 ghost use Rattle.rs_value.specs.Text.{datum_text};
 ghost use Rattle.rs_syntax.specs.Written.{position_lexemes, AreToldOf};
 ghost use Rattle.rs_csv_lines.specs.Fields.{HasText};
-ghost use Rattle.rs_csv_lines.specs.Names.{SaysRoute};
 ghost use Rattle.rs_csv_lines.specs.Numbers.{WritesMeasure, WritesWhole};
 ghost use Rattle.rs_csv_lines.specs.Texts.{session_text, position_text, signed_text, PutsNumber, PutsDatum};
 ghost use Rattle.rs_csv_lines.specs.Inserts.{Given, TellsRoute, PutsPositionAt};
 
-use crate::fields::{FieldText, field_text, name_in, number_in, position_in, text_in};
+use crate::fields::{FieldText, content, field_text, name_in, number_in, position_in, text_in};
 use crate::names::made_name;
 use crate::numbers::{written_measure, written_whole};
 use crate::plan::{Cause, Column, Measures, Misfit, Scale, Source};
@@ -91,16 +90,40 @@ fn put_signed(line: &mut String, is_negative: bool, digits: &str) -> Result<(), 
     line.push_str(digits)
 }
 
-// The name of the route that a text says.
-fn route_in(alloc: Global, text: &str, place: usize, makes_names: bool) -> Result<Name, Misfit>
-    ensures { IfOk result (λ name. SaysRoute makes_names text.now name.bytes) }
+// The name that the field of a route is made, of whatever bytes.
+fn made_route(csv_record: &ByteRecord, place: usize) -> Result<Name, Misfit>
+    ensures { IfOk result (λ name. TellsRoute true (fields_of csv_record.now) place name.bytes) }
 {
-    if !makes_names {
-        return name_in(alloc, text, place);
-    }
-    match made_name(text.as_bytes()) {
+    let Some(field) = csv_record.get(place) else {
+        return Err(Misfit::Field(place, Cause::Missing));
+    };
+    match made_name(content(field)) {
         Some(name) => Ok(name),
         None => Err(Misfit::Field(place, Cause::NotName)),
+    }
+}
+
+// The name that the field of a route is.
+fn named_route(alloc: Global, csv_record: &ByteRecord, place: usize) -> Result<Name, Misfit>
+    ensures { IfOk result (λ name. TellsRoute false (fields_of csv_record.now) place name.bytes) }
+{
+    let field = field_text(csv_record, place)?;
+    name_in(alloc, field.text, place)
+}
+
+// The name of the route that a field says.
+fn route_in(
+    alloc: Global,
+    csv_record: &ByteRecord,
+    place: usize,
+    makes_names: bool,
+) -> Result<Name, Misfit>
+    ensures { IfOk result (λ name. TellsRoute makes_names (fields_of csv_record.now) place name.bytes) }
+{
+    if makes_names {
+        made_route(csv_record, place)
+    } else {
+        named_route(alloc, csv_record, place)
     }
 }
 
@@ -115,8 +138,7 @@ pub fn put_route(
     ensures told { IfOk result (λ name. TellsRoute makes_names (fields_of csv_record.now) place name.bytes) }
     ensures put { IfOk result (λ name. string_bytes line.new ≡ string_bytes line.old ++ name.bytes) }
 {
-    let field = field_text(csv_record, place)?;
-    let name = route_in(alloc, field.text, place, makes_names)?;
+    let name = route_in(alloc, csv_record, place, makes_names)?;
     line.push_str(name.as_str())?;
     Ok(name)
 }

@@ -8,7 +8,7 @@ use crate::file_system::FileSystem;
 use crate::report::{FAILED, Failure, MISUSE, SUCCESS, report_failure};
 use itoa::Buffer;
 use rs_command_line::{CsvWords, separator_of};
-use rs_csv::{Stop, Texts, Wanted, no_texts, write_lines, write_names};
+use rs_csv::{MadeNames, Stop, Wanted, write_lines, write_names};
 use rs_encodings::{Decoded, Encoding};
 use rs_explain::{ALL, cure_by_csv, explain};
 use rs_protocol::{Fault, put_parts};
@@ -39,12 +39,12 @@ pub(crate) fn convert<P: AllocGlobal + FileSystem, R: Read, W: Write, E: Write>(
         Ok(rejects) => rejects,
         Err(failure) => return report_failure(errors, &failure),
     };
-    let names = match text_file(rt, words.names_file) {
-        Ok(names) => names,
+    let names_file = match text_file(rt, words.names_file) {
+        Ok(names_file) => names_file,
         Err(failure) => return report_failure(errors, &failure),
     };
     let mut text = Decoded::new(input, encoding_of(words.is_latin1));
-    let mut texts = no_texts(rt.alloc());
+    let mut names = MadeNames::new(rt.alloc());
     let result = write_lines(
         rt.alloc(),
         wanted,
@@ -52,9 +52,9 @@ pub(crate) fn convert<P: AllocGlobal + FileSystem, R: Read, W: Write, E: Write>(
         output,
         errors,
         &mut rejects,
-        &mut texts,
+        &mut names,
     );
-    let named = put_names(rt.alloc(), &texts, names);
+    let named = put_names(rt.alloc(), &names, names_file);
     match result {
         Ok(lacks) => match named {
             Ok(()) if lacks => FAILED,
@@ -77,9 +77,13 @@ fn text_file<'a, P: FileSystem>(
 }
 
 // Writes the names that were made, where a file for them is given.
-fn put_names<X: Write + Drop>(alloc: Global, texts: &Texts, names: Option<X>) -> Result<(), Stop> {
-    match names {
-        Some(mut names) => write_names(alloc, texts, &mut names),
+fn put_names<X: Write + Drop>(
+    alloc: Global,
+    names: &MadeNames,
+    names_file: Option<X>,
+) -> Result<(), Stop> {
+    match names_file {
+        Some(mut file) => write_names(alloc, names, &mut file),
         None => Ok(()),
     }
 }

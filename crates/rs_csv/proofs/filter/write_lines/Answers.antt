@@ -21,6 +21,9 @@ returns-in-Err-clause-wrote g c = (define_route [] 0 0, inr (Keeps-refl _), ([],
 pub returns-in-Err-check_words-clause-wrote : goal.returns-in-Err-check_words-clause-wrote
 returns-in-Err-check_words-clause-wrote g c = (define_route [] 0 0, inr (Keeps-refl _), ([], Consumes-nil _, wrote_none c.args.wanted (define_route [] 0 0) _ _))
 
+pub returns-in-Err-column_scales-clause-wrote : goal.returns-in-Err-column_scales-clause-wrote
+returns-in-Err-column_scales-clause-wrote g c = (define_route [] 0 0, inr (Keeps-refl _), ([], Consumes-nil _, wrote_none c.args.wanted (define_route [] 0 0) _ _))
+
 pub returns-in-Err-read_all-clause-wrote : goal.returns-in-Err-read_all-clause-wrote
 returns-in-Err-read_all-clause-wrote g c = (table_of c.in-Ok.definition, inl (asked c.args.wanted c.in-Ok.definition c.in-Ok.ensures.defines c.in-Ok.ensures.line), c.in-Err-read_all.ensures.input)
 

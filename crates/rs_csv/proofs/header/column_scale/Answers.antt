@@ -4,8 +4,8 @@ use Rattle.rs_csv.proofs.Headers.{not_cut, not_named, told_after, told_at, told_
 use Rattle.rs_csv.proofs.header.column_scale.Goals as goal
 use Rattle.rs_csv.proofs.header.column_scale.Goals.{in-Some+else-eq, in_default}
 
-pub returns-in-Some-from_text : goal.returns-in-Some-from_text
-returns-in-Some-from_text c =
+pub returns-in-Some-from_text-clause-scaled : goal.returns-in-Some-from_text-clause-scaled
+returns-in-Some-from_text-clause-scaled c =
     let cut = c.in-Some.ensures.byte (omega arith) (λ w o h. h) in
     let same : c.in-Some.name.now ≡ c.args.column.now = first_of (search rules, grind arith) in
     let scale = c.in-Some-from_text.scale in
@@ -13,8 +13,8 @@ returns-in-Some-from_text c =
     (told_at c.args.wanted.now.scales.now c.loop-telling.telling-index _ c.args.column.now (codes "1") (scale_text scale) c.loop-telling-test.true
     (cut.2, sym cut.0 ∙ same, sym cut.1 ∙ c.in-Some-from_text.ensures))
 
-pub returns : goal.returns
-returns c = c.loop-telling.invariant.others (codes "1") (told_none c.args.wanted.now.scales.now c.loop-telling.telling-index c.args.column.now (codes "1") c.loop-telling-test.false)
+pub returns-clause-scaled : goal.returns-clause-scaled
+returns-clause-scaled c = c.loop-telling.invariant.others (codes "1") (told_none c.args.wanted.now.scales.now c.loop-telling.telling-index c.args.column.now (codes "1") c.loop-telling-test.false)
 
 pub loop-telling-preserved : goal.loop-telling-preserved
 loop-telling-preserved c = record {

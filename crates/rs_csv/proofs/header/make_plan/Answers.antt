@@ -1,9 +1,11 @@
 use Rattle.std.proofs.Common.{◌≡◌, ◌∙◌, ◌<◌, ◌≤◌, length, get_or, map, refl, sym, ap, subst, arith, take, take_all}
 use Rattle.std.proofs.KnownBytes.{Keeps-trans}
+use Rattle.std.proofs.lemmas.List.{length-map, length-take-le}
 use Rattle.csv.specs.Records.{fields_of}
 use Rattle.rs_syntax.specs.View.{column_tree}
+use Rattle.rs_csv_lines.specs.declared.plan.Scale.TheVariants as scales
 use Rattle.rs_csv.specs.Header.{AreColumnsOf, IsScaled, IsSourceOf}
-use Rattle.rs_csv.proofs.Headers.{columns_length, columns_step}
+use Rattle.rs_csv.proofs.Headers.{columns_length, columns_step, scale_at, scales_length}
 use Rattle.rs_csv.proofs.header.make_plan.Goals as goal
 
 pub returns-clause-plan : goal.returns-clause-plan
@@ -31,18 +33,30 @@ returns-clause-plan g c =
       in_range = c.requires.in_range;
     }
 
+pub bounds-scales-len : goal.bounds-scales-len
+bounds-scales-len g c =
+    let items = c.args.definition.now.columns.items in
+    let i = c.loop-column.column-index in
+    let less : i < length items = omega (arith, ap length c.deref-column-items.ensures.value, c.deref-column-items.ensures.len, c.loop-column-test.true) in
+    let before = columns_length c.args.wanted.now (fields_of c.args.header.now) (map column_tree (take i items)) c.loop-column.columns.items c.loop-column.invariant.columns in
+    omega (arith, less, c.len.ensures, before, length-map (take i items) column_tree, length-take-le i items (omega (arith, less)), scales_length c.args.wanted.now items c.args.scales.now c.requires.scaled)
+
 pub loop-column-preserved : goal.loop-column-preserved
 loop-column-preserved g c =
     let items = c.args.definition.now.columns.items in
     let i = c.loop-column.column-index in
     let less : i < length items = omega (arith, ap length c.deref-column-items.ensures.value, c.deref-column-items.ensures.len, c.loop-column-test.true) in
+    let there = c.column-item.is ∙ ap (λ list. get_or list i c.column-item.result) c.deref-column-items.ensures.value in
+    let before = columns_length c.args.wanted.now (fields_of c.args.header.now) (map column_tree (take i items)) c.loop-column.columns.items c.loop-column.invariant.columns in
+    let place : c.len.result ≡ i = omega (arith, less, c.len.ensures, before, length-map (take i items) column_tree, length-take-le i items (omega (arith, less))) in
     record {
       quiet = Keeps-trans _ _ _ c.loop-column.invariant.quiet c.in_ok-source.ensures.quiet;
       columns =
           columns_step c.args.wanted.now (fields_of c.args.header.now) items i c.column-item.result c.loop-column.columns.items _ _ less
-          (c.column-item.is ∙ ap (λ list. get_or list i c.column-item.result) c.deref-column-items.ensures.value) c.loop-column.invariant.columns (
+          there c.loop-column.invariant.columns (
             refl,
             subst (λ column. IsSourceOf c.args.wanted.now (fields_of c.args.header.now) column c.in_ok-source.source) c.as_str.ensures.value c.in_ok-source.ensures.source,
-            subst (λ column. IsScaled (map (λ words. words.now) c.args.wanted.now.scales.now) column c.in_ok-scale.scale) c.as_str-in-loop-column.ensures.value c.in_ok-scale.ensures,
+            subst (λ k. IsScaled (map (λ words. words.now) c.args.wanted.now.scales.now) c.column-item.result.name.bytes (get_or c.args.scales.now k scales.One)) (sym place)
+                (scale_at c.args.wanted.now items c.args.scales.now i c.column-item.result scales.One c.requires.scaled less there),
           ) c.in_ok-push.ensures.items;
     }

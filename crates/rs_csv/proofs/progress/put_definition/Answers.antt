@@ -2,7 +2,7 @@ use Rattle.std.proofs.Common.{◌∙◌, ◌++◌, ◌∷◌, [], ap, refl, stri
 use Rattle.std.proofs.lemmas.Result.{on_ok_weaker}
 use Rattle.rs_csv.specs.Output.{table_of}
 use Rattle.rs_csv.proofs.Outputs.{definition_goes, same_goes}
-use Rattle.rs_csv.proofs.filter.put_definition.Goals as goal
+use Rattle.rs_csv.proofs.progress.put_definition.Goals as goal
 
 pub returns : goal.returns
 returns c =
