@@ -4,6 +4,7 @@ mod Cells
 mod Joining
 mod Turns
 mod OneAnswer
+mod Counting
 mod ManyLines
 mod NextLine
 mod FreshReader

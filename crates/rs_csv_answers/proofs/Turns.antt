@@ -41,7 +41,7 @@ swapped true y z = refl
 swapped false true z = refl
 swapped false false z = refl
 
-answered_more : (answers : List Text) (answer : Text) → are_answered (answers ++ answer ∷ []) ≡ (is_ok answer && are_answered answers)
+pub answered_more : (answers : List Text) (answer : Text) → are_answered (answers ++ answer ∷ []) ≡ (is_ok answer && are_answered answers)
 answered_more [] answer = refl
 answered_more (other ∷ answers) answer = ap (λ b. is_ok other && b) (answered_more answers answer) ∙ swapped (is_ok other) (is_ok answer) (are_answered answers)
 

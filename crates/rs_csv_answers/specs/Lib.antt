@@ -6,4 +6,5 @@ pub mod Inner
 pub mod Words
 pub mod Turns
 pub mod Questions
+pub mod Counting
 pub mod Lines

@@ -1,9 +1,10 @@
 -- Lines of an input that are answered as CSV, one after another.
-use Rattle.std.specs.Prelude.{◌≡◌, ◌≢◌, ℕ, Bool, false, List, [], ◌++◌, Option, Result, Ok, Err, IfSome, flat_map, ◌==◌}
+use Rattle.std.specs.Prelude.{◌≡◌, ◌≢◌, ℕ, Bool, List, [], ◌++◌, Option, Result, Ok, Err, IfSome, flat_map, ◌==◌}
 use Rattle.std.specs.Io.KnownBytes.{Consumes}
 use Rattle.std.specs.List.{AllByRecursion}
 use Rattle.rs_csv_answers.specs.Answers.{AnswersAsCsv}
-use Rattle.rs_csv_answers.specs.Turns.{AnswersEach, PutsAll, Text}
+use Rattle.rs_csv_answers.specs.Counting.{AreCountsOf, CountsOne}
+use Rattle.rs_csv_answers.specs.Turns.{AnswersEach, PutsAll, PutsOne, Text}
 use Rattle.rs_csv_answers.specs.declared.lines.Answered.{Answered}
 use Rattle.rs_csv_answers.specs.declared.lines.Ended.{Ended}
 use Rattle.rs_csv_answers.specs.declared.lines.Ended.TheVariants.{CutLine, Refused, Whole}
@@ -31,11 +32,17 @@ pub record TellsLines (lines : List (List ℕ)) (rest : List ℕ) (unread unread
   pub partial : IsOneLine rest
   pub consumed : Consumes unread unread_now told
 
--- All lines that were told are answered, and their texts are put whole; after the last one these bytes were told.
-pub record AnswersTold (rest : List ℕ) (unread unread_now : Option (List ℕ)) (old : Machine) (none_refused : Bool) (new : Machine) (before after : Option (List ℕ)) : Type 0 where
+-- One line is answered and counted, and its text is put whole, or a front of it with a fault.
+pub record AnswersLine (line : List ℕ) (old : Machine) (counts : Answered) (result : Result Bool Fault) (counts_now : Answered) (new : Machine) (before after : Option (List ℕ)) : Type 0 where
+  pub puts : PutsOne IsLineAnswered line old result new before after
+  pub counted : CountsOne puts.answer counts counts_now
+
+-- All lines that were told are answered and counted so, and their texts are put whole; after the last one these bytes were told.
+pub record AnswersTold (rest : List ℕ) (unread unread_now : Option (List ℕ)) (old : Machine) (answered : Answered) (new : Machine) (before after : Option (List ℕ)) : Type 0 where
   pub lines : List (List ℕ)
   pub tells : TellsLines lines rest unread unread_now
-  pub puts : PutsAll IsLineAnswered lines old none_refused new before after
+  pub puts : PutsAll IsLineAnswered lines old (answered.refused == 0) new before after
+  pub counted : AreCountsOf puts.answers answered
 
 -- Lines are answered, and a front of their texts is put.
 pub record StopsPutting (fault : Fault) (unread unread_now : Option (List ℕ)) (old new : Machine) (before after : Option (List ℕ)) : Type 0 where
@@ -48,20 +55,20 @@ pub record StopsPutting (fault : Fault) (unread unread_now : Option (List ℕ)) 
   pub put : Puts {T = Answered} (Err fault) text before after
 
 -- How the answering ends: with the input, after its last LF or within a line; at a refused line; or by a fault.
-abbrev pub EndsAt : Ended → Bool → Option (List ℕ) → Option (List ℕ) → Machine → Machine → Option (List ℕ) → Option (List ℕ) → Type 0
-EndsAt Whole none_refused unread unread_now old new before after =
-    (ends : AnswersTold [] unread unread_now old none_refused new before after) × IsAll unread ends.tells.told
-EndsAt CutLine none_refused unread unread_now old new before after =
-    (rest : List ℕ) × (rest ≢ []) × (ends : AnswersTold rest unread unread_now old none_refused new before after) × IsAll unread ends.tells.told
-EndsAt Refused none_refused unread unread_now old new before after = (none_refused ≡ false) × AnswersTold [] unread unread_now old none_refused new before after
+abbrev pub EndsAt : Ended → Answered → Option (List ℕ) → Option (List ℕ) → Machine → Machine → Option (List ℕ) → Option (List ℕ) → Type 0
+EndsAt Whole answered unread unread_now old new before after =
+    (ends : AnswersTold [] unread unread_now old answered new before after) × IsAll unread ends.tells.told
+EndsAt CutLine answered unread unread_now old new before after =
+    (rest : List ℕ) × (rest ≢ []) × (ends : AnswersTold rest unread unread_now old answered new before after) × IsAll unread ends.tells.told
+EndsAt Refused answered unread unread_now old new before after = (answered.refused ≢ 0) × AnswersTold [] unread unread_now old answered new before after
 
 abbrev pub StopsBy : Fault → Option (List ℕ) → Option (List ℕ) → Machine → Machine → Option (List ℕ) → Option (List ℕ) → Type 0
 StopsBy Read unread unread_now old new before after =
-    (then : Option (List ℕ)) × (none_refused : Bool) × AnswersTold [] unread then old none_refused new before after × ((bytes : List ℕ) × Consumes then unread_now bytes)
+    (then : Option (List ℕ)) × (answered : Answered) × AnswersTold [] unread then old answered new before after × ((bytes : List ℕ) × Consumes then unread_now bytes)
 StopsBy Write unread unread_now old new before after = StopsPutting Write unread unread_now old new before after
 
 abbrev pub EndsAsCsv : Result Answered Fault → Option (List ℕ) → Option (List ℕ) → Machine → Machine → Option (List ℕ) → Option (List ℕ) → Type 0
-EndsAsCsv (Ok answered) unread unread_now old new before after = EndsAt answered.ended (answered.refused == 0) unread unread_now old new before after
+EndsAsCsv (Ok answered) unread unread_now old new before after = EndsAt answered.ended answered unread unread_now old new before after
 EndsAsCsv (Err fault) unread unread_now old new before after = StopsBy fault unread unread_now old new before after
 
 -- ---- the next line

@@ -4,6 +4,7 @@
 #![tactic(auto)]
 
 pub mod asking;
+pub mod counts;
 mod heads;
 pub mod laws;
 pub mod lines;
@@ -14,6 +15,7 @@ pub mod shown;
 pub mod words;
 
 pub use asking::{Shape, Shapes, answer_as_csv};
+pub use counts::Counts;
 pub use lines::{Answered, Ended, answer_input};
 pub use questions::answer_questions;
 pub use records::push_record;

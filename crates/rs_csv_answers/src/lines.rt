@@ -3,17 +3,20 @@
 //! It promises that each line is answered by the machine that the one before left, and that the texts of the answers are put one after
 //! another. Of a line that is refused nothing is put; that is told (decision: csv-alone-on-output).
 
-ghost use Rattle.std.specs.Prelude.{◌≡◌, ◌⊎◌, ◌==◌, ◌&&◌, IfOk, Option, List, ℕ, false, true};
+ghost use Rattle.std.specs.Prelude.{◌≡◌, ◌⊎◌, ◌==◌, ◌&&◌, IfOk, Option, List, ℕ, false, is_ok, replicate, true};
 ghost use Rattle.std.specs.Io.KnownBytes.{Keeps};
-ghost use Rattle.rs_csv_answers.specs.Lines.{EndsAsCsv, IsLineAnswered, Reads};
-ghost use Rattle.rs_csv_answers.specs.Turns.{PutsOne};
+ghost use Rattle.rs_csv_answers.specs.Counting.{CountsOne};
+ghost use Rattle.rs_csv_answers.specs.Lines.{AnswersLine, EndsAsCsv, Reads};
+ghost use Rattle.rs_csv_answers.specs.Turns.{text_result};
 ghost use Rattle.rs_machine.specs.Served.{Machine};
 ghost use Rattle.rs_machine.specs.Stream.{with_feed};
 
 use crate::asking::{Shapes, answer_as_csv};
+use crate::counts::Counts;
 use crate::putting::{Asked, put_answer};
 use crate::shown::shown_of;
 use rs_protocol::Fault;
+use rs_refusal::Refusal;
 use std::alloc::Global;
 use std::io::{BufRead, BufReader, Read, Write};
 
@@ -42,13 +45,15 @@ pub enum Ended {
     Refused,
 }
 
-/// How many lines were answered, how many of them were refused, and how it ended.
+/// How many lines were answered, how many of them were refused, how many with each number, and how it ended.
 #[derive(Clone, Copy, PartialEq, Eq, Debug)]
 pub struct Answered {
     /// How many lines were answered, refused ones among them.
     pub lines: u64,
     /// How many were refused.
     pub refused: u64,
+    /// How many with each number.
+    pub counts: Counts,
     /// How it ended.
     pub ended: Ended,
 }
@@ -56,39 +61,39 @@ pub struct Answered {
 impl Answered {
     /// No line.
     fn none() -> Self
+        ensures lines { result.lines ≡ 0 }
         ensures refused { result.refused ≡ 0 }
+        ensures numbers { result.counts.by_number ≡ replicate 256 0 }
     {
         Answered {
             lines: 0,
             refused: 0,
+            counts: Counts::none(),
             ended: Ended::Whole,
         }
     }
 
-    /// One line more, which was refused or not.
-    fn after(self, is_answered: bool) -> Self
-        ensures refused { (result.refused == 0) ≡ (is_answered && self.refused == 0) }
+    /// One line more, by its answer.
+    #[tactic(auto, unfolding(rs_refusal::specs::Counts::counted_on))]
+    fn meet(&mut self, answer: &Result<Vec<u8>, Refusal>)
+        ensures counted { CountsOne (text_result (λ text. text.items) answer.now) self.old self.new }
+        ensures refused { (self.new.refused == 0) ≡ (is_ok answer.now && self.old.refused == 0) }
     {
-        let refused = if is_answered {
-            self.refused
-        } else {
-            self.refused.saturating_add(1)
-        };
-        Answered {
-            lines: self.lines.saturating_add(1),
-            refused,
-            ended: self.ended,
+        self.lines = self.lines.saturating_add(1);
+        if let Err(refusal) = answer {
+            self.refused = self.refused.saturating_add(1);
+            self.counts.add(refusal.number());
         }
     }
 
     /// The same, ended so.
     fn end(self, ended: Ended) -> Self
-        ensures refused { result.refused ≡ self.refused }
-        ensures ended { result.ended ≡ ended }
+        ensures { result ≡ record self { ended = ended } }
     {
         Answered {
             lines: self.lines,
             refused: self.refused,
+            counts: self.counts,
             ended,
         }
     }
@@ -140,12 +145,11 @@ pub fn answer_lines<S: Shapes, R: BufRead, W: Write, E: Write>(
                 let is_answered = answer_line(
                     alloc,
                     engine,
-                    answered.lines,
                     line.as_slice(),
+                    &mut answered,
                     output,
                     errors,
                 )?;
-                answered = answered.after(is_answered);
                 if stops && !is_answered {
                     return Ok(answered.end(Ended::Refused));
                 }
@@ -181,26 +185,28 @@ fn without_feed(line: &mut Vec<u8>) -> Next
     }
 }
 
-/// Answers one line, and says whether it was not refused.
+/// Answers one line, counts it, and says whether it was not refused.
 fn answer_line<S: Shapes, W: Write, E: Write>(
     alloc: Global,
     engine: &mut S,
-    before: u64,
     line: &[u8],
+    answered: &mut Answered,
     output: &mut W,
     errors: &mut E,
 ) -> Result<bool, Fault>
     ensures answers { (old : Machine) → S.is engine.old old → (new : Machine) × S.is engine.new new
-        × PutsOne IsLineAnswered line.now old result new (W.contents output.old) (W.contents output.new) }
+        × AnswersLine line.now old answered.old result answered.new new (W.contents output.old) (W.contents output.new) }
     ensures becomes { S.becomes engine.old engine.new }
+    ensures refused { IfOk result (λ done. (answered.new.refused == 0) ≡ (done && answered.old.refused == 0)) }
     ensures quiet { result ≡ Ok true → Keeps (E.contents errors.old) (E.contents errors.new) }
 {
     let answer = answer_as_csv(alloc, engine, line);
+    answered.meet(&answer);
     let (text, is_cut) = shown_of(line);
     let ends: &[u8] = if is_cut { b"..\n" } else { b"\n" };
     let asked = Asked {
         kind: b"line ",
-        place: before.saturating_add(1),
+        place: answered.lines,
         begins: b"",
         text,
         ends,

@@ -21,12 +21,12 @@ use crate::reopened::Reopened;
 use crate::report::{FAILED, Failure, SUCCESS};
 use crate::service::end_with;
 use crate::shown::Shown;
-use itoa::Buffer;
+use crate::tally::tell_summary;
 use rs_csv_answers::{Answered, Ended, answer_input};
 use rs_disk::{Disk, MemoryDisk};
 use rs_engine::Engine;
 use rs_engine::engine::laws::{machine_is_the_only_one, steps_leave_a_front};
-use rs_protocol::{Fault, put_parts};
+use rs_protocol::Fault;
 use std::alloc::{AllocGlobal, Global};
 use std::io::{Read, Write};
 
@@ -217,27 +217,15 @@ fn report_where<E: Write>(is_asked: bool, errors: &mut E, outcome: &Outcome)
     }
 }
 
-/// Says how many lines were answered and how many refused, and whether the last one was not answered.
+/// Says how many lines were answered, how many refused, how many with each number, and whether the last one was not answered.
 fn report_answered<E: Write>(errors: &mut E, outcome: &Outcome) -> Result<(), Fault> {
-    let Some(Ok(answered)) = outcome else {
-        return Ok(());
-    };
-    let mut lines = Buffer::new();
-    let mut refused = Buffer::new();
-    put_parts(
-        errors,
-        &[
-            b"roadseg: lines answered: ",
-            lines.format(answered.lines).as_bytes(),
-            b", refused: ",
-            refused.format(answered.refused).as_bytes(),
-            b"\n",
-        ],
-    )?;
-    match answered.ended {
-        Ended::CutLine => put_parts(
+    match outcome {
+        Some(Ok(answered)) => tell_summary(
             errors,
-            &[b"roadseg: the last line lacks its line feed and was not answered\n"],
+            answered.lines,
+            answered.refused,
+            &answered.counts,
+            matches!(answered.ended, Ended::CutLine),
         ),
         _ => Ok(()),
     }

@@ -380,20 +380,22 @@ fn refuse_words<S: AsStr, E: Write>(error: &Error, words: &[S], errors: &mut E) 
 /// Whether a word may be a file's name, and none begins with `--file`. `csv`, `table` and `explain` take no file, and a question of `ask`
 /// may have a point.
 fn lacks_file_option<S: AsStr>(words: &[S]) -> bool {
+    let mut has_command = false;
     let mut has_path = false;
     for place in 1..words.len() {
         let text = words[place].as_str();
-        if takes_no_file(text) || text.starts_with("--file") {
+        if text.starts_with("--file") || (!has_command && takes_no_file(text)) {
             return false;
         }
-        has_path = has_path || may_be_path(text, words[place - 1].as_str());
+        has_path = has_path || may_be_path(text, has_command);
+        has_command = has_command || takes_file(text);
     }
     has_path
 }
 
-/// Whether a word may be a file's name: it has a point or a slash, or comes right after a command that takes a file.
-fn may_be_path(text: &str, before: &str) -> bool {
-    text.contains('.') || text.contains('/') || (takes_file(before) && !text.starts_with('-'))
+/// Whether a word may be a file's name: it has a point or a slash, or comes after a command that takes a file and is no option.
+fn may_be_path(text: &str, has_command: bool) -> bool {
+    text.contains('.') || text.contains('/') || (has_command && !text.starts_with('-'))
 }
 
 /// Whether a command takes a file.

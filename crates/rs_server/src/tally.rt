@@ -6,6 +6,7 @@ use crate::watch::Line;
 use crate::words::form_of;
 use arrayvec::ArrayVec;
 use itoa::Buffer;
+use rs_csv_answers::Counts;
 use rs_explain::ALL;
 use rs_protocol::{Fault, put_parts};
 use rs_refusal::Refusal;
@@ -18,16 +19,13 @@ const REPLY_BYTES: usize = 96;
 /// How many refused lines of a number are told.
 const TOLD: u64 = 10;
 
-/// Room for a count by each number of a refusal.
-const NUMBERS: usize = 256;
-
 /// How many lines were answered, how many of them were refused, and how many with each number.
 #[derive(Drop)]
 pub struct Tally {
     reply: ArrayVec<u8, REPLY_BYTES>,
     accepted: u64,
     refused: u64,
-    by_number: [u64; NUMBERS],
+    counts: Counts,
     is_unended: bool,
 }
 
@@ -38,7 +36,7 @@ impl Tally {
             reply: ArrayVec::new(),
             accepted: 0,
             refused: 0,
-            by_number: [0; NUMBERS],
+            counts: Counts::none(),
             is_unended: false,
         }
     }
@@ -83,41 +81,52 @@ impl Tally {
         self.refused = self.refused.saturating_add(1);
         let answered = self.accepted.saturating_add(self.refused);
         let refusal = refusal_in(self.reply.as_slice());
-        let place = usize::from(number_in(refusal));
-        let count = self.by_number[place].saturating_add(1);
-        self.by_number[place] = count;
-        if count <= TOLD {
+        if self.counts.add(number_in(refusal)) <= TOLD {
             let _ = tell_line(errors, answered, refusal, line);
         }
     }
 
     /// Says how many lines were answered and refused, how many with each number, and whether the last line was not answered.
     pub fn report<E: Write>(&self, errors: &mut E) -> Result<(), Fault> {
-        let mut answered_digits = Buffer::new();
-        let mut refused_digits = Buffer::new();
-        let answered = answered_digits
-            .format(self.accepted.saturating_add(self.refused))
-            .as_bytes();
-        let refused = refused_digits.format(self.refused).as_bytes();
-        put_parts(
+        let answered = self.accepted.saturating_add(self.refused);
+        tell_summary(
             errors,
-            &[
-                b"roadseg: lines answered: ",
-                answered,
-                b", refused: ",
-                refused,
-                b"\n",
-            ],
-        )?;
-        tell_counts(errors, &self.by_number)?;
-        if self.is_unended {
-            return put_parts(
-                errors,
-                &[b"roadseg: the last line lacks its line feed and was not answered\n"],
-            );
-        }
-        Ok(())
+            answered,
+            self.refused,
+            &self.counts,
+            self.is_unended,
+        )
     }
+}
+
+/// Says how many lines were answered and refused, how many with each number, and whether the last line was not answered.
+pub(crate) fn tell_summary<E: Write>(
+    errors: &mut E,
+    answered: u64,
+    refused: u64,
+    counts: &Counts,
+    is_unended: bool,
+) -> Result<(), Fault> {
+    let mut answered_digits = Buffer::new();
+    let mut refused_digits = Buffer::new();
+    put_parts(
+        errors,
+        &[
+            b"roadseg: lines answered: ",
+            answered_digits.format(answered).as_bytes(),
+            b", refused: ",
+            refused_digits.format(refused).as_bytes(),
+            b"\n",
+        ],
+    )?;
+    tell_counts(errors, counts)?;
+    if is_unended {
+        return put_parts(
+            errors,
+            &[b"roadseg: the last line lacks its line feed and was not answered\n"],
+        );
+    }
+    Ok(())
 }
 
 // The first byte after the first blank, or 0.
@@ -177,9 +186,9 @@ fn tell_line<E: Write>(
 }
 
 // Tells how many lines were refused with each number.
-fn tell_counts<E: Write>(errors: &mut E, by_number: &[u64; NUMBERS]) -> Result<(), Fault> {
+fn tell_counts<E: Write>(errors: &mut E, counts: &Counts) -> Result<(), Fault> {
     for refusal in ALL.as_slice() {
-        let count = by_number[usize::from(refusal.number())];
+        let count = counts.of(refusal.number());
         if count > 0 {
             tell_count(errors, refusal, count)?;
         }

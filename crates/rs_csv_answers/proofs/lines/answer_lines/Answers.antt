@@ -1,15 +1,16 @@
 -- Each line is answered after those before it.
-use Rattle.std.proofs.Common.{◌==◌, Bool, Ok, ap, subst}
+use Rattle.std.proofs.Common.{Bool, Ok, ap, subst}
 use Rattle.std.proofs.KnownBytes.{Keeps-refl, Keeps-trans, Consumes-nil}
 use Rattle.std.proofs.lemmas.Result.{err_from_is_err_and}
 use Rattle.rs_csv_answers.specs.Lines.{Reads}
 use Rattle.rs_csv_answers.specs.declared.lines.Ended.TheVariants as ended
+use Rattle.rs_csv_answers.proofs.Counting.{counts_none}
 use Rattle.rs_csv_answers.proofs.ManyLines.{both_none, ends_so, some_refused, told_cut, told_more, told_none, told_stops, told_unread, told_whole}
 use Rattle.rs_csv_answers.proofs.lines.answer_lines.Goals as goal
 
 pub loop-init : goal.loop-init
 loop-init g c = record {
-  answers = λ old is. (old, is, told_none (g.R.Read.remaining c.args.reader.now) (g.W.Write.contents c.args.output.now) old _ (ap (λ n. n == 0) c.none-answered.ensures.refused));
+  answers = λ old is. (old, is, told_none (g.R.Read.remaining c.args.reader.now) (g.W.Write.contents c.args.output.now) old _ (counts_none _ c.none-answered.ensures.lines c.none-answered.ensures.refused c.none-answered.ensures.numbers));
   becomes = g.met.S.Serve.becomes_itself c.args.engine.now;
   quiet = λ none. Keeps-refl _;
 }
@@ -29,7 +30,7 @@ returns-in-End-clause-answers g c = λ old is.
     let reads = subst (λ n. Reads (Ok n) c.next_line.new.line.items (g.R.Read.remaining c.loop.reader) (g.R.Read.remaining c.next_line.new.reader)) c.in-End.is c.in_ok-next_line.ensures in (
       before.0,
       before.1,
-      ends_so ended.Whole c.end.result c.loop.answered.refused _ _ old before.0 _ _ c.end.ensures.ended c.end.ensures.refused
+      ends_so ended.Whole c.end.result c.loop.answered _ _ old before.0 _ _ c.end.ensures
           (told_whole _ _ (g.R.Read.remaining c.next_line.new.reader) old before.0 _ _ _ before.2 c.next_line.new.line.items reads),
     )
 
@@ -39,7 +40,7 @@ returns-in-Cut-clause-answers g c = λ old is.
     let reads = subst (λ n. Reads (Ok n) c.next_line.new.line.items (g.R.Read.remaining c.loop.reader) (g.R.Read.remaining c.next_line.new.reader)) c.in-Cut.is c.in_ok-next_line.ensures in (
       before.0,
       before.1,
-      ends_so ended.CutLine c.end-in-Cut.result c.loop.answered.refused (g.R.Read.remaining c.args.reader.now) (g.R.Read.remaining c.next_line.new.reader) old before.0 (g.W.Write.contents c.args.output.now) (g.W.Write.contents c.loop.output) c.end-in-Cut.ensures.ended c.end-in-Cut.ensures.refused
+      ends_so ended.CutLine c.end-in-Cut.result c.loop.answered (g.R.Read.remaining c.args.reader.now) (g.R.Read.remaining c.next_line.new.reader) old before.0 (g.W.Write.contents c.args.output.now) (g.W.Write.contents c.loop.output) c.end-in-Cut.ensures
           (told_cut _ _ (g.R.Read.remaining c.next_line.new.reader) old before.0 _ _ _ before.2 c.next_line.new.line.items reads),
     )
 
@@ -49,7 +50,7 @@ returns-in_err-is_answered-in-Line-clause-answers g c = λ old is.
     let reads = subst (λ n. Reads (Ok n) c.next_line.new.line.items (g.R.Read.remaining c.loop.reader) (g.R.Read.remaining c.next_line.new.reader)) c.in-Line.is c.in_ok-next_line.ensures in
     let next = c.in_err-is_answered-in-Line.ensures.answers before.0 before.1 in
     let p = err_from_is_err_and c.from_residual-in_err-is_answered-in-Line.result c.from_residual-in_err-is_answered-in-Line.ensures.1 in
-    let stops = told_stops c.as_slice.result.now _ _ (g.R.Read.remaining c.next_line.new.reader) old before.0 next.0 _ c.in_err-is_answered-in-Line.field-0.0 _ _ _ before.2
+    let stops = told_stops c.as_slice.result.now _ _ (g.R.Read.remaining c.next_line.new.reader) old before.0 next.0 _ _ c.in_err-is_answered-in-Line.field-0.0 _ _ _ before.2
     (rw c.as_slice.ensures.value reads) next.2 in
     rw (p.1, p.2) (next.0, next.1, stops)
 
@@ -62,12 +63,12 @@ returns-then-not-is_answered-clause-answers g c = λ old is.
     let before = c.loop.invariant.answers old is in
     let reads = subst (λ n. Reads (Ok n) c.next_line.new.line.items (g.R.Read.remaining c.loop.reader) (g.R.Read.remaining c.next_line.new.reader)) c.in-Line.is c.in_ok-next_line.ensures in
     let next = c.in_ok-is_answered-in-Line.ensures.answers before.0 before.1 in
-    let told = told_more c.as_slice.result.now _ _ (g.R.Read.remaining c.next_line.new.reader) old before.0 next.0 _ _ _ _ _ _ c.after-answered.ensures.refused before.2 (rw c.as_slice.ensures.value reads) next.2 in
-    let some = some_refused c.after-answered.result.refused c.loop.answered.refused _ c.after-answered.ensures.refused c.if-not-is_answered.true in (
+    let told = told_more c.as_slice.result.now _ _ (g.R.Read.remaining c.next_line.new.reader) old before.0 next.0 _ _ _ _ _ _ c.in_ok-is_answered-in-Line.ensures.refused before.2 (rw c.as_slice.ensures.value reads) next.2 in
+    let some = some_refused c.answer_line.new.answered.refused c.loop.answered.refused _ c.in_ok-is_answered-in-Line.ensures.refused c.if-not-is_answered.true in (
       next.0,
       next.1,
-      ends_so ended.Refused c.end-then-not-is_answered.result c.after-answered.result.refused (g.R.Read.remaining c.args.reader.now) (g.R.Read.remaining c.next_line.new.reader) old next.0
-          (g.W.Write.contents c.args.output.now) (g.W.Write.contents c.answer_line.new.output) c.end-then-not-is_answered.ensures.ended c.end-then-not-is_answered.ensures.refused (some, told),
+      ends_so ended.Refused c.end-then-not-is_answered.result c.answer_line.new.answered (g.R.Read.remaining c.args.reader.now) (g.R.Read.remaining c.next_line.new.reader) old next.0
+          (g.W.Write.contents c.args.output.now) (g.W.Write.contents c.answer_line.new.output) c.end-then-not-is_answered.ensures (some, told),
     )
 
 pub returns-then-not-is_answered-clause-becomes : goal.returns-then-not-is_answered-clause-becomes
@@ -82,12 +83,12 @@ loop-preserved g c = record {
       let next = c.in_ok-is_answered-in-Line.ensures.answers before.0 before.1 in (
         next.0,
         next.1,
-        told_more c.as_slice.result.now _ _ (g.R.Read.remaining c.next_line.new.reader) old before.0 next.0 _ _ _ _ _ _ c.after-answered.ensures.refused before.2
+        told_more c.as_slice.result.now _ _ (g.R.Read.remaining c.next_line.new.reader) old before.0 next.0 _ _ _ _ _ _ c.in_ok-is_answered-in-Line.ensures.refused before.2
             (rw c.as_slice.ensures.value reads) next.2,
       );
   becomes = g.met.S.Serve.becomes_later c.args.engine.now c.loop.engine c.answer_line.new.engine c.loop.invariant.becomes c.answer_line.ensures.becomes;
   quiet = λ none.
-      let both = both_none c.after-answered.result.refused c.loop.answered.refused c.in_ok-is_answered-in-Line.is_answered c.after-answered.ensures.refused none in
+      let both = both_none c.answer_line.new.answered.refused c.loop.answered.refused c.in_ok-is_answered-in-Line.is_answered c.in_ok-is_answered-in-Line.ensures.refused none in
       Keeps-trans _ _ _ (c.loop.invariant.quiet both.1) (c.in_ok-is_answered-in-Line.ensures.quiet (ap (λ (b : Bool). Ok b) both.0));
 }
 
