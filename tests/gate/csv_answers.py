@@ -231,12 +231,12 @@ def lines_are_answered_as_csv(folder):
     created(other, [])
     replies = last_lines(run("run", "--file", file, data=data)[1].decode())
     expect("how many replies", len(replies), len(lines))
-    text, told, refused = io.StringIO(), "", 0
+    text, told, refused = io.StringIO(), "", []
     writer = csv.writer(text, lineterminator="\n")
     for number, ((line, header), reply) in enumerate(zip(lines, replies), 1):
         if " ERR " in reply[-1]:
             told += told_of(number, line, reply[-1])
-            refused += 1
+            refused.append(re.sub(" at [0-9]+", " at C", reply[-1].split(" ERR ", 1)[1]))
             continue
         if header:
             writer.writerow(header)
@@ -247,11 +247,12 @@ def lines_are_answered_as_csv(folder):
         expect("what is told", errors.decode(), told)
         expect("the status", status, 1)
     expect("the files", run("dump", "--file", file), run("dump", "--file", other))
-    counted = told + "roadseg: lines answered: %d, refused: %d\n" % (len(lines), refused)
+    counted = told + "roadseg: lines answered: %d, refused: %d\n" % (len(lines), len(refused))
+    counted += "".join("roadseg: refused %s: %d\n" % (refusal, refused.count(refusal)) for refusal in sorted(set(refused), key=lambda refusal: int(refusal.split()[0])))
     expect("with a report", run("run", "--csv", "--report", data=data)[2].decode(), counted)
     first = told.splitlines(True)[0]
     status, out, errors = run("run", "--csv", "--bail", "--report", data=data)
-    expect("up to the first refused line", (status, errors.decode().startswith(first), errors.count(b"\n")), (1, True, 2))
+    expect("up to the first refused line", (status, errors.decode().startswith(first), errors.count(b"\n")), (1, True, 3))
     number = int(re.match("roadseg: line ([0-9]+)", first).group(1))
     accepted = "".join("%s\n" % line for line, _ in lines[: number - 1]).encode()
     expect("what was answered by then", run("run", "--csv", data=accepted), (0, out, b""))

@@ -112,9 +112,13 @@ COUNTS = {4: "four", 5: "five", 6: "six", 7: "seven", 8: "eight", 9: "nine"}
 
 
 def shown(field):
-    """A field as it is shown in what is told."""
-    data = field.encode()
-    return field if len(data) <= 60 else data[:60].decode(errors="ignore") + ".."
+    """A field as it is shown in what is told: its first 60 bytes up to a whole character, with `?` for each that is no printable text."""
+    data = field.encode(errors="surrogateescape")
+    end = len(data)
+    if end > 60:
+        end = next((end for end in range(60, 0, -1) if data[end] & 0xC0 != 0x80), 60)
+    text = data[:end].decode(errors="surrogateescape")
+    return re.sub("[\0-\x1f\x7f\udc80-\udcff]", "?", text) + (".." if end < len(data) else "")
 
 
 def measure_of(field, rounds):
@@ -177,9 +181,21 @@ def line_of(fields, session=0, rounds=False):
     return "%d INSERT INTO pavement ON %s FROM %s TO %s VALUES (%s, %s)\n" % (session, route, begin, end, text, number[0]), first + last
 
 
+def field_told(field):
+    """A field in what is told."""
+    if field.strip(" "):
+        return shown(field)
+    return "a blank field" if field else "an empty field"
+
+
 def told_of(field, words):
     """What is told of a field."""
-    return "%s %s" % (shown(field) if field else "an empty field", words)
+    return "%s %s" % (field_told(field), words)
+
+
+def more_fields(fields, width):
+    """What is told of a record with more fields than the header."""
+    return "%d fields, where the header has %d; the first past it is %s" % (len(fields), width, field_told(fields[width]))
 
 
 KINDS = [
@@ -192,6 +208,8 @@ def kind_of(words):
     """The kind of a fault that is told in these words."""
     if re.search(" has [a-z0-9]+ decimals$", words):
         return "too many decimals"
+    if re.match("[0-9]+ fields, where the header has [0-9]+; the first past it is ", words):
+        return "more fields than the header"
     if re.search(" would be .*, as .* is$", words):
         return "one name of two texts"
     return next(kind for kind in sorted(KINDS, key=len, reverse=True) if words.endswith(kind))
@@ -235,17 +253,17 @@ def told_once(line, *faults, number=1):
 
 
 class Lines:
-    """The lines of a text, and how many line feeds were in those that were taken."""
+    """The lines of a text, each of which ends with LF, CR LF or CR alone, and how many were taken."""
 
     def __init__(self, text):
-        self.lines, self.feeds = io.StringIO(text, newline=""), 0
+        self.lines, self.taken = io.StringIO(text, newline=""), 0
 
     def __iter__(self):
         return self
 
     def __next__(self):
         line = next(self.lines)
-        self.feeds += line.count("\n")
+        self.taken += 1
         return line
 
 
@@ -255,7 +273,7 @@ def records_of(text, separator=","):
     reader = csv.reader(lines, delimiter=separator)
     number = 0
     while True:
-        line = lines.feeds + 1
+        line = lines.taken + 1
         fields = next(reader, None)
         if fields is None:
             return
@@ -297,9 +315,9 @@ def wanted_of(data, rounds=False, separator=","):
 
 
 def check_random():
-    """Pseudo-random records, with both line ends and with a byte order mark, with measures rounded, and with other separators."""
+    """Pseudo-random records, with each line end and with a byte order mark, with measures rounded, and with other separators."""
     for count, ending, mark, seed, words, separator in (
-        (RECORDS, "\n", b"", 1, [], ","), (2_000, "\r\n", MARK, 2, [], ","), (0, "\n", b"", 3, [], ","), (20_000, "\n", b"", 7, ["--round"], ","),
+        (RECORDS, "\n", b"", 1, [], ","), (2_000, "\r\n", MARK, 2, [], ","), (5_000, "\r", b"", 15, [], ","), (0, "\n", b"", 3, [], ","), (20_000, "\n", b"", 7, ["--round"], ","),
         (2_000, "\r\n", MARK, 9, ["--separator", ";"], ";"), (2_000, "\n", b"", 10, ["--separator", "tab"], "\t"), (2_000, "\n", b"", 11, ["--separator", "a"], "a"),
     ):
         chance = random.Random(seed)
@@ -362,8 +380,15 @@ def check_fields():
             expect(record.decode(), got, (0, ("0 INSERT INTO pavement ON SR1 %s\n" % values).encode(), b""))
     for record, told in (
         (b"SR1,0,1,a", "year: no such field"),
-        (b'SR1,0,1,"a\nb",1', "surface: not text"),
-        (b"SR1,0,1,\xff,1", "surface: not text"),
+        (b'SR1,0,1,"a\nb",1', "surface: a?b is not text"),
+        (b"SR1,0,1,\xff,1", "surface: ? is not text"),
+        (b"SR1,0,1,as\x7fhalt,1", "surface: as?halt is not text"),
+        (b"SR1,0,1,\xc3\xa9\xe2\x82a\t\xed\xa0\x80\xc3,1", "surface: \u00e9??a????? is not text"),
+        (b"SR1,0,1," + b"\xc3\xa9" * 29 + b"a\x80" + b"b" * 9 + b",1", "surface: %sa?.. is not text" % ("\u00e9" * 29)),
+        (b"SR1,0,1," + b"\x80" * 70 + b",1", "surface: %s.. is not text" % ("?" * 60)),
+        (b"  ,0,1,a,1", "route: a blank field is not a name"),
+        (b"SR1, ,1,a,1", "from: a blank field is not a position"),
+        (b"SR1,0,1,a,   ", "year: a blank field is not a number"),
         (b'SR1,0,1,a,""', "year: an empty field is not a number"),
         (b",0,1,a,1", "route: an empty field is not a name"),
         (b"I-95,0,1,a,1", "route: I-95 is not a name"),
@@ -377,15 +402,25 @@ def check_fields():
     expect("all faults of a record", got, (1, b"", told_once(4, *faults)))
     more = head + b"SR1,0,1,Main St, North,2011\nSR1,1,2,a,1\n"
     after = b"0 INSERT INTO pavement ON SR1 FROM 1 TO 2 VALUES ('a', 1)\n"
-    told = told_once(2, ("", "more fields than the header"))
+    told = told_once(2, ("", "6 fields, where the header has 5; the first past it is 2011"))
     expect("an unquoted comma", run("csv", DEFINE, "--no-define", data=more), (1, after, told))
+    for first, words in ((b"", "an empty field"), (b" ", "a blank field"), (b'"b\t"', "b?")):
+        told = told_once(2, ("", "7 fields, where the header has 5; the first past it is " + words))
+        expect("fields past the header", run("csv", DEFINE, "--no-define", data=head + b"9,x,y,z,2011," + first + b",1\n"), (1, b"", told))
     long = head + b'SR1,0,1,"%s\n\n%s\n",1\nSR1,1,2,a,1\n,1,2,a,1\n' % (b"x\n" * 10_000, b"x" * 70_000)
     told = Told()
     told.leave_out(1, 2, [("", "longer than 65536 bytes")])
     told.leave_out(3, 10_007, [("route", "an empty field is not a name")])
     for words in ((), ("--routes",)):
-        status, out, errors = run("csv", DEFINE, "--no-define", *words, data=long)
-        expect("a long record", (status, out[-len(after):], errors), (1, after, told.text().encode()))
+        for end in (b"\n", b"\r", b"\r\n"):
+            status, out, errors = run("csv", DEFINE, "--no-define", *words, data=long.replace(b"\n", end))
+            expect("a long record with %r" % end, (status, out[-len(after):], errors), (1, after, told.text().encode()))
+    mixed = head + b'SR1,0,1,"a\r\r\nb\n\r",1\r\r\n\n\r-,1,2,a,1\r-,1,2,a,1\r\n-,1,2,a,1\n'
+    told = Told()
+    told.leave_out(1, 2, [("surface", "a???b?? is not text")])
+    for number, line in ((2, 10), (3, 11), (4, 12)):
+        told.leave_out(number, line, [("route", "- is not a name")])
+    expect("each end of a line", run("csv", DEFINE, "--no-define", data=mixed), (1, b"", told.text().encode()))
 
 
 NOTES = "DEFINE POINT TABLE notes (note TEXT(40))"
@@ -395,13 +430,13 @@ NOTE_COLUMNS = ["route", "at", "note"]
 def note_of(fields):
     """What is made of a record of notes: its line, or what is wrong with it."""
     if len(fields) > len(NOTE_COLUMNS):
-        return [("", "more fields than the header")]
+        return [("", more_fields(fields, len(NOTE_COLUMNS)))]
     faults = []
     for place, (name, wrong) in enumerate(zip(NOTE_COLUMNS, ("is not a name", "is not a position", ""))):
         if place >= len(fields):
             faults.append((name, "no such field"))
         elif re.search(r"[\r\n\t]", fields[place]):
-            faults.append((name, "not text"))
+            faults.append((name, told_of(fields[place], "is not text")))
         elif not re.fullmatch(("[A-Za-z][A-Za-z0-9_]*", "1", ".*")[place], fields[place]):
             faults.append((name, told_of(fields[place], wrong)))
     if faults:
@@ -495,9 +530,13 @@ def check_scales():
         expect("--scale %s" % words, run("csv", DEFINE, "--scale", words, data=head), (2, b"", told))
 
 
+BLANKS = " \t\n\f\r"  # what is dropped round a text of which a name is made
+
+
 def made_name(text):
     """The name that a text is made with `--names`, or None."""
-    name = "".join(byte if re.match("[A-Za-z0-9_]", byte) else "_" for byte in text.strip(" ").encode().decode("latin-1"))
+    data = text.strip(BLANKS).encode(errors="surrogateescape").decode("latin-1")
+    name = "".join(byte if re.match("[A-Za-z0-9_]", byte) else "_" for byte in data)
     if not name:
         return None
     name = (name if name[0].isalpha() else "R" + name)[:32]
@@ -516,10 +555,10 @@ def check_made_names(count=20_000):
         expect("what Python makes of %s" % text, made_name(text), name)
         line = "0 INSERT INTO crash ON %s AT 1 VALUES (NULL)\n" % name
         expect("the name of %r" % text, run("csv", POINTS, "--no-define", "--names", data=("route,at,year\n%s,1,\n" % text).encode()), (0, line.encode(), b""))
-    for text in ("", " ", '""'):
-        shown_text = " is not a name" if text == " " else "an empty field is not a name"
-        told = told_once(2, ("route", " " + shown_text if text == " " else shown_text))
+    for text, words in (("", "an empty field"), ('""', "an empty field"), (" ", "a blank field"), ('"   "', "a blank field"), ("\t", "?")):
+        told = told_once(2, ("route", words + " is not a name"))
         expect("no name of %r" % text, run("csv", POINTS, "--no-define", "--names", data=("route,at,year\n%s,1,\n" % text).encode()), (1, b"", told))
+    check_odd_routes()
     chance = random.Random(12)
     made, lines, told, records = {}, [], Told(), []
     for number in range(1, count + 1):
@@ -530,7 +569,7 @@ def check_made_names(count=20_000):
         if first == text:
             lines.append("0 INSERT INTO crash ON %s AT 1 VALUES (NULL)\n" % name)
         else:
-            told.leave_out(number, number + 1, [("", "%s would be %s, as %s is" % (text, name, first))])
+            told.leave_out(number, number + 1, [("route", "%s would be %s, as %s is" % (text, name, first))])
     data = csv_of(records, "\n", ["route", "at", "year"])
     expect("made names", run("csv", POINTS, "--no-define", "--names", data=data), (1, "".join(lines).encode(), told.text().encode()))
     status, out, errors = run("csv", POINTS, "--no-define", "--names", "--routes", data=data)
@@ -545,6 +584,33 @@ def check_made_names(count=20_000):
         expect(header.decode(), got, (0, line, b""))
     told = b"roadseg: mp_1: column twice in the header once names are made: route, mp 1, mp-1, year\n"
     expect("two columns", run("csv", POINTS, "--names", "--at", "mp_1", data=b"route,mp 1,mp-1,year\n"), (1, b"", told))
+
+
+def check_odd_routes():
+    """Names made of bytes that are no text, and names that are taken beside other faults."""
+    head = b"route,at,year\n"
+    for text in (b"I\xff95", b'"I\n95"', b"I\t95", b"I\x7f95", b'" \r\nI-95\t"', b"\xc9\xe2\x82", b"9\0", b"LINE\n"):
+        said = text.strip(b'"').decode(errors="surrogateescape")
+        line = "0 INSERT INTO crash ON %s AT 1 VALUES (NULL)\n" % made_name(said)
+        data = head + (text if text[:1] == b'"' else b'"%s"' % text) + b",1,\n"
+        expect("the name of %r" % text, run("csv", POINTS, "--no-define", "--names", data=data), (0, line.encode(), b""))
+    expect("no name without its word", run("csv", POINTS, "--no-define", data=head + b"I\xff95,1,\n"), (1, b"", told_once(2, ("route", "I?95 is not text"))))
+    data = head + b'I-95,x,\nI 95,1,\nI-95,1,\n"I\n95",1.2345,y\n%s,2,\n' % (b"I_95" + b"\xc3\xa9" * 40)
+    data += b'"%s",3,1,4\nI 95,2,\nI_95,,\n' % (b"I_95" + b"?" * 80)
+    insert = "0 INSERT INTO crash ON %s AT %s VALUES (NULL)\n"
+    long = "I_95" + "_" * 28
+    lines = insert % ("I_95", "1") + insert % (long, "2") + insert % ("I_95", "2")
+    told = Told()
+    told.leave_out(1, 2, [("at", "x is not a position")])
+    told.leave_out(3, 4, [("route", "I-95 would be I_95, as I 95 is")])
+    told.leave_out(4, 5, [("route", "I?95 would be I_95, as I 95 is"), ("at", "1.2345 has four decimals"), ("year", "y is not a number")])
+    told.leave_out(6, 8, [("", "4 fields, where the header has 3; the first past it is 4")])
+    told.leave_out(8, 10, [("route", "I_95 would be I_95, as I 95 is"), ("at", "an empty field is not a position")])
+    expect("taken names", run("csv", POINTS, "--no-define", "--names", data=data), (1, lines.encode(), told.text().encode()))
+    data = head + b"%s,1,\n%s,1,\n" % (b"a" * 70, b"a" * 59 + "\u00e9\u00e9".encode())
+    told = told_once(3, ("route", "%s.. would be %s, as %s.. is" % ("a" * 59, "a" * 32, "a" * 60)), number=2)
+    line = insert % ("a" * 32, "1")
+    expect("long texts of one name", run("csv", POINTS, "--no-define", "--names", data=data), (1, line.encode(), told))
 
 
 def check_numbered():
@@ -606,7 +672,7 @@ def check_rejects(count=3_000):
             expect("no more rejects", os.path.getsize(again), 0)
         data = b'route,at,"no""te"\nSR1,1,""\n"S ",x,""\nSR1,2\nSR1,3,a,b\nSR1,x,"a, ""b"""\n'
         header = b'route,at,"no""te","left_out_because"\n'
-        wrong = b'"S ",x,"","at: x is not a position"\nSR1,2,,"no""te: no such field"\nSR1,3,a,b,"more fields than the header"\nSR1,x,"a, ""b""","at: x is not a position"\n'
+        wrong = b'"S ",x,"","at: x is not a position"\nSR1,2,,"no""te: no such field"\nSR1,3,a,b,"4 fields, where the header has 3; the first past it is b"\nSR1,x,"a, ""b""","at: x is not a position"\n'
         words = ["csv", NOTES, "--no-define", "--column", 'note=no"te', "--rejects", file]
         expect("rejects one by one", run(*words, data=data)[:2], (1, b"0 INSERT INTO notes ON SR1 AT 1 VALUES ('')\n"))
         with open(file, "rb") as left:
@@ -615,11 +681,26 @@ def check_rejects(count=3_000):
         expect("read again", run(*words, data=data)[:2], (1, b"0 INSERT INTO notes ON SR1 AT 2 VALUES (NULL)\n"))
         with open(file, "rb") as left:
             expect("their rows", left.read(), header + b"".join(row for row in wrong.splitlines(True) if b"SR1,2" not in row))
+        data = b"route,at,year\nI-95,1,\nI 95,x,\n"
+        status = run("csv", POINTS, "--names", "--rejects", file, data=data)[0]
+        with open(file, "rb") as left:
+            row = b'I 95,x,,"route: I 95 would be I_95, as I-95 is; at: x is not a position"\n'
+            expect("all that is wrong", (status, left.read()), (1, b'route,at,year,"left_out_because"\n' + row))
         names = os.path.join(folder, "names.csv")
         data = b'route,at,year\nI-95,1,\n"US ""40""",1,\nSR1,1,\n'
+        columns = b'old,new,what\n"route",route,column\n"at",at,column\n"year",year,column\n'
         expect("the status with --names-file", run("csv", POINTS, "--names-file", names, data=data)[0], 0)
         with open(names, "rb") as made:
-            expect("the names", made.read(), b'old,new\n"I-95",I_95\n"SR1",SR1\n"US ""40""",US__40_\n')
+            expect("the names", made.read(), columns + b'"I-95",I_95,route\n"SR1",SR1,route\n"US ""40""",US__40_,route\n')
+        data = b'Route No., "MP","MP (mi)",,"a ""b"""," ",Year,101,SELECT,\xff,x\ty\n I_9\xff\t,,1,,,,7,,,,\n'
+        expect("the status with other columns", run("csv", POINTS, "--names-file", names, "--route", "Route No.", "--at", "MP (mi)", data=data)[0], 0)
+        with open(names, "rb") as made:
+            rows = b'old,new,what\n"Route No.",Route_No_,column\n" ""MP""",R_MP_,column\n"MP (mi)",MP__mi_,column\n"a ""b""",a__b_,column\n"Year",Year,column\n"101",R101,column\n'
+            rows += b'"SELECT",SELECT_,column\n"\xff",R_,column\n"x\ty",x_y,column\n"I_9\xff",I_9_,route\n'
+            expect("the names of other columns", made.read(), rows)
+        expect("the status without a record", run("csv", POINTS, "--names-file", names, data=b"")[0], 0)
+        with open(names, "rb") as made:
+            expect("no names", made.read(), b"old,new,what\n")
         for option in ("--rejects", "--names-file"):
             told = ("roadseg: cannot open file\nroadseg: %s: a folder\n" % folder).encode()
             expect("%s to a folder" % option, run("csv", POINTS, option, folder, data=data), (1, b"", told))

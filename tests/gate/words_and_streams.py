@@ -106,14 +106,18 @@ def words_are_looked_at_first(program):
 
 
 def a_file_without_its_option_is_told_of(program):
-    """Where a word has a point or a slash or comes after a command that takes a file, and none is --file, csv, table or explain."""
+    """Where a word has a point or a slash, or comes after a command that takes a file and is no option; not where the command takes none, nor beside --file."""
     file = program.file()
-    for words in (["run", "roads.seg"], ["run", file], ["run", "--bail", "x/y"], ["create", "roads.seg"], ["dump", file], ["serve", "roads.seg"], ["roads.seg"], ["run", "roads"], ["dump", "roads"]):
+    for words in (
+        ["run", "roads.seg"], ["run", file], ["run", "--bail", "x/y"], ["create", "roads.seg"], ["dump", file], ["serve", "roads.seg"], ["roads.seg"], ["run", "roads"], ["dump", "roads"],
+        ["run", "--csv", "roads"], ["run", "--report", "lines"], ["run", "--report", "--bail", "--csv", "roads"], ["run", "csv"], ["run", "--csv", "table"], ["run", "--", "roads"],
+        ["dump", "--definitions", "roads"], ["serve", "--connections", "2"],
+    ):
         done = program.run(*words, sent=DEFINED)
         expect(" ".join(words), (done.status, done.out, done.errors.startswith(b"error: "), done.errors.endswith(b"\n" + NAMED)), (2, b"", True, True))
         expect("a line once", done.errors.count(NAMED), 1)
     table = "DEFINE LINE TABLE t (a INT)"
-    for words in (["walk"], ["walk", "roads"], [], ["run", "--bale"], ["table", "t.csv"], ["run", "--file", file, "roads.seg"], ["run", "--file=" + file, "x.y"], ["csv", table, "t.csv"], ["explain", "1", "2.1"]):
+    for words in (["walk"], ["walk", "roads"], [], ["run", "--bale"], ["run", "--csv", "--bale"], ["table", "t.csv"], ["run", "--file", file, "roads.seg"], ["run", "--file=" + file, "x.y"], ["run", "--csv", "roads", "--file", file], ["csv", table, "t.csv"], ["explain", "1", "2.1"]):
         done = program.run(*words, sent=DEFINED)
         expect(" ".join(words), (done.status, done.out, done.errors.startswith(b"error: "), NAMED in done.errors), (2, b"", True, False))
     expect("files that were made", os.listdir(program.folder), [])
