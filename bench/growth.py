@@ -1,12 +1,12 @@
 #!/usr/bin/env python3
 """Counts how the instructions of jobs grow with the spans, and those of an INSERT with the tables beside.
 
-    bench/growth.py [--program crates/roadseg/out/roadseg] [--sizes 25000,400000] [--routes 400] [--rows 25000] [--tables 128]
+    bench/growth.py [--program crates/roadseg/out/roadseg] [--sizes 25000,400000] [--routes 400] [--loaded 25000] [--tables 128]
                     [--jobs tables,loads,opening,overlay,total]
 
 Counts are of `valgrind --tool=cachegrind`, over a file. Loads with SAVE are told less the definitions of routes; opening a file less
 opening one without spans; an overlay of two tables, the length of all rows and `dump` less opening the file. For each job: millions
-of instructions of each size, and the growth exponent from the first size to the last. `tables` has so many rows in order, beside
+of instructions of each size, and the growth exponent from the first size to the last. `tables` loads so many spans in order, beside
 one table and beside so many tables of one row each, and prints the instructions of an INSERT and their ratio.
 """
 
@@ -74,18 +74,18 @@ JOBS = {"loads": loads, "opening": opening, "overlay": overlay, "total": total}
 
 def beside(words, tables, folder):
     """The instructions of an INSERT beside so many tables."""
-    setup = setup_for(words.rows, words.routes)
+    setup = setup_for(words.loaded, words.routes)
     for number in range(1, tables):
         setup.append("0 DEFINE LINE TABLE t%03d (n INT, s TEXT(8))" % number)
         setup.append("0 INSERT INTO t%03d ON R0 FROM 0 TO 1 VALUES (1, 'AC')" % number)
     ends = []
-    for some in (inserts(words.rows, words.routes), []):
+    for some in (inserts(words.loaded, words.routes), []):
         ends.append(count(words, made(words.program, folder, strongest_peers.text(setup)), some + ["0 SAVE"]))
-    return (ends[0] - ends[1]) / words.rows
+    return (ends[0] - ends[1]) / words.loaded
 
 
 def main():
-    words = parser_of(__doc__, program=PROGRAM, sizes=[25_000, 400_000], routes=400, rows=25_000, tables=128,
+    words = parser_of(__doc__, program=PROGRAM, sizes=[25_000, 400_000], routes=400, loaded=25_000, tables=128,
                       jobs=",".join(["tables", *JOBS])).parse_args()  # fmt: skip
     words.program = os.path.abspath(words.program)
     asked = words.jobs.split(",")
