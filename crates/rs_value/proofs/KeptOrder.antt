@@ -1,17 +1,13 @@
 -- The order of the bytes that keep rows is the order of rows.
-use Rattle.std.proofs.Common.{◌≡◌, ℕ, ◌≤◌, ℤ, nat_abs, ◌^◌, List, [], ◌∷◌, ◌++◌, Bool, true, false, ◌↔◌, IsTrue, refl, sym, ap, ◌∙◌}
-use Rattle.std.specs.declared.cmp.Ordering.{Ordering}
-use Rattle.std.specs.declared.cmp.Ordering.TheVariants.{Less, Equal, Greater}
-use Rattle.std.specs.Ordering.{nat_cmp, int_cmp, ordering_then, is_eq}
+use Rattle.std.proofs.Common.{◌≡◌, ℕ, ◌≤◌, ℤ, nat_abs, ◌^◌, List, [], ◌∷◌, ◌++◌, false, refl, sym, ap, ◌∙◌}
+use Rattle.std.specs.Ordering.{nat_cmp, int_cmp, ordering_then}
 use Rattle.std.specs.Cmp.Lexicographic.{slice_cmp}
 use Rattle.std.specs.List.{AllByRecursion, list_any}
 use Rattle.std.specs.Int.{w64, to_be_bytes}
-use Rattle.std.proofs.lemmas.Cmp.{tied_itself}
 use Rattle.rs_value.specs.Row.{Datum, null, number, text, Row, datum_cmp, row_cmp}
 use Rattle.rs_value.specs.Values.{is_control}
 use Rattle.rs_value.specs.Kept.{above_least, kept_datum, kept_bytes, MayBeKept, Keeps}
 use Rattle.rs_value.proofs.EncodingOrder.{above_zeros, false_parts, not_control, less, greater, above_cmp, is_above, below_all, eight_bytes_cmp, beside_cmp, then_assoc, then_equal}
-use Rattle.rs_value.specs.RowOrder.{row_antisymmetric, row_total}
 use Rattle.rs_value.proofs.KeptRows.{above_is, row_is}
 
 numbers_cmp : (n m : ℤ) → nat_abs n ≤ 10 ^ 12 → nat_abs m ≤ 10 ^ 12 → slice_cmp nat_cmp (to_be_bytes w64 (above_least n)) (to_be_bytes w64 (above_least m)) ≡ int_cmp n m
@@ -65,15 +61,3 @@ kept_once bytes x y h g = sym (row_is bytes x h) ∙ row_is bytes y g
 
 pub kept_one_way : (a b : List ℕ) (row : Row) → Keeps a row → Keeps b row → a ≡ b
 kept_one_way a b row h g = h.bytes_are ∙ sym g.bytes_are
-
-ties : (o : Ordering) → is_eq o ≡ true → o ≡ Equal
-ties Less e = cc
-ties Equal e = refl
-ties Greater e = cc
-
--- Rows are the same where they tie.
-pub same_where_tied : (same : Bool) (x y : Row) → same ≡ is_eq (row_cmp x y) → IsTrue same ↔ (x ≡ y)
-same_where_tied same x y is = (
-  (λ h. row_antisymmetric x y (ties (row_cmp x y) (sym is ∙ h))),
-  (λ h. is ∙ ap is_eq (ap (row_cmp x) (sym h) ∙ tied_itself row_total x)),
-)

@@ -8,3 +8,4 @@ pub mod KeptOrder
 pub mod KeptReading
 mod KeptEncoding
 mod KeptText
+pub mod SameBytes

@@ -2,7 +2,7 @@
 //!
 //! Rows in memory take mostly 9 to 18 bytes; the order that slices have is made for longer ones.
 
-ghost use Rattle.std.specs.Prelude.{◌≡◌};
+ghost use Rattle.std.specs.Prelude.{◌≡◌, ◌↔◌, IsTrue};
 ghost use Rattle.std.specs.Cmp.Lexicographic.{slice_cmp};
 ghost use Rattle.std.specs.Int.{w64, to_be_bytes};
 ghost use Rattle.std.specs.Ordering.{nat_cmp};
@@ -27,6 +27,22 @@ pub fn compare_bytes(one: &[u8], other: &[u8]) -> Ordering
         right = others;
     }
     compare_each(left, right)
+}
+
+/// Whether two strings of bytes are the same. Lengths and last bytes are looked at first, since rows are mostly alike in
+/// front.
+pub fn same_bytes(one: &[u8], other: &[u8]) -> bool
+    ensures { IsTrue result ↔ (one.now ≡ other.now) }
+{
+    if one.len() != other.len() {
+        return false;
+    }
+    match (one.split_last_chunk::<8>(), other.split_last_chunk::<8>()) {
+        (Some((front, end)), Some((others, last))) => {
+            number_in(end) == number_in(last) && compare_bytes(front, others).is_eq()
+        }
+        _ => compare_each(one, other).is_eq(),
+    }
 }
 
 // The number that eight bytes are, the highest first.

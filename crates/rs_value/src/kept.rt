@@ -12,7 +12,7 @@ ghost use Rattle.rs_value.specs.Text.{values_text};
 ghost use Rattle.rs_value.specs.Values.{IsRowOf};
 ghost use Rattle.rs_value.specs.View.{literal_row};
 
-use crate::byte_order::compare_bytes;
+use crate::byte_order::{compare_bytes, same_bytes};
 use crate::column::Schema;
 use crate::kept_bytes::{after_values, count_values, first_value};
 use crate::kept_encoding::{kept_of, push_encoded};
@@ -143,7 +143,7 @@ pub fn compare_rows(left: &KeptRow, right: &KeptRow) -> Ordering
 pub fn same_row(left: &KeptRow, right: &KeptRow) -> bool
     ensures { IsTrue result ↔ (left.now ≡ right.now) }
 {
-    compare_rows(left, right).is_eq()
+    same_bytes(left.bytes.as_slice(), right.bytes.as_slice())
 }
 
 /// Appends a space and the text of each value of a row. Where memory runs out, a part may have been appended.

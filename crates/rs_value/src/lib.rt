@@ -24,7 +24,7 @@ pub mod row_text;
 pub mod text;
 pub mod value;
 
-pub use byte_order::compare_bytes;
+pub use byte_order::{compare_bytes, same_bytes};
 pub use column::{COLUMNS, ColumnType, Kind, ROW_BYTES, Schema, TEXT_BYTES};
 pub use comparison::Comparison;
 pub use encoding::{column_width, decode, encode, row_width};
