@@ -1,6 +1,6 @@
 -- Spans in order of place, joined in turn: the runs that are made, those of them that are open, and the spans that are left.
-use Rattle.std.proofs.Common.{◌≡◌, ◌≢◌, ℕ, zero, suc, ◌+◌, ◌-◌, ◌<◌, ◌≤◌, ◌⊎◌, min, max, Bool, true, false, ◌&&◌, inl, inr, List, [], ◌∷◌, ◌++◌, length, map, take, drop, get_or, set, Contains, refl, sym, ap, ◌∙◌, subst, arith, append_assoc, get_or-set_same}
-use Rattle.std.proofs.lemmas.Bool.{and_parts, and_cases, cases_eq, cases_lt, ltb-false, false≢true}
+use Rattle.std.proofs.Common.{◌≡◌, ◌≢◌, ℕ, zero, suc, ◌+◌, ◌-◌, ◌<◌, ◌≤◌, ◌⊎◌, min, max, Bool, true, false, inl, inr, List, [], ◌∷◌, ◌++◌, length, map, take, drop, get_or, set, Contains, refl, sym, ap, ◌∙◌, subst, arith, append_assoc, get_or-set_same}
+use Rattle.std.proofs.lemmas.Bool.{and_cases, cases_eq, cases_lt, ltb-false}
 use Rattle.std.proofs.lemmas.List.{get_or-set_other, get_or-map, get_or-take, take-set-le, drop_more, take_more_set, drop-set-lt, drop_all, set-set, set-get_or, set_split, append-nil, map-append, length-map, length-set, length-take-le, take-append-drop}
 use Rattle.std.proofs.Math.Seq.{take-set-lt}
 use Rattle.std.proofs.lemmas.List.Elements.{Contains-append_cases, Contains-append_left, Contains-append_right}
@@ -12,7 +12,7 @@ use Rattle.rs_value.specs.declared.column.Kind.{Kind}
 use Rattle.rs_value.specs.declared.column.Kind.TheVariants.{Point, Line}
 use Rattle.rs_facts.specs.declared.fact.Span.{Span}
 use Rattle.rs_facts.specs.Insert.{with_row}
-use Rattle.rs_facts.specs.Runs.{Stretch, stretch}
+use Rattle.rs_facts.specs.Runs.{Stretch}
 use Rattle.rs_facts.specs.Spans.{seen, places_of, IsPlaced, ArePlaced, gap_of}
 use Rattle.rs_facts.proofs.Rows.{same_row, same_row-equal}
 use Rattle.rs_facts.proofs.KeptLaws.{placed-some, every-before}

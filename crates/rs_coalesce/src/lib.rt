@@ -12,3 +12,4 @@ mod turn;
 
 pub use lending::lent;
 pub use maximal::{runs, runs_of_runs_are_the_same};
+pub use order::sort_by_place;

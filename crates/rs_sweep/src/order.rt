@@ -1,4 +1,5 @@
-//! The order of lists of spans: by where they begin.
+//! The order of lists of spans: by where they begin, and those that begin at one place by row, so that the runs of what an operator
+//! makes are in printing order without another sort.
 
 ghost use Rattle.std.specs.Prelude.{◌≡◌, IsPermutation, map};
 ghost use Rattle.rs_facts.specs.Spans.{seen};
@@ -11,5 +12,5 @@ pub fn sort_by_place(spans: &mut Vec<Span>)
     ensures moved { IsPermutation spans.old.items spans.new.items }
     ensures sorted { AreSorted (map seen spans.new.items) }
 {
-    spans.sort_unstable_by(|left, right| left.lo.cmp(&right.lo));
+    rs_coalesce::sort_by_place(spans);
 }

@@ -1,9 +1,8 @@
-use Rattle.std.proofs.Common.{◌≡◌, ℕ, ◌+◌, ◌++◌, ◌∷◌, [], ◌<◌, ◌≤◌, Bool, true, false, length, take, rules, Contains, refl, sym, ap, ◌∙◌, subst, arith}
+use Rattle.std.proofs.Common.{◌≡◌, ℕ, ◌+◌, ◌++◌, ◌∷◌, [], ◌<◌, true, length, take, rules, Contains, refl, sym, ◌∙◌, subst, arith}
 use Rattle.std.proofs.lemmas.Bool.{false≢true}
 use Rattle.std.proofs.lemmas.List.Elements.{Contains-append_left}
-use Rattle.rs_facts.specs.Spans.{seen}
 use Rattle.rs_coalesce.proofs.JoinLoop.{grown-is}
-use Rattle.rs_coalesce.proofs.OpenRuns.{Turn, StayOpen, Ended, turn-start, turn-join, turn-push, turn-end, turn-inside, turn-as}
+use Rattle.rs_coalesce.proofs.OpenRuns.{StayOpen, Ended, turn-start, turn-join, turn-push, turn-end, turn-inside, turn-as}
 use Rattle.rs_coalesce.proofs.turn.join_each.Goals as goal
 use Rattle.rs_coalesce.proofs.turn.join_each.Goals.{in-Some, in-None, then-are_all, else-are_all, then-are_all-2, else-are_all-2}
 
