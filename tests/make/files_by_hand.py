@@ -123,6 +123,11 @@ def put_points(*records):
     return change
 
 
+def rows_over(count, *records):
+    """Records of so many other rows, which begin one after another and end together, and then these."""
+    return add_records(*[Record(0, 10 * place, 4_000, (b"r%d" % place,), 6) for place in range(count)], *records)
+
+
 def put_value(longest, value):
     """In place of the table one of a column with this longest text, with one row."""
 
@@ -281,6 +286,12 @@ ODD = {
     "touching points": put_points(Record(0, 5, 6, (1,), 2), Record(0, 6, 7, (1,), 2), Record(0, 6, 7, (2,), 2)),
     "touching rows that differ": add_records(Record(0, 2_500, 3_000, (b"PC",), 6), Record(0, 0, 2_500, (b"",), 6)),
     "rows one thousandth apart": add_records(Record(0, 2_501, 3_000, (b"AC",), 6)),
+    "15 rows over another": rows_over(15),
+    "16 rows over another": rows_over(16),
+    "100 rows over another": rows_over(100),
+    "rows one thousandth apart below 15 others": rows_over(15, Record(0, 2_501, 3_000, (b"AC",), 6)),
+    "rows one thousandth apart below 100 others": rows_over(100, Record(0, 2_501, 3_000, (b"AC",), 6)),
+    "20 points at one place": put_points(*[Record(0, 5, 6, (place,), 2) for place in range(20)]),
     "the longest text": put_value(120, b"x" * 120),
     "the greatest number": put_value(0, 10**12),
     "the least number": put_value(0, -(10**12)),
@@ -322,6 +333,11 @@ WRONG = {
     # Records of lines.
     "touching rows": add_records(Record(0, 2_500, 3_000, (b"AC",), 6)),
     "overlapping rows": add_records(Record(0, 2_499, 3_000, (b"AC",), 6)),
+    "touching rows below 3 others": rows_over(3, Record(0, 2_500, 3_000, (b"AC",), 6)),
+    "touching rows below 15 others": rows_over(15, Record(0, 2_500, 3_000, (b"AC",), 6)),
+    "touching rows below 100 others": rows_over(100, Record(0, 2_500, 3_000, (b"AC",), 6)),
+    "overlapping rows below 15 others": rows_over(15, Record(0, 2_400, 3_000, (b"AC",), 6)),
+    "a row that comes again below 100 others": rows_over(100, Record(0, 3_000, 3_500, (b"r7",), 6)),
     "a row within another": add_records(Record(0, 1_000, 2_000, (b"AC",), 6)),
     "a repeated row": add_records(Record(0, 0, 2_500, (b"AC",), 5)),
     "a repeated row, shorter": add_records(Record(0, 0, 2_000, (b"AC",), 6)),
@@ -338,6 +354,7 @@ WRONG = {
     "a point two thousandths long": put_points(Record(0, 5, 7, (1,), 2)),
     "a point of no thousandth": put_points(Record(0, 5, 5, (1,), 2)),
     "a point before the thousandth": put_points(Record(0, 5, 4, (1,), 2)),
+    "a point twice among 20": put_points(*[Record(0, 5, 6, (place % 19,), 2 + place) for place in range(20)]),
     "a point twice": put_points(Record(0, 5, 6, (1,), 2), Record(0, 5, 6, (1,), 3)),
     "a point past the end": put_points(Record(0, 10_001, 10_002, (1,), 2)),
     "a point on no route": put_points(Record(2, 5, 6, (1,), 2)),

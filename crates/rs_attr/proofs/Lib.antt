@@ -4,6 +4,7 @@ pub mod Counted
 pub mod Entering
 pub mod Gathered
 pub mod InPlace
+pub mod OpenSpans
 pub mod Indexes
 pub mod Lent
 pub mod LentCells

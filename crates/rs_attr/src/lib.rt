@@ -4,6 +4,7 @@
 //! in a table and its indexes together.
 #![tactic(auto)]
 
+mod apart;
 pub mod attr_index;
 pub mod defining;
 mod entry;

@@ -2,8 +2,8 @@
 //! maximal runs.
 //!
 //! Whether they are is asked of their rows as they lie in the cells, which are lent: in order of row and place, each span has to end
-//! before the next of its row begins. Spans that lie one after another as they are, with other rows where they touch, are not sorted.
-//! So a part takes 24 bytes for each of its events beside its cells.
+//! before the next of its row begins. Spans that lie one after another, or begin in turn with few over one another, are not sorted. So
+//! a part takes 24 bytes for each of its events beside its cells.
 
 ghost use Rattle.std.specs.Prelude.{◌≡◌, ◌⊎◌, ◌+◌, ◌++◌, ◌∷◌, ◌↔◌, ◌≤◌, [], List, IfErr, IfOk, IsPermutation, IsTrue, OnOk, drop, length, map, nat_le, take};
 ghost use Rattle.std.specs.List.Sorted.{IsSortedBy};
@@ -16,6 +16,7 @@ ghost use Rattle.rs_value.specs.Encoding.{row_width};
 ghost use Rattle.rs_versioned.specs.Events.{event_width};
 ghost use Rattle.rs_versioned.specs.Meant.{bound_of};
 
+use crate::apart::lie_apart;
 use crate::attr_index::FRONT_BYTES;
 use crate::told::ToldTable;
 use rs_cell_versions::sees;
@@ -28,11 +29,11 @@ use std::alloc::Global;
 use std::cmp::Ordering;
 
 /// The span of an event, with the bytes of its row where they lie.
-#[derive(Clone, Copy)]
+#[derive(Clone, Copy, Default)]
 pub(crate) struct RowStretch<'a> {
-    row: &'a [u8],
-    lo: u32,
-    hi: u32,
+    pub(crate) row: &'a [u8],
+    pub(crate) lo: u32,
+    pub(crate) hi: u32,
 }
 
 /// Ok where each of the cells says an event of the table, and those that the accepted version sees are on this route, where there
@@ -61,6 +62,9 @@ fn are_runs(kind: Kind, stretches: &mut Vec<RowStretch<'_>>) -> bool
     ensures { IsTrue result ↔ AreAllRunsOf kind (places_of (map stretch_of stretches.old.items)) (map stretch_of stretches.old.items) }
 {
     if lie_in_turn(kind, stretches.as_slice()) {
+        return true;
+    }
+    if lie_apart(kind, stretches.as_slice()) {
         return true;
     }
     sort_by_row(stretches);
@@ -121,7 +125,7 @@ fn comes_before(kind: Kind, one: &RowStretch<'_>, next: &RowStretch<'_>) -> bool
 }
 
 /// Whether a span that begins at `lo` is no run with an earlier one of its row that ends at `hi`.
-fn is_past(kind: Kind, hi: u32, lo: u32) -> bool
+pub(crate) fn is_past(kind: Kind, hi: u32, lo: u32) -> bool
     ensures { result ≡ nat_le (hi + gap_of kind) lo }
 {
     match kind {
