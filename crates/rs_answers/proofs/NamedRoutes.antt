@@ -8,7 +8,7 @@ use Rattle.rs_catalog.specs.Definitions.{RouteItem}
 use Rattle.rs_catalog.specs.Names.{entries_by_bytes}
 use Rattle.rs_catalog.proofs.Names.{each_entry}
 use Rattle.rs_facts.specs.Fact.{Name, Names}
-use Rattle.rs_answers.specs.declared.routes.NamedRoute.{NamedRoute}
+use Rattle.rs_catalog.specs.declared.entries.NamedRoute.{NamedRoute}
 use Rattle.rs_answers.specs.Routes.{entry_of}
 
 -- ---- one after another

@@ -23,7 +23,7 @@ use Rattle.rs_exec.specs.Snapshot.{Snapshot}
 use Rattle.rs_exec.specs.Meaning.{rows_in, kind_in}
 use Rattle.rs_total.specs.Totalling.{AreRunsAlong, AreTotalsOf}
 use Rattle.rs_total.specs.Tally.{Tally}
-use Rattle.rs_answers.specs.declared.routes.NamedRoute.{NamedRoute}
+use Rattle.rs_catalog.specs.declared.entries.NamedRoute.{NamedRoute}
 use Rattle.rs_answers.specs.Routes.{entry_of, AreVisited}
 use Rattle.rs_answers.specs.Plans.{IsPlanFor}
 use Rattle.rs_answers.specs.Present.{IsPresent}

@@ -19,7 +19,7 @@ use Rattle.rs_plan.specs.declared.plan.PlannedRoute.{PlannedRoute}
 use Rattle.rs_exec.specs.Elsewhere.{HasNothingOn, windows_over}
 use Rattle.rs_exec.specs.Snapshot.{Snapshot}
 use Rattle.rs_exec.specs.Windows.{first_route}
-use Rattle.rs_answers.specs.declared.routes.NamedRoute.{NamedRoute}
+use Rattle.rs_catalog.specs.declared.entries.NamedRoute.{NamedRoute}
 use Rattle.rs_answers.specs.Plans.{IsPlanFor}
 use Rattle.rs_answers.specs.Present.{IsPresent}
 use Rattle.rs_answers.specs.Routes.{entry_of, AreVisited, IsUnderWindows}

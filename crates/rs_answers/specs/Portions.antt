@@ -11,7 +11,7 @@ use Rattle.rs_answers.specs.Printed.{place_on}
 use Rattle.rs_answers.specs.Versions.{SeenVersion, position_seen}
 use Rattle.rs_answers.specs.declared.route_lines.Portion.{Portion}
 use Rattle.rs_answers.specs.declared.route_lines.RouteRest.{RouteRest}
-use Rattle.rs_answers.specs.declared.routes.NamedRoute.{NamedRoute}
+use Rattle.rs_catalog.specs.declared.entries.NamedRoute.{NamedRoute}
 use Rattle.rs_answers.specs.declared.row_text.TheConstants.{LINE_OVERHEAD}
 
 -- how many bytes lines take: the room of each one's text, and its own in a list

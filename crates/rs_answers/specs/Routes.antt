@@ -6,7 +6,7 @@ use Rattle.rs_catalog.specs.Definitions.{Definitions, RouteItem}
 use Rattle.rs_exec.specs.Elsewhere.{HasNothingOn, windows_over}
 use Rattle.rs_exec.specs.Windows.{first_route}
 use Rattle.rs_plan.specs.declared.plan.Plan.{Plan}
-use Rattle.rs_answers.specs.declared.routes.NamedRoute.{NamedRoute}
+use Rattle.rs_catalog.specs.declared.entries.NamedRoute.{NamedRoute}
 
 -- its name, and what is kept under it
 abbrev pub entry_of : NamedRoute → Name × RouteItem

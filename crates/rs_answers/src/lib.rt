@@ -22,7 +22,6 @@ pub use memory::{InMemory, PlannedQuery};
 pub use plans::{checked, explain_lines, planned, planning_indexes};
 pub use resuming::Mark;
 pub use route_lines::{PlanAt, Portion, RouteRest, push_route_lines};
-pub use routes::NamedRoute;
 pub use row_text::LINE_OVERHEAD;
 pub use rows::lines;
 pub use runs::runs_on;

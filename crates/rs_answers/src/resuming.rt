@@ -17,10 +17,10 @@ ghost use Rattle.rs_facts.specs.Spans.{seen};
 ghost use Rattle.rs_plan.specs.declared.plan.Plan.{Plan};
 
 use crate::route_lines::{PlanAt, Portion};
-use crate::routes::NamedRoute;
 use crate::runs::runs_on;
 use crate::versions::Versions;
 use crate::within::{is_local, runs_within};
+use rs_catalog::NamedRoute;
 use rs_facts::Span;
 use rs_refusal::Refusal;
 use std::alloc::Global;
@@ -168,15 +168,17 @@ fn goes_far_enough(found: &RunsFrom, wanted: usize) -> bool
     count <= left && (count == left || wanted.saturating_sub(found.mark.before) <= count)
 }
 
-/// How many thousandths so many of a route's runs are likely to take, where it has so many in all: a quarter more than on the average.
+/// How many thousandths so many of a route's runs are likely to take, where it has so many in all: what as many take on the average, one
+/// more, and twice the square root of their number, which few routes with runs at random places pass.
 fn usual_length(named: &NamedRoute, all: usize, few: usize) -> u32 {
     let ends = named.route.ends();
     let start = ends.start().thousandths();
     let length = ends.finish().thousandths().saturating_sub(start) as u64;
     let each = length / (all.max(1) as u64) + 1;
-    let usual = each.saturating_mul(few.saturating_add(1) as u64);
-    let more = usual.saturating_add(usual / 4);
-    more.min(u32::MAX as u64) as u32
+    let count = few as u64;
+    let more = count.isqrt().saturating_mul(2).saturating_add(1);
+    let usual = each.saturating_mul(count.saturating_add(more));
+    usual.min(u32::MAX as u64) as u32
 }
 
 /// Runs from a mark on that end within so many thousandths from there, as far as no run before them ends beyond. The source tells why it is

@@ -15,9 +15,9 @@ ghost use Rattle.rs_serve.specs.ReplyView.{rows_of};
 
 use crate::printer::PositionPrinter;
 use crate::resuming::{Mark, mark_before, runs_after};
-use crate::routes::NamedRoute;
 use crate::row_text::{lines_within, push_lines};
 use crate::versions::Versions;
+use rs_catalog::NamedRoute;
 use rs_exec::kind_of;
 use rs_facts::Span;
 use rs_methods::Method;

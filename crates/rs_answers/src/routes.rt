@@ -4,23 +4,14 @@
 
 ghost use Rattle.std.specs.Prelude.{◌≡◌, ◌≢◌, ◌∷◌, [], ℕ, map, IfOk, IfSome, Some};
 ghost use Rattle.std.specs.FinMap as names;
+ghost use Rattle.rs_catalog.specs.declared.entries.NamedRoute.{NamedRoute};
 ghost use Rattle.rs_exec.specs.Elsewhere.{HasNothingOn};
 ghost use Rattle.rs_answers.specs.Routes.{entry_of, AreVisited, IsUnderWindows};
 
-use rs_catalog::{Catalog, RouteEntry};
+use rs_catalog::{Catalog, NamedRoute};
 use rs_exec::route_over;
-use rs_methods::Name;
 use rs_plan::Plan;
 use std::alloc::{AllocError, Global};
-
-/// A route by its name.
-#[derive(Clone, Copy)]
-pub struct NamedRoute {
-    /// The route's name.
-    pub name: Name,
-    /// The route's number, and where it starts and ends.
-    pub route: RouteEntry,
-}
 
 /// The routes on which a plan may have rows, in the order of their names: that of the windows over it alone, if the catalogue has
 /// the route under its name, or else all. The only refusal is for want of memory.

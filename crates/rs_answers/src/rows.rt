@@ -15,9 +15,10 @@ ghost use Rattle.rs_answers.specs.Standing.{StandsAt};
 
 use crate::memory::{InMemory, PlannedQuery};
 use crate::printer::PositionPrinter;
-use crate::routes::{NamedRoute, visited_routes};
+use crate::routes::visited_routes;
 use crate::row_text::push_lines;
 use crate::runs::runs_on;
+use rs_catalog::NamedRoute;
 use rs_machine_laws::printed::rows_lie_on_routes;
 use rs_methods::Method;
 use rs_refusal::Refusal;

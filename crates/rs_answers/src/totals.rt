@@ -24,8 +24,9 @@ ghost use Rattle.rs_answers.specs.TotalColumns.{AreTotalColumns};
 ghost use Rattle.rs_answers.specs.Totalled.{along_route, totals_of_query, HasTotalsOf};
 
 use crate::memory::{InMemory, PlannedQuery};
-use crate::routes::{NamedRoute, visited_routes};
+use crate::routes::visited_routes;
 use crate::runs::runs_on;
+use rs_catalog::NamedRoute;
 use rs_checker::{Columns, check_group, check_summed};
 use rs_coalesce::lent;
 use rs_machine_laws::printed::rows_lie_on_routes;

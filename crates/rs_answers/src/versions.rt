@@ -11,8 +11,7 @@ ghost use Rattle.rs_catalog.specs.Referents.{referents_on};
 ghost use Rattle.rs_exec.specs.Snapshot.{Snapshots};
 ghost use Rattle.rs_machine.specs.declared.limits.TheConstants.{ROUTES};
 
-use crate::routes::NamedRoute;
-use rs_catalog::RouteReferents;
+use rs_catalog::{NamedRoute, RouteReferents};
 use rs_exec::Source;
 use rs_refusal::Refusal;
 use std::alloc::Global;

@@ -145,6 +145,15 @@ impl RouteEntry {
     }
 }
 
+/// A route by its name.
+#[derive(Clone, Copy)]
+pub struct NamedRoute {
+    /// The route's name.
+    pub name: Name,
+    /// The route's number, and where it starts and ends.
+    pub route: RouteEntry,
+}
+
 /// A table: its number, its kind and its columns.
 #[derive(Drop)]
 pub struct TableEntry {

@@ -12,5 +12,7 @@ pub mod uses;
 
 pub use by_name::ByName;
 pub use catalog::Catalog;
-pub use entries::{AlignmentEntry, Ends, IndexEntry, RouteEntry, TableEntry, ViewEntry};
+pub use entries::{
+    AlignmentEntry, Ends, IndexEntry, NamedRoute, RouteEntry, TableEntry, ViewEntry,
+};
 pub use referents::RouteReferents;

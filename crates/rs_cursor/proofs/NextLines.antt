@@ -5,7 +5,7 @@ use Rattle.std.proofs.lemmas.Bool.{cases_lt}
 use Rattle.std.proofs.lemmas.List.{drop-append-le, drop-drop, drop_all, drop_at, drop_more, get_or-map, length-drop, length-map, take-append-drop, take_all, take_at}
 use Rattle.std.specs.FinMap as names
 use Rattle.rs_answers.specs.Routes.{entry_of}
-use Rattle.rs_answers.specs.declared.routes.NamedRoute.{NamedRoute}
+use Rattle.rs_catalog.specs.declared.entries.NamedRoute.{NamedRoute}
 use Rattle.rs_catalog.specs.Definitions.{RouteItem}
 use Rattle.rs_cursor.specs.declared.place.Place.{Place}
 use Rattle.rs_facts.specs.Fact.{Name, Names}

@@ -9,7 +9,7 @@ use Rattle.rs_answers.proofs.Starts.{start-drop, start-first}
 use Rattle.rs_answers.specs.Portions.{IsStart}
 use Rattle.rs_answers.specs.Routes.{entry_of}
 use Rattle.rs_answers.specs.Versions.{SeenVersion, lines_seen_on}
-use Rattle.rs_answers.specs.declared.routes.NamedRoute.{NamedRoute}
+use Rattle.rs_catalog.specs.declared.entries.NamedRoute.{NamedRoute}
 use Rattle.rs_catalog.specs.Definitions.{RouteItem}
 use Rattle.rs_cursor.proofs.NextLines.{lines_from, lines-step, listed-at}
 use Rattle.rs_cursor.specs.Kept.{AreLinesAt, GivesFrom, IsRouteAt}

@@ -6,7 +6,7 @@ use Rattle.rs_answers.specs.Portions.{IsStart}
 use Rattle.rs_answers.specs.Resumed.{IsMarked}
 use Rattle.rs_answers.specs.Routes.{entry_of}
 use Rattle.rs_answers.specs.Versions.{LiesOnRoutes, SeenVersion, lines_seen_on}
-use Rattle.rs_answers.specs.declared.routes.NamedRoute.{NamedRoute}
+use Rattle.rs_catalog.specs.declared.entries.NamedRoute.{NamedRoute}
 use Rattle.rs_catalog.specs.Definitions.{RouteItem}
 use Rattle.rs_cursor.specs.Held.{lines_left}
 use Rattle.rs_cursor.specs.declared.cursor.Cursor.{Cursor}

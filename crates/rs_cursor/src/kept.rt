@@ -8,7 +8,8 @@ ghost use Rattle.rs_answers.specs.Portions.{room_of};
 ghost use Rattle.rs_cursor.specs.declared.kept.TheConstants.{KEPT_BYTES};
 ghost use Rattle.rs_machine.specs.declared.limits.TheConstants.{ROUTES};
 
-use rs_answers::{Mark, NamedRoute};
+use rs_answers::Mark;
+use rs_catalog::NamedRoute;
 
 /// How many bytes the lines that are formed ahead of one cursor may take. An engine keeps those of four cursors.
 pub const KEPT_BYTES: usize = 4_194_304;

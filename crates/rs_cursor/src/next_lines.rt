@@ -6,7 +6,7 @@
 ghost use Rattle.std.specs.Prelude.{◌≡◌, ◌+◌, ◌-◌, ◌<◌, ◌≤◌, ◌^◌, ℕ, drop, length, min, take, IfOk, IfSome, Some, vec_len};
 ghost use Rattle.rs_answers.specs.Resumed.{IsMarked};
 ghost use Rattle.rs_answers.specs.Versions.{LiesOnRoutes, SeenVersion};
-ghost use Rattle.rs_answers.specs.declared.routes.NamedRoute.{NamedRoute};
+ghost use Rattle.rs_catalog.specs.declared.entries.NamedRoute.{NamedRoute};
 ghost use Rattle.rs_cursor.specs.Held.{lines_left};
 ghost use Rattle.rs_cursor.specs.Kept.{AreFormed, AreKept, AreLinesAt, AreListed, GivesFrom, GivesLines, GivesWanted, GoesOn, IsRouteAt, IsStopOf};
 ghost use Rattle.rs_cursor.specs.declared.cursor.Cursor.{Cursor};
@@ -19,7 +19,8 @@ use crate::cursor::Cursor;
 use crate::kept::{KEPT_BYTES, KeptAhead, KeptLines};
 use crate::kept_from::{KeptFrom, kept_at, push_copies};
 use crate::place::Place;
-use rs_answers::{Mark, NamedRoute, PlanAt, Portion, Versions, push_route_lines};
+use rs_answers::{Mark, PlanAt, Portion, Versions, push_route_lines};
+use rs_catalog::NamedRoute;
 use rs_machine::limits::ROUTES;
 use rs_refusal::Refusal;
 use std::alloc::{AllocError, Global};

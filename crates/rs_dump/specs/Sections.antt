@@ -5,7 +5,7 @@ use Rattle.rs_catalog.specs.Definitions.{Definitions, IndexItem, Numbered, Route
 use Rattle.rs_catalog.specs.Referents.{HeldReferents, referents_on}
 use Rattle.rs_dump_laws.specs.Dump.{location_of, route_command}
 use Rattle.rs_dump.specs.Shown.{Shown}
-use Rattle.rs_dump.specs.declared.held.NamedRoute.{NamedRoute}
+use Rattle.rs_catalog.specs.declared.entries.NamedRoute.{NamedRoute}
 use Rattle.rs_dump.specs.declared.held.NamedTable.{NamedTable}
 use Rattle.rs_facts.specs.Fact.{Name}
 use Rattle.rs_facts.specs.Query.{Column, column_at}
@@ -64,7 +64,7 @@ abbrev pub named_route : Name × RouteItem → Name × ℕ
 named_route entry = (entry.0, entry.1.number)
 
 abbrev pub route_seen : NamedRoute → Name × ℕ
-route_seen route = (route.name.bytes, route.number)
+route_seen route = (route.name.bytes, route.route.number)
 
 abbrev pub named_table : Name × TableItem → Name × (ℕ × Kind)
 named_table entry = (entry.0, (entry.1.number, entry.1.kind))

@@ -7,10 +7,10 @@ ghost use Rattle.rs_dump.specs.Written.{WritesAll};
 ghost use Rattle.rs_facts.specs.Query.{column_at};
 ghost use Rattle.rs_syntax.specs.View.{column_tree};
 
-use crate::held::{NamedRoute, NamedTable};
+use crate::held::NamedTable;
 use crate::put::{put_index, put_route, put_table};
 use crate::stop::Stop;
-use rs_catalog::{Catalog, IndexEntry};
+use rs_catalog::{Catalog, IndexEntry, NamedRoute};
 use rs_methods::Name;
 use rs_syntax::ColumnDefinition;
 use std::alloc::{AllocError, Global};
@@ -87,7 +87,7 @@ pub fn routes_of(alloc: Global, catalog: &Catalog) -> Result<Vec<NamedRoute>, Al
     for (name, route) in catalog.routes() {
         routes.push(NamedRoute {
             name: *name,
-            number: route.number(),
+            route: *route,
         })?;
     }
     Ok(routes)

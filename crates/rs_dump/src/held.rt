@@ -9,7 +9,7 @@ ghost use Rattle.rs_dump.specs.Shown.{Shown};
 ghost use Rattle.rs_facts.specs.Spans.{seen};
 ghost use Rattle.rs_refusal.specs.declared.refusal.Refusal.{Refusal};
 
-use rs_catalog::{Catalog, RouteReferents};
+use rs_catalog::{Catalog, NamedRoute, RouteReferents};
 use rs_facts::Span;
 use rs_methods::Name;
 use rs_refusal::Refusal;
@@ -25,15 +25,6 @@ pub struct NamedTable {
     pub number: u32,
     /// Whether it holds points or lines.
     pub kind: Kind,
-}
-
-/// A route by its name.
-#[derive(Clone, Copy)]
-pub struct NamedRoute {
-    /// Its name.
-    pub name: Name,
-    /// Its number.
-    pub number: u32,
 }
 
 /// What holds an inventory that is dumped. Each call leaves the definitions, and what is shown; a refusal does so too.
@@ -68,7 +59,7 @@ pub trait Held {
         table: &NamedTable,
         route: &NamedRoute,
     ) -> Result<Vec<Span>, Refusal>
-        ensures lists { (shown : Shown) → shows self.old shown → IfOk result (λ found. map seen found.items ≡ shown table.now.number table.now.kind route.now.number) }
+        ensures lists { (shown : Shown) → shows self.old shown → IfOk result (λ found. map seen found.items ≡ shown table.now.number table.now.kind route.now.route.number) }
         ensures wants { IfErr result (λ why. wants why self.old self.new) }
         ensures catalog { catalog self.new ≡ catalog self.old }
         ensures referents { referents self.new ≡ referents self.old }

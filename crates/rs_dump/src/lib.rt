@@ -17,5 +17,5 @@ pub mod tell;
 pub mod views;
 
 pub use dumping::{Wanted, dump};
-pub use held::{Held, NamedRoute, NamedTable};
+pub use held::{Held, NamedTable};
 pub use stop::Stop;

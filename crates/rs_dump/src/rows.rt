@@ -13,8 +13,9 @@ ghost use Rattle.rs_dump_lines.specs.Texts.{row_front};
 ghost use Rattle.rs_facts.specs.Spans.{seen};
 ghost use Rattle.rs_syntax.specs.Tree.{insert};
 
-use crate::held::{Held, NamedRoute, NamedTable};
+use crate::held::{Held, NamedTable};
 use crate::stop::Stop;
+use rs_catalog::NamedRoute;
 use rs_dump_lines::writing::{push_row_front, push_row_line};
 use rs_facts::Span;
 use rs_machine::limits::LINE_BYTES;
@@ -77,7 +78,7 @@ fn add_rows_on<H: Held, W: Write>(
 ) -> Result<(), Stop>
     ensures reads { Reads H.Held held.old held.new }
     ensures lines { (shown : Shown) → H.shows held.old shown
-        → AddsBytes result (lines_bytes (rows_on table.now.name.bytes route.now.name.bytes table.now.kind (shown table.now.number table.now.kind route.now.number)))
+        → AddsBytes result (lines_bytes (rows_on table.now.name.bytes route.now.name.bytes table.now.kind (shown table.now.number table.now.kind route.now.route.number)))
         piece.old.items piece.new.items (W.contents output.old) (W.contents output.new) }
     ensures wants { IfErr result (λ stop. StopsReading H.Held stop held.old held.new) }
 {

@@ -3,9 +3,9 @@
 ghost use Rattle.std.specs.Prelude.{◌≡◌};
 ghost use Rattle.rs_file_dump.specs.Files.{whole_route};
 
-use rs_catalog::{Catalog, RouteReferents};
+use rs_catalog::{Catalog, NamedRoute, RouteReferents};
 use rs_disk::Disk;
-use rs_dump::{Held, NamedRoute, NamedTable};
+use rs_dump::{Held, NamedTable};
 use rs_facts::Span;
 use rs_refusal::Refusal;
 use rs_store_source::rs_store::Store;
@@ -49,7 +49,7 @@ impl<D: Disk> Held for HeldFile<D> {
         table: &NamedTable,
         route: &NamedRoute,
     ) -> Result<Vec<Span>, Refusal> {
-        let window = whole_route(table.kind, self.store.accepted(), route.number);
+        let window = whole_route(table.kind, self.store.accepted(), route.route.number());
         let (spans, _reads) = self.store.spans(alloc, table.number, window)?;
         Ok(spans)
     }

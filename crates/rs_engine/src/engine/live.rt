@@ -6,8 +6,8 @@ ghost use Rattle.std.specs.Prelude.{◌≡◌, IfOk, map};
 ghost use Rattle.rs_answers.specs.Routes.{entry_of};
 ghost use Rattle.rs_store_source.specs.Versions.{routes_by};
 
-use rs_answers::{InMemory, NamedRoute, Versions};
-use rs_catalog::{Catalog, Ends, RouteReferents};
+use rs_answers::{InMemory, Versions};
+use rs_catalog::{Catalog, Ends, NamedRoute, RouteReferents};
 use rs_disk::Disk;
 use rs_exec::{Asked, Part, SoughtValue, Source};
 use rs_facts::Span;

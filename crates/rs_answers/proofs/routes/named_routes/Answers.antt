@@ -1,7 +1,7 @@
 use Rattle.std.proofs.Common.{◌++◌, map, sym, ap, ◌∙◌, append-nil}
 use Rattle.rs_catalog.specs.Names.{entries_by_bytes}
 use Rattle.rs_answers.specs.Routes.{entry_of}
-use Rattle.rs_answers.specs.declared.routes.NamedRoute.{NamedRoute}
+use Rattle.rs_catalog.specs.declared.entries.NamedRoute.{NamedRoute}
 use Rattle.rs_answers.proofs.NamedRoutes.{routes-more}
 use Rattle.rs_answers.proofs.routes.named_routes.Goals as goal
 

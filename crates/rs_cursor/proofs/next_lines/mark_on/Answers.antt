@@ -7,7 +7,7 @@ use Rattle.rs_answers.specs.Resumed.{IsMarked}
 use Rattle.rs_answers.specs.Routes.{entry_of}
 use Rattle.rs_answers.specs.Versions.{SeenVersion}
 use Rattle.rs_answers.specs.declared.resuming.Mark.{Mark}
-use Rattle.rs_answers.specs.declared.routes.NamedRoute.{NamedRoute}
+use Rattle.rs_catalog.specs.declared.entries.NamedRoute.{NamedRoute}
 use Rattle.rs_cursor.proofs.next_lines.mark_on.Goals as goal
 use Rattle.rs_cursor.specs.Kept.{AreFormed, IsRouteAt}
 use Rattle.rs_cursor.specs.declared.kept.KeptLines.{KeptLines}

@@ -13,7 +13,7 @@ use Rattle.std.specs.Prelude.{IfSome, None, Option, Some}
 use Rattle.rs_answers.specs.Resumed.{IsMarked}
 use Rattle.rs_answers.specs.Versions.{SeenVersion}
 use Rattle.rs_answers.specs.declared.resuming.Mark.{Mark}
-use Rattle.rs_answers.specs.declared.routes.NamedRoute.{NamedRoute}
+use Rattle.rs_catalog.specs.declared.entries.NamedRoute.{NamedRoute}
 use Rattle.rs_cursor.specs.Kept.{AreFormed, IsRouteAt}
 use Rattle.rs_cursor.specs.declared.kept.KeptLines.{KeptLines}
 use Rattle.rs_cursor.specs.declared.place.Place.{Place}

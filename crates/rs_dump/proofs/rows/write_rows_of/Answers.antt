@@ -3,7 +3,7 @@ use Rattle.std.proofs.Common.{◌≡◌, ◌+◌, ℕ, List, [], ap, arith, drop
 use Rattle.std.proofs.Math.ListN.{drop_of_length-le}
 use Rattle.rs_dump.specs.Sections.{route_seen, rows_of_table, rows_on, table_seen}
 use Rattle.rs_dump.specs.Written.{AddedSome, lines_bytes}
-use Rattle.rs_dump.specs.declared.held.NamedRoute.{NamedRoute}
+use Rattle.rs_catalog.specs.declared.entries.NamedRoute.{NamedRoute}
 use Rattle.rs_dump.specs.declared.stop.Stop.TheVariants.{Refused}
 use Rattle.rs_refusal.specs.declared.refusal.Refusal.TheVariants.{OutOfMemory}
 use Rattle.rs_dump.proofs.Gathered.{added_chunk, added_first, all_added, stops_added, written_last}
@@ -39,7 +39,7 @@ loop-route-preserved g c =
       lines = λ shown shows.
           added_chunk [] (rows_of_table (table_seen table) (map route_seen routes) shown) (rows_of_table (table_seen table) (map route_seen (drop c.loop-route.route-index routes)) shown)
           (rows_of_table (table_seen table) (map route_seen (drop (c.loop-route.route-index + 1) routes)) shown)
-          (rows_on table.name.bytes one.name.bytes table.kind (shown table.number table.kind one.number)) c.loop-route.piece.items c.add_rows_on.new.piece.items
+          (rows_on table.name.bytes one.name.bytes table.kind (shown table.number table.kind one.route.number)) c.loop-route.piece.items c.add_rows_on.new.piece.items
           (g.W.Write.contents c.args.output.now) (g.W.Write.contents c.loop-route.output) (g.W.Write.contents c.add_rows_on.new.output)
           (ap (λ (l : List NamedRoute). rows_of_table (table_seen table) (map route_seen l) shown) (next_left routes c.loop-route.route-index one c.loop-route-test.true c.route-item.is))
           (c.loop-route.invariant.lines shown shows) (c.in_ok-add_rows_on.ensures.lines shown (c.loop-route.invariant.reads.shows shown shows));
@@ -58,7 +58,7 @@ returns-in_err-add_rows_on-clause-lines g c = λ shown shows.
     passed_on c.from_residual-in_err-add_rows_on.result stop _ _ c.from_residual-in_err-add_rows_on.ensures.1
     (stops_added [] (rows_of_table (table_seen table) (map route_seen routes) shown) stop (rows_of_table (table_seen table) (map route_seen (drop c.loop-route.route-index routes)) shown)
     (rows_of_table (table_seen table) (map route_seen (drop (c.loop-route.route-index + 1) routes)) shown)
-    (rows_on table.name.bytes one.name.bytes table.kind (shown table.number table.kind one.number)) c.loop-route.piece.items
+    (rows_on table.name.bytes one.name.bytes table.kind (shown table.number table.kind one.route.number)) c.loop-route.piece.items
     (g.W.Write.contents c.args.output.now) (g.W.Write.contents c.loop-route.output) (g.W.Write.contents c.add_rows_on.new.output)
     (ap (λ (l : List NamedRoute). rows_of_table (table_seen table) (map route_seen l) shown) (next_left routes c.loop-route.route-index one c.loop-route-test.true c.route-item.is))
     (c.loop-route.invariant.lines shown shows) (c.in_err-add_rows_on.ensures.lines shown (c.loop-route.invariant.reads.shows shown shows)))
