@@ -97,7 +97,6 @@ fn clear_tables<P: Pages>(
 }
 
 /// Clears the table at this place, and answers how many records went.
-#[inline(always)]
 fn clear_place<P: Pages>(
     alloc: Global,
     pages: &mut P,
@@ -122,7 +121,6 @@ fn clear_place<P: Pages>(
 }
 
 /// Clears a table with its indexes, and answers how many records went.
-#[inline(always)]
 fn clear_table<P: Pages>(
     alloc: Global,
     pages: &mut P,

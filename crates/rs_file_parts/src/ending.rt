@@ -39,7 +39,6 @@ pub fn take_back(file: &mut OpenedFile)
 }
 
 /// Keeps what was changed of a table.
-#[inline(always)]
 fn keep_table(table: &mut OpenedTable)
     ensures { IsTableKept table.old table.new }
 {
@@ -50,7 +49,6 @@ fn keep_table(table: &mut OpenedTable)
 }
 
 /// Keeps what was changed of these indexes.
-#[inline(always)]
 fn keep_indexes(indexes: &mut [AttrIndex])
     ensures { AllZip IsIndexKept indexes.old indexes.new }
 {

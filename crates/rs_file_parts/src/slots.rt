@@ -88,7 +88,6 @@ fn put_roots(
 }
 
 /// Whether one of these indexes may have changed since the last commit.
-#[inline(always)]
 fn has_changed(indexes: &[AttrIndex]) -> bool
     ensures { result ≡ false → AllByRecursion (λ index. index.committed ≡ index.working) indexes.now }
 {
