@@ -701,6 +701,10 @@ def check_rejects(count=3_000):
         expect("the status without a record", run("csv", POINTS, "--names-file", names, data=b"")[0], 0)
         with open(names, "rb") as made:
             expect("no names", made.read(), b"old,new,what\n")
+        got = run("csv", POINTS, "--rejects", names, "--names-file", names, data=data)
+        expect("one file for both", got, (2, b"", b"error: --rejects and --names-file name one file\n"))
+        with open(names, "rb") as left:
+            expect("what stays in it", left.read(), b"old,new,what\n")
         for option in ("--rejects", "--names-file"):
             told = ("roadseg: cannot open file\nroadseg: %s: a folder\n" % folder).encode()
             expect("%s to a folder" % option, run("csv", POINTS, option, folder, data=data), (1, b"", told))

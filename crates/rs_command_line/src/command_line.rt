@@ -3,18 +3,20 @@
 //! `clap` writes the help and the messages, fills in the defaults, and checks the number of
 //! connections.
 
-ghost use Rattle.std.specs.Prelude.{◌≡◌, [], IfOk, Some, IsSome, map, false, option_and_then, unwrap_or};
-ghost use Rattle.clap.specs.Words.{all_of, app_of, FailsBy, fault_of, first_of, found_of, rows_of, rule_of};
+ghost use Rattle.std.specs.Prelude.{◌≡◌, [], IfOk, Some, IsSome, map, option_and_then, unwrap_or};
+ghost use Rattle.clap.specs.Words.{all_of, app_of, FailsBy, fault_of, first_of, found_of, rows_of};
 ghost use Rattle.clap.specs.Words.{subcommand_rows_of};
-ghost use Rattle.rs_command_line.specs.CommandLine.{command_line, file_option, listen_option};
-ghost use Rattle.rs_command_line.specs.CommandLine.{connections_option};
+ghost use Rattle.rs_command_line.specs.CommandLine.{command_line};
 ghost use Rattle.rs_command_line.specs.CommandLine.{create_command, run_command, serve_command, table_command};
-ghost use Rattle.rs_command_line.specs.CommandLine.{ask_command, csv_command, dump_command, explain_command, text_option};
-ghost use Rattle.rs_command_line.specs.CommandLine.{column_option, scale_option, flag, define_argument, question_argument, refusal_argument};
+ghost use Rattle.rs_command_line.specs.CommandLine.{ask_command, csv_command, dump_command, explain_command};
 ghost use Rattle.rs_command_line.specs.Asked.{asked_of, asked_by, asked_by_ask, asked_by_csv, asked_by_dump, asked_by_run, flag_in};
 ghost use Rattle.rs_command_line.specs.Asked.{said_by, HasConnectionsInRange};
 
-use clap::{Arg, ArgAction, ArgMatches, Command, Error};
+use crate::arguments::{
+    column_option, connections_option, define_argument, file_option, flag, listen_option,
+    question_argument, refusal_argument, scale_option, text_option,
+};
+use clap::{ArgMatches, Command, Error};
 use std::alloc::{AllocError, Global};
 use std::convert::AsStr;
 
@@ -288,7 +290,7 @@ fn roadseg_command<'a>(alloc: Global) -> Result<Command<'a>, AllocError>
         .about(
             "Answers queries on routes and events by linear reference. A line is a session from 0 to 63 and a command, as: 0 DEFINE ROUTE SR12 FROM 0 TO 18.5, or: 0 SELECT WHERE(pavement, surface = 'gravel'). The page docs/LANGUAGE.md has them all",
         )
-        .version("0.7.0 (for rattle-kit-13f logic dac8208d650f15bf)")
+        .version("0.8.0 (for rattle-kit-13f logic dac8208d650f15bf)")
         .subcommand_required(true)
         .subcommand(create_command(alloc)?)?
         .subcommand(run_command(alloc)?)?
@@ -491,120 +493,4 @@ fn serve_command<'a>(alloc: Global) -> Result<Command<'a>, AllocError>
         .arg(file.required(true))?
         .arg(listen_option(alloc))?
         .arg(connections_option(alloc))
-}
-
-/// `--file FILE`, with a text for help.
-fn file_option<'a>(alloc: Global, help: &'a str) -> Arg<'a>
-    ensures rule { rule_of result ≡ file_option false }
-    ensures local { result.global ≡ false }
-{
-    Arg::new(alloc, "file")
-        .long("file")
-        .value_name("FILE")
-        .help(help)
-}
-
-/// `--ID TEXT`, with a text for help.
-fn text_option<'a>(alloc: Global, id: &'a str, help: &'a str) -> Arg<'a>
-    ensures rule { rule_of result ≡ text_option id.entry.now }
-    ensures local { result.global ≡ false }
-{
-    Arg::new(alloc, id).long(id).value_name("TEXT").help(help)
-}
-
-/// `--column COLUMN=NAME`, as often as it is wanted.
-fn column_option<'a>(alloc: Global) -> Arg<'a>
-    ensures rule { rule_of result ≡ column_option }
-    ensures local { result.global ≡ false }
-{
-    Arg::new(alloc, "column")
-        .long("column")
-        .value_name("COLUMN=NAME")
-        .action(ArgAction::Append)
-        .help(
-            "The name that the CSV has for a column of the table, where it is another one; for each such column once",
-        )
-}
-
-/// `--scale COLUMN=NUMBER`, as often as it is wanted.
-fn scale_option<'a>(alloc: Global) -> Arg<'a>
-    ensures rule { rule_of result ≡ scale_option }
-    ensures local { result.global ≡ false }
-{
-    Arg::new(alloc, "scale")
-        .long("scale")
-        .value_name("COLUMN=NUMBER")
-        .action(ArgAction::Append)
-        .help(
-            "A column whose numbers are multiplied by 10, 100 and so on up to 1000000, as length=10, so that 115.8 is 1158; for each such column once",
-        )
-}
-
-/// `--ID`, with a text for help.
-fn flag<'a>(alloc: Global, id: &'a str, help: &'a str) -> Arg<'a>
-    ensures rule { rule_of result ≡ flag id.entry.now }
-    ensures local { result.global ≡ false }
-{
-    Arg::new(alloc, id)
-        .long(id)
-        .action(ArgAction::SetTrue)
-        .help(help)
-}
-
-/// The questions of `ask`.
-fn question_argument<'a>(alloc: Global) -> Arg<'a>
-    ensures rule { rule_of result ≡ question_argument }
-    ensures local { result.global ≡ false }
-{
-    Arg::new(alloc, "question")
-        .value_name("QUESTION")
-        .action(ArgAction::Append)
-        .help("A SELECT or a TOTAL; of several each is answered in turn")
-        .required(true)
-}
-
-/// The DEFINE TABLE of `csv`.
-fn define_argument<'a>(alloc: Global) -> Arg<'a>
-    ensures rule { rule_of result ≡ define_argument }
-    ensures local { result.global ≡ false }
-{
-    Arg::new(alloc, "define")
-        .value_name("DEFINE TABLE")
-        .help("The line that defines the table, without its session")
-        .required(true)
-}
-
-/// The number of `explain`.
-fn refusal_argument<'a>(alloc: Global) -> Arg<'a>
-    ensures rule { rule_of result ≡ refusal_argument }
-    ensures local { result.global ≡ false }
-{
-    Arg::new(alloc, "refusal")
-        .value_name("NUMBER")
-        .help("The number of a refusal")
-}
-
-/// `--listen ADDRESS`.
-fn listen_option<'a>(alloc: Global) -> Arg<'a>
-    ensures rule { rule_of result ≡ listen_option }
-    ensures local { result.global ≡ false }
-{
-    Arg::new(alloc, "listen")
-        .long("listen")
-        .value_name("ADDRESS")
-        .default_value("127.0.0.1:7400")
-        .help("The address and port to listen on")
-}
-
-/// `--connections NUMBER`.
-fn connections_option<'a>(alloc: Global) -> Arg<'a>
-    ensures rule { rule_of result ≡ connections_option }
-    ensures local { result.global ≡ false }
-{
-    Arg::new(alloc, "connections")
-        .long("connections")
-        .value_name("NUMBER")
-        .value_parser(clap::value_parser!(u32).range(1..=1_000_000))
-        .default_value("1")
-        .help("How many connections to serve before the program ends, 1 to 1000000")
 }

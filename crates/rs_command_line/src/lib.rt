@@ -4,6 +4,7 @@
 //! command, texts and number that `clap` finds in it.
 #![tactic(auto)]
 
+mod arguments;
 pub mod command_line;
 pub mod laws;
 pub mod separator;

@@ -122,6 +122,8 @@ fn answer_in_memory<R: Read, W: Write, E: Write>(
         Ok(engine) => {
             let mut shown = Shown { engine };
             let outcome = answer_input(alloc, &mut shown, input, stops, output, errors);
+            // (by a call, so that the proof does not take the engine apart)
+            drop(shown);
             let failure = failure_of_lines(&outcome);
             (Some(outcome), failure)
         }

@@ -143,7 +143,14 @@ pub(crate) fn close_after<'a, D: Disk + Drop>(
     match (engine.close(), failure) {
         (Ok(disk), None) => Ok(disk),
         (Ok(disk), Some(failure)) => Err((Some(disk), failure)),
-        (Err((_engine, _refusal)), Some(failure)) => Err((None, failure)),
-        (Err((_engine, refusal)), None) => Err((None, Failure::Refused(refusal))),
+        // (the engine is dropped by a call, so that the proof does not take it apart)
+        (Err((engine, _refusal)), Some(failure)) => {
+            drop(engine);
+            Err((None, failure))
+        }
+        (Err((engine, refusal)), None) => {
+            drop(engine);
+            Err((None, Failure::Refused(refusal)))
+        }
     }
 }

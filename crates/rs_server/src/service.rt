@@ -178,7 +178,12 @@ fn run_in_memory<R: Read, W: Write>(
 {
     machine_is_the_only_one::<MemoryDisk>();
     match Engine::create(alloc, MemoryDisk::new(alloc)) {
-        Ok(mut engine) => failure_after(run(alloc, &mut engine, input, output)),
+        Ok(mut engine) => {
+            let outcome = run(alloc, &mut engine, input, output);
+            // (by a call, so that the proof does not take the engine apart)
+            drop(engine);
+            failure_after(outcome)
+        }
         Err((_, refusal)) => Some(Failure::Refused(refusal)),
     }
 }

@@ -1,6 +1,6 @@
 //! The words `csv` and `explain`: what they do, and how they end.
 
-ghost use Rattle.std.specs.Prelude.{◌≡◌, ◌≢◌, ◌<◌, IfOk, IfSome, false};
+ghost use Rattle.std.specs.Prelude.{◌≡◌, ◌≢◌, ◌<◌, IfOk, IfSome, Ok, false};
 ghost use Rattle.std.specs.Io.KnownBytes.{Keeps};
 ghost use Rattle.rs_server.specs.Ending.{WritesLines, encoding_of};
 
@@ -55,7 +55,21 @@ pub(crate) fn convert<P: AllocGlobal + FileSystem, R: Read, W: Write, E: Write>(
         &mut names,
     );
     let named = put_names(rt.alloc(), &names, names_file);
-    match result {
+    status_after(errors, words, result, named)
+}
+
+// The exit status after the lines, of which it is known whether something was left out, and after the names. What stopped the lines is told,
+// or else what stopped the names.
+fn status_after<E: Write>(
+    errors: &mut E,
+    words: &CsvWords<'_>,
+    lines: Result<bool, Stop>,
+    named: Result<(), Stop>,
+) -> u8
+    ensures lines { result ≡ SUCCESS → lines ≡ Ok false }
+    ensures quiet { result ≡ SUCCESS → Keeps (E.contents errors.old) (E.contents errors.new) }
+{
+    match lines {
         Ok(lacks) => match named {
             Ok(()) if lacks => FAILED,
             Ok(()) => SUCCESS,
@@ -132,6 +146,9 @@ fn wanted_by<'a>(words: &'a CsvWords<'a>) -> Result<Wanted<'a>, &'static [u8]>
         return Err(b"error: the separator is no byte that parts fields, nor tab\n");
     };
     let stations = stations_of(words.stations)?;
+    if is_one_file(words.rejects, words.names_file) {
+        return Err(b"error: --rejects and --names-file name one file\n");
+    }
     Ok(Wanted {
         define: words.define.unwrap_or(""),
         session,
@@ -149,6 +166,14 @@ fn wanted_by<'a>(words: &'a CsvWords<'a>) -> Result<Wanted<'a>, &'static [u8]>
         stations,
         makes_names: words.makes_names || words.names_file.is_some(),
     })
+}
+
+// Whether both files are given by one name.
+fn is_one_file(rejects: Option<&str>, names_file: Option<&str>) -> bool {
+    match (rejects, names_file) {
+        (Some(rejects), Some(names_file)) => rejects == names_file,
+        _ => false,
+    }
 }
 
 // Says how `run` refuses the line that defines the table.

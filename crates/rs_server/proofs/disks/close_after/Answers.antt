@@ -23,7 +23,7 @@ returns-in-Ok-Some-clause-closes g c = λ machine is. record {
 pub returns-in-Err-Some-clause-closes : goal.returns-in-Err-Some-clause-closes
 returns-in-Err-Some-clause-closes g c = λ machine is.
     let d = g.D.Disk in
-    let back = c.in-Err-Some._engine.store.pager.disk in
+    let back = c.in-Err-Some.engine.store.pager.disk in
     let why = c.in-Err-Some._refusal in
     record {
       closed = tt;
@@ -34,7 +34,7 @@ returns-in-Err-Some-clause-closes g c = λ machine is.
 pub returns-in-Err-None-clause-closes : goal.returns-in-Err-None-clause-closes
 returns-in-Err-None-clause-closes g c = λ machine is.
     let d = g.D.Disk in
-    let back = c.in-Err-None._engine.store.pager.disk in
+    let back = c.in-Err-None.engine.store.pager.disk in
     let why = c.in-Err-None.refusal in
     record {
       closed = tt;

@@ -5,9 +5,9 @@ use Rattle.rs_server.proofs.service.run_in_memory.Goals as goal
 pub returns-in-Ok : goal.returns-in-Ok
 returns-in-Ok g c =
     let creates = c.in-Ok.ensures.creates refl in
-    let served = c.run.ensures.served _ (c.machine_is_the_only_one.ensures c.in-Ok.engine _ creates.fresh) in
+    let served = c.run-outcome.ensures.served _ (c.machine_is_the_only_one.ensures c.in-Ok.engine _ creates.fresh) in
     inl (record {
-      outcome = c.run.result;
+      outcome = c.run-outcome.result;
       first = _;
       new = refl;
       failures = c.in-Ok.ensures.hands.count ∙ ap (λ disk. disk.calls.failures) c.new.ensures;
