@@ -1,6 +1,9 @@
 //! The definition of the table: one DEFINE TABLE, read by the grammar that reads lines.
 
-ghost use Rattle.std.specs.Prelude.{◌≡◌, ◌<◌, ◌++◌, IfOk, codes, string_bytes};
+ghost use Rattle.std.specs.Prelude.{◌≡◌, ◌<◌, ◌++◌, ℕ, IfOk, codes, string_bytes};
+ghost use Rattle.rs_syntax.specs.Sound.{IsSound};
+ghost use Rattle.rs_syntax.specs.View.{tree_of};
+ghost use Rattle.rs_machine.specs.Request.{Asks, command};
 ghost use Rattle.rs_csv.specs.Output.{IsDefinition};
 ghost use Rattle.rs_csv_lines.specs.Texts.{session_text};
 
@@ -37,7 +40,18 @@ pub fn read_definition(alloc: Global, session: u8, words: &str) -> Result<Defini
         Err(Refusal::OutOfMemory) => return Err(Stop::OutOfMemory),
         Err(refusal) => return Err(Stop::Refused(refusal)),
     };
-    match &command {
+    let defined = define(alloc, line, &command);
+    // (by a call, so that the proof has no branch for each kind of command)
+    drop(command);
+    defined
+}
+
+// The table that a command defines, with the line that asks the command.
+fn define(alloc: Global, line: String, asked: &Command) -> Result<Definition, Stop>
+    ensures defines { (session : ℕ) → Asks (string_bytes line) (command session (tree_of asked.now)) → IsSound (tree_of asked.now) → IfOk result (λ definition. IsDefinition session definition) }
+    ensures line { IfOk result (λ definition. definition.line ≡ line) }
+{
+    match asked {
         Command::DefineTable {
             kind,
             name,
