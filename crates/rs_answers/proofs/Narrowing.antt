@@ -5,6 +5,8 @@ use Rattle.std.proofs.lemmas.List.Sorted.{All-permutation}
 use Rattle.std.specs.List.{AllByRecursion}
 use Rattle.std.specs.Prelude.{IsPermutation}
 use Rattle.rs_value.specs.declared.column.Kind.{Kind}
+use Rattle.rs_coalesce.specs.Joined.{AreJoined}
+use Rattle.rs_coalesce.proofs.Separate.{joined-from_separate}
 use Rattle.rs_facts.specs.Fact.{RowSet, none, keep}
 use Rattle.rs_facts.specs.Insert.{within}
 use Rattle.rs_facts.specs.Operators.{windowed}
@@ -59,23 +61,25 @@ module _ (from to first last : ℕ) (part : Part) (kept : (k : ℕ) (rows : RowS
         ∙ sym (kept k (rows_asked narrow.whole asked k))
 
     pub given-within : (spans cut : List Stretch) → AreGiven (is_of source) asked (parts.Between first last) spans → ((k : ℕ) → places_of cut k ≡ windowed first last k (places_of spans k))
-        → ((kind : Kind) → ArePlaced kind spans → ArePlaced kind cut) → ((width : ℕ) → AreWide width spans → AreWide width cut) → AreGiven (AreNarrowed is_of source from to) asked part cut
-    given-within spans cut given means placed wide = record {
+        → ((kind : Kind) → ArePlaced kind spans → ArePlaced kind cut) → ((width : ℕ) → AreWide width spans → AreWide width cut) → ((kind : Kind) → AreJoined kind spans → AreJoined kind cut) → AreGiven (AreNarrowed is_of source from to) asked part cut
+    given-within spans cut given means placed wide joined = record {
       means = λ snapshots narrow k.
           ap (inside part k) (means k) ∙ in_part k (places_of spans k) ∙ given.means narrow.whole narrow.is k ∙ sym (asked_within snapshots narrow k);
+      joined = λ snapshots narrow. joined asked.kind (given.joined narrow.whole narrow.is);
       placed = placed asked.kind given.placed;
       wide = wide asked.width given.wide;
     }
 
     pub given-of_value-within : (sought : SoughtValue) (spans cut : List Stretch) → AreGivenOfValue (is_of source) asked (parts.Between first last) sought spans
         → ((k : ℕ) → places_of cut k ≡ windowed first last k (places_of spans k)) → ((kind : Kind) → ArePlaced kind spans → ArePlaced kind cut)
-        → ((width : ℕ) → AreWide width spans → AreWide width cut) → AreGivenOfValue (AreNarrowed is_of source from to) asked part sought cut
-    given-of_value-within sought spans cut given means placed wide = record {
+        → ((width : ℕ) → AreWide width spans → AreWide width cut) → ((kind : Kind) → AreJoined kind spans → AreJoined kind cut) → AreGivenOfValue (AreNarrowed is_of source from to) asked part sought cut
+    given-of_value-within sought spans cut given means placed wide joined = record {
       means = λ snapshots narrow k.
           ap (λ rows. keep (has_value sought) (inside part k rows)) (means k)
           ∙ ap (keep (has_value sought)) (in_part k (places_of spans k))
           ∙ given.means narrow.whole narrow.is k
           ∙ sym (ap (keep (has_value sought)) (asked_within snapshots narrow k));
+      joined = λ snapshots narrow. joined asked.kind (given.joined narrow.whole narrow.is);
       placed = placed asked.kind given.placed;
       wide = wide asked.width given.wide;
     }
@@ -84,6 +88,7 @@ module _ (from to first last : ℕ) (part : Part) (kept : (k : ℕ) (rows : RowS
     nothing_within : last ≤ first → AreGiven (AreNarrowed is_of source from to) asked part []
     nothing_within empty = record {
       means = λ snapshots narrow k. inside-nothing part k ∙ sym (asked_within snapshots narrow k ∙ windowed-off first last k (rows_asked narrow.whole asked k) empty);
+      joined = λ snapshots narrow. joined-from_separate asked.kind [] tt;
       placed = tt;
       wide = tt;
     }
@@ -94,6 +99,7 @@ module _ (from to first last : ℕ) (part : Part) (kept : (k : ℕ) (rows : RowS
     pub nothing-of_value-within : (sought : SoughtValue) (spans : List Stretch) → last ≤ first → spans ≡ [] → AreGivenOfValue (AreNarrowed is_of source from to) asked part sought spans
     nothing-of_value-within sought spans empty bare = let given = nothing-within spans empty bare in record {
       means = λ snapshots narrow k. ap (keep (has_value sought)) (given.means snapshots narrow k);
+      joined = given.joined;
       placed = given.placed;
       wide = given.wide;
     }

@@ -6,6 +6,7 @@ ghost use Rattle.std.proofs.Common.{◌∙◌, refl};
 ghost use Rattle.std.specs.Prelude.{◌≡◌, ℕ, true, map, nat_le, IfOk, Some};
 ghost use Rattle.std.specs.List.{list_all};
 ghost use Rattle.rs_value.specs.declared.column.Kind.{Kind};
+ghost use Rattle.rs_coalesce.specs.Joined.{AreJoined};
 ghost use Rattle.rs_facts.specs.Fact.{RowSet};
 ghost use Rattle.rs_facts.specs.Operators.{windowed};
 ghost use Rattle.rs_facts.specs.Runs.{AreRunsOf};
@@ -203,6 +204,7 @@ fn cut(spans: &mut Vec<Span>, kept: Kept)
         ≡ windowed kept.from kept.to k (places_of (map seen spans.old.items) k) }
     ensures placed { (kind : Kind) → ArePlaced kind (map seen spans.old.items) → ArePlaced kind (map seen spans.new.items) }
     ensures width { (width : ℕ) → AreWide width (map seen spans.old.items) → AreWide width (map seen spans.new.items) }
+    ensures joined { (kind : Kind) → AreJoined kind (map seen spans.old.items) → AreJoined kind (map seen spans.new.items) }
 {
     sort_by_place(spans);
     window(spans, kept.from, kept.to);

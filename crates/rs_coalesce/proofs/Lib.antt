@@ -1,6 +1,7 @@
 pub mod Orders
 pub mod Joining
 mod JoinLoop
-mod Whole
+pub mod Whole
 mod OpenRuns
 mod InTurn
+pub mod Separate

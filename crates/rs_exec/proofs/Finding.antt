@@ -1,5 +1,5 @@
 -- What a source gives for a leaf, and what the leaf makes of it.
-use Rattle.std.proofs.Common.{◌≡◌, ℕ, true, List, [], map, sym, ap, ◌∙◌}
+use Rattle.std.proofs.Common.{◌≡◌, ℕ, true, List, [], map, sym, ap, ◌∙◌, subst}
 use Rattle.std.specs.Prelude.{Vec, IsPermutation}
 use Rattle.std.specs.declared.alloc.Global.{Global}
 use Rattle.rs_value.specs.Row.{Row}
@@ -9,6 +9,8 @@ use Rattle.rs_facts.specs.Condition.{Condition}
 use Rattle.rs_facts.specs.Runs.{Stretch}
 use Rattle.rs_facts.specs.Spans.{seen, places_of, ArePlaced}
 use Rattle.rs_facts.proofs.SpanLaws.{places_of-permutation}
+use Rattle.rs_coalesce.specs.Joined.{AreJoined}
+use Rattle.rs_coalesce.proofs.Separate.{joined-from_separate}
 use Rattle.rs_planning.specs.Conjuncts.{meets_each}
 use Rattle.rs_planning.specs.Plan.{met_by_each}
 use Rattle.rs_plan.specs.PlanView.{conditions_of}
@@ -30,6 +32,7 @@ module _ (stands : Snapshots → Type 0) (asked : Asked) (part : Part) (conditio
   pub found-all : AreGiven stands asked part spans → AreFound stands asked part conditions spans
   found-all given = record {
     means = λ snapshots there k. ap (met_by_each conditions) (given.means snapshots there k);
+    joined = given.joined;
     placed = given.placed;
     wide = given.wide;
   }
@@ -38,6 +41,7 @@ module _ (stands : Snapshots → Type 0) (asked : Asked) (part : Part) (conditio
   found-some sought wanted given = record {
     means = λ snapshots there k.
         met-through (has_value sought) conditions (inside part k (places_of spans k)) (inside part k (rows_asked snapshots asked k)) wanted (given.means snapshots there k);
+    joined = given.joined;
     placed = given.placed;
     wide = given.wide;
   }
@@ -73,3 +77,7 @@ module _ (stands : Snapshots → Type 0) (version route : ℕ) (leaf : Leaf) whe
         ∙ sym (ap (met_by_each (conditions_of leaf.conditions)) (off.nothing k ((snapshots version).rows (table_of leaf.table) route k)) ∙ met-nothing (conditions_of leaf.conditions));
     shaped = none-shaped leaf.table.kind leaf.table.width made bare;
   }
+
+-- of no spans no two are one run
+pub none-joined : (kind : Kind) (made : Vec Span Global) → made.items ≡ [] → AreJoined kind (map seen made.items)
+none-joined kind made bare = subst (λ (spans : List Span). AreJoined kind (map seen spans)) (sym bare) (joined-from_separate kind [] tt)

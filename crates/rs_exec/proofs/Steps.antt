@@ -21,7 +21,6 @@ use Rattle.rs_exec.specs.Meaning.{PlanMeaning, same_kind, window_meaning}
 use Rattle.rs_exec.specs.Operand.{changed_meaning, paired_meaning}
 use Rattle.rs_exec.specs.declared.changes.Change.{Change}
 use Rattle.rs_exec.specs.declared.changes.Change.TheVariants as changes
-use Rattle.rs_exec.specs.declared.pairs.Kinds.{Kinds}
 use Rattle.rs_exec.specs.declared.pairs.Pairing.{Pairing}
 use Rattle.rs_exec.specs.declared.pairs.Pairing.TheVariants as pairings
 use Rattle.rs_exec.specs.Changes.{IsNarrow, changed_rows, IsChanged}

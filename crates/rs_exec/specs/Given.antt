@@ -8,6 +8,7 @@ use Rattle.rs_facts.specs.Fact.{RowSet, keep}
 use Rattle.rs_facts.specs.Operators.{windowed}
 use Rattle.rs_facts.specs.Runs.{Stretch}
 use Rattle.rs_facts.specs.Spans.{places_of, ArePlaced}
+use Rattle.rs_coalesce.specs.Joined.{AreJoined}
 use Rattle.rs_sweep.specs.Lists.{AreWide}
 use Rattle.rs_exec.specs.Snapshot.{NumberedTable, Snapshots}
 use Rattle.rs_exec.specs.declared.source.Asked.{Asked}
@@ -34,15 +35,17 @@ has_datum place datum row = meets (compare (column place) comparisons.Equal (wri
 abbrev pub has_value : SoughtValue → Row → Bool
 has_value sought row = has_datum sought.column (literal_datum sought.value.now) row
 
--- In each of the snapshots the spans mean the table's rows inside the part. Whatever the snapshots, they are of the
--- table's kind, and as wide as its columns.
+-- In each of the snapshots the spans mean the table's rows inside the part, and no two are one run. Whatever the snapshots,
+-- they are of the table's kind, and as wide as its columns.
 pub record AreGiven (stands : Snapshots → Type 0) (asked : Asked) (part : Part) (spans : List Stretch) : Type 0 where
   pub means : (snapshots : Snapshots) → stands snapshots → (k : ℕ) → inside part k (places_of spans k) ≡ inside part k (rows_asked snapshots asked k)
+  pub joined : (snapshots : Snapshots) → stands snapshots → AreJoined asked.kind spans
   pub placed : ArePlaced asked.kind spans
   pub wide : AreWide asked.width spans
 
 -- the same of the rows that have the value
 pub record AreGivenOfValue (stands : Snapshots → Type 0) (asked : Asked) (part : Part) (sought : SoughtValue) (spans : List Stretch) : Type 0 where
   pub means : (snapshots : Snapshots) → stands snapshots → (k : ℕ) → keep (has_value sought) (inside part k (places_of spans k)) ≡ keep (has_value sought) (inside part k (rows_asked snapshots asked k))
+  pub joined : (snapshots : Snapshots) → stands snapshots → AreJoined asked.kind spans
   pub placed : ArePlaced asked.kind spans
   pub wide : AreWide asked.width spans

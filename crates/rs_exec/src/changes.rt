@@ -3,6 +3,7 @@
 ghost use Rattle.std.specs.Prelude.{◌≡◌, ℕ, true, IfOk, map};
 ghost use Rattle.std.specs.List.{AllZip, AllByRecursion};
 ghost use Rattle.rs_value.specs.declared.column.Kind.{Kind};
+ghost use Rattle.rs_coalesce.specs.Joined.{AreJoined};
 ghost use Rattle.rs_facts.specs.ConditionView.{condition_of};
 ghost use Rattle.rs_facts.specs.Spans.{seen, places_of, ArePlaced};
 ghost use Rattle.rs_planning.specs.Plan.{met_by_each};
@@ -93,6 +94,8 @@ pub(crate) fn select_each(spans: &mut Vec<Span>, conditions: &[Condition])
         → ArePlaced kind (map seen spans.new.items) }
     ensures width { (width : ℕ) → AreWide width (map seen spans.old.items)
         → AreWide width (map seen spans.new.items) }
+    ensures joined { (kind : Kind) → AreJoined kind (map seen spans.old.items)
+        → AreJoined kind (map seen spans.new.items) }
 {
     for condition in conditions {
         select(spans, condition);

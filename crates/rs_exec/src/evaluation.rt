@@ -21,7 +21,7 @@ use crate::changes::{Change, are_in_order, changed_on};
 use crate::complements::gaps_on;
 use crate::joined::runs_on;
 use crate::kinds::{kind_of, overlaid_kind};
-use crate::leaves::leaf_on;
+use crate::leaves::{leaf_on, leaf_runs};
 use crate::operand::{Node, Operand, Operands};
 use crate::pairs::{Kinds, Pairing, paired_on};
 use crate::routes::{Routes, RowsOn, are_none, none_on};
@@ -52,6 +52,9 @@ pub fn eval<S: Source>(
     ensures passes { S.passes source.old source.new }
     ensures wants { IfErr result (λ why. S.wants why source.old source.new) }
 {
+    if let Plan::Leaf(leaf) = plan {
+        return leaf_runs(alloc, source, version, route, leaf);
+    }
     let alone = Routes {
         version,
         first: route,

@@ -68,8 +68,8 @@ pub trait Source {
     /// Why calls may be refused that begin with the one source and end with the other.
     ghost wants: { Refusal → Self → Self → Type 0 };
 
-    /// The spans of the rows of a table within a part of a route, in any order. Rows outside the part may be among them. A
-    /// refusal leaves the source as it was for what it stands for.
+    /// The spans of the rows of a table within a part of a route, in any order, of which no two are one run. Rows outside the
+    /// part may be among them. A refusal leaves the source as it was for what it stands for.
     fn spans(&mut self, alloc: Global, asked: &Asked, part: Part) -> Result<Vec<Span>, Refusal>
         ensures gives { IfOk result (λ spans. AreGiven (is self.old) asked.now part (map seen spans.items)) }
         ensures stays { (snapshots : Snapshots) → is self.old snapshots → is self.new snapshots }

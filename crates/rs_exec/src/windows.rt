@@ -3,6 +3,7 @@
 ghost use Rattle.std.specs.Prelude.{◌≡◌, ◌≤◌, ℕ, true, false, length, map, IfSome, IfNone, IfOk};
 ghost use Rattle.std.specs.List.{AllZip, AllByRecursion};
 ghost use Rattle.rs_value.specs.declared.column.Kind.{Kind};
+ghost use Rattle.rs_coalesce.specs.Joined.{AreJoined};
 ghost use Rattle.rs_facts.specs.Fact.{RowSet, none};
 ghost use Rattle.rs_facts.specs.Spans.{seen, places_of, ArePlaced};
 ghost use Rattle.rs_sweep.specs.Lists.{AreSorted, AreWide};
@@ -120,6 +121,8 @@ pub(crate) fn cut(spans: &mut Vec<Span>, part: Part)
         → ArePlaced kind (map seen spans.new.items) }
     ensures width { (width : ℕ) → AreWide width (map seen spans.old.items)
         → AreWide width (map seen spans.new.items) }
+    ensures joined { (kind : Kind) → AreJoined kind (map seen spans.old.items)
+        → AreJoined kind (map seen spans.new.items) }
 {
     if let Part::Between { from, to } = part {
         window(spans, from, to);

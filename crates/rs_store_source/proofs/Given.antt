@@ -4,6 +4,8 @@ use Rattle.std.specs.FinMap as names
 use Rattle.std.specs.List.{AllByRecursion, list_any}
 use Rattle.std.proofs.lemmas.Bool.{and_parts, eqb-true, false≢true, le-leb, leb-true}
 use Rattle.std.proofs.lemmas.List.{length-map}
+use Rattle.rs_coalesce.specs.Joined.{AreJoined}
+use Rattle.rs_coalesce.proofs.Separate.{joined-from_separate}
 use Rattle.rs_catalog.specs.Definitions.{Definitions, TableItem, no_places}
 use Rattle.rs_catalog.proofs.Names.{each_entry}
 use Rattle.rs_disk.specs.declared.disk.Disk as disk
@@ -34,6 +36,7 @@ use Rattle.rs_value.specs.declared.column.ColumnType.{ColumnType}
 use Rattle.rs_value.specs.declared.column.Kind.{Kind}
 use Rattle.rs_versioned.specs.Meant.{AreEventsMeant}
 use Rattle.rs_store_source.specs.Shown.{Shows, is_shown, is_table, places_seen, same_kind, table_there, window_of}
+use Rattle.rs_store_source.proofs.Apart.{spans_joined, value_joined}
 use Rattle.rs_store_source.proofs.OfValue.{keep_inside, kept_of_value}
 use Rattle.rs_store_source.proofs.SameKind.{kind_same}
 use Rattle.rs_store_source.proofs.Tables.{all_lie, events_meant}
@@ -111,6 +114,7 @@ module _ {D : Type 0} (d : disk.Ghosts D) (oldest : ℕ) (store : StoreState D) 
   pub given_none : is_shown store.catalog oldest store.file.accepted asked ≡ false → AreGiven (Shows d oldest store) asked part []
   given_none off = record {
     means = λ snapshots shows k. ap (inside part k) (sym (none_shown (nat_le oldest asked.version) (nat_le asked.version store.file.accepted) (table_there store.catalog (table_asked asked)) refl refl refl off snapshots shows k));
+    joined = λ snapshots shows. joined-from_separate asked.kind [] tt;
     placed = tt;
     wide = tt;
   }
@@ -128,19 +132,26 @@ module _ {D : Type 0} (d : disk.Ghosts D) (oldest : ℕ) (store : StoreState D) 
     there : table_there store.catalog (table_asked asked) ≡ true
     there = (and_parts (nat_le asked.version store.file.accepted) (table_there store.catalog (table_asked asked)) upper).1
 
+    -- the events of the table are meant at the version
+    meant_there : (snapshots : Snapshots) → (shows : Shows d oldest store snapshots)
+        → AreEventsMeant (routes_at asked.version shows.stands.contents.definitions.routes) asked.kind asked.version (events_of shows.stands.contents asked.table)
+    meant_there snapshots shows =
+        let stands = shows.stands in
+        let contents = stands.contents in
+        let has = table_found store.catalog (table_asked asked) there in
+        let within : asked.version ≤ contents.directory.accepted = omega (arith, high, stands.keeps.opened.accepted) in
+        subst (λ (n : ℕ). AreEventsMeant (routes_at asked.version contents.definitions.routes) asked.kind asked.version (events_of contents n)) has.number
+        (subst (λ (kind : Kind). AreEventsMeant (routes_at asked.version contents.definitions.routes) kind asked.version (events_of contents has.item.number)) has.kind
+        (events_meant (committed d store.pager) contents store.catalog oldest stands.keeps.holds stands.meant stands.keeps.memory.catalog has.name has.item has.there asked.version low within))
+
     -- what the version sees in the part is what the snapshot has there
     means : (snapshots : Snapshots) → (shows : Shows d oldest store snapshots) → (k : ℕ)
         → inside part k (places_of (spans_in (window_of asked part) (events_of shows.stands.contents asked.table)) k) ≡ inside part k (rows_asked snapshots asked k)
     means snapshots shows k =
         let stands = shows.stands in
         let contents = stands.contents in
-        let has = table_found store.catalog (table_asked asked) there in
-        let within : asked.version ≤ contents.directory.accepted = omega (arith, high, stands.keeps.opened.accepted) in
         let events = events_of contents asked.table in
-        let meant : AreEventsMeant (routes_at asked.version contents.definitions.routes) asked.kind asked.version events =
-        subst (λ (n : ℕ). AreEventsMeant (routes_at asked.version contents.definitions.routes) asked.kind asked.version (events_of contents n)) has.number
-        (subst (λ (kind : Kind). AreEventsMeant (routes_at asked.version contents.definitions.routes) kind asked.version (events_of contents has.item.number)) has.kind
-        (events_meant (committed d store.pager) contents store.catalog oldest stands.keeps.holds stands.meant stands.keeps.memory.catalog has.name has.item has.there asked.version low within)) in
+        let meant = meant_there snapshots shows in
         let lie = all_lie (committed d store.pager) contents store.catalog oldest stands.keeps.holds stands.meant stands.keeps.memory.catalog asked.version asked.kind events meant asked.route in
         let shown : rows_asked snapshots asked k ≡ places_seen contents asked.version asked.table asked.route k =
         ap (λ (s : Snapshot). s.rows (table_asked asked) asked.route k) (shows.live asked.version low high)
@@ -164,6 +175,10 @@ module _ {D : Type 0} (d : disk.Ghosts D) (oldest : ℕ) (store : StoreState D) 
           ap (λ (s : List Stretch). inside part k (places_of s k))
           (reads shows.stands.contents shows.stands.keeps ∙ ap (λ (w : RouteWindow). spans_in w (events_of shows.stands.contents asked.table)) is)
           ∙ means snapshots shows k;
+      joined = λ snapshots shows.
+          subst (λ (s : List Stretch). AreJoined asked.kind s)
+          (sym (reads shows.stands.contents shows.stands.keeps ∙ ap (λ (w : RouteWindow). spans_in w (events_of shows.stands.contents asked.table)) is))
+          (spans_joined (window_of asked part) (events_of shows.stands.contents asked.table) ((meant_there snapshots shows).runs asked.route));
       placed = subst (λ (w : RouteWindow). ArePlaced w.kind spans) is placed;
       wide = wide_rows spans typed;
     }
@@ -190,6 +205,21 @@ module _ {D : Type 0} (d : disk.Ghosts D) (oldest : ℕ) (store : StoreState D) 
                 ap (λ (s : List Stretch). keep (has_value sought) (inside part k (places_of s k))) (every.1 ∙ ap (λ (n : ℕ). spans_in window (events_of contents n)) of_table)
                 ∙ all
           ];
+      joined = λ snapshots shows.
+          let contents = shows.stands.contents in
+          let events = events_of contents asked.table in
+          let datum = literal_datum sought.value.now in
+          let runs = (meant_there snapshots shows).runs asked.route in
+          elim (gives contents shows.stands.keeps) [
+            | inl those ↦
+                subst (λ (s : List Stretch). AreJoined asked.kind s)
+                (sym (those ∙ ap (λ (n : ℕ). spans_with key.column datum window (events_of contents n)) of_table ∙ ap (λ (w : RouteWindow). spans_with key.column datum w events) is))
+                (value_joined (window_of asked part) events runs key.column datum)
+            | inr every ↦
+                subst (λ (s : List Stretch). AreJoined asked.kind s)
+                (sym (every.1 ∙ ap (λ (n : ℕ). spans_in window (events_of contents n)) of_table ∙ ap (λ (w : RouteWindow). spans_in w events) is))
+                (spans_joined (window_of asked part) events runs)
+          ];
       placed = subst (λ (w : RouteWindow). ArePlaced w.kind spans) is placed;
       wide = wide_rows spans (λ name item at same. typed name item at (same ∙ sym of_table));
     }
@@ -198,6 +228,7 @@ module _ {D : Type 0} (d : disk.Ghosts D) (oldest : ℕ) (store : StoreState D) 
 pub none_of_value : (stands : Snapshots → Type 0) (asked : Asked) (part : Part) (sought : SoughtValue) (spans : List Stretch) → AreGiven stands asked part spans → AreGivenOfValue stands asked part sought spans
 none_of_value stands asked part sought spans given = record {
   means = λ snapshots is k. ap (keep (has_value sought)) (given.means snapshots is k);
+  joined = given.joined;
   placed = given.placed;
   wide = given.wide;
 }

@@ -5,6 +5,7 @@ pub mod RouteEnds
 pub mod Tables
 pub mod Within
 pub mod OfValue
+pub mod Apart
 pub mod Given
 pub mod Passing
 pub mod Counted

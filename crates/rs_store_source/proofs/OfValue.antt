@@ -27,7 +27,7 @@ use Rattle.rs_versioned.specs.Events.{Event, is_visible, span_of}
 -- ---- lists
 
 module _ {X : Type 0} (p q : X → Bool) where
-  filter_both : (xs : List X) → filter q (filter p xs) ≡ filter (λ x. p x && q x) xs
+  pub filter_both : (xs : List X) → filter q (filter p xs) ≡ filter (λ x. p x && q x) xs
   filter_both [] = refl
   filter_both (x ∷ xs) = by_test (p x) (filter_both xs) where
     by_test : (b : Bool) → filter q (filter p xs) ≡ filter (λ x. p x && q x) xs

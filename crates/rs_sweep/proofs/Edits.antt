@@ -22,6 +22,7 @@ use Rattle.rs_facts.proofs.Sets.{same_rows}
 use Rattle.rs_facts.proofs.SpanLaws.{holds, Holds-from_holds, contains-places_of, contains-append, places_of-permutation}
 use Rattle.rs_facts.proofs.Carrying.{contains-carried}
 use Rattle.rs_facts.proofs.RowSets.{any-map, any-same, either-way, any-places, contains-keep, contains-mapped, contains-merged, contains-windowed}
+use Rattle.rs_coalesce.proofs.Separate.{IsCut}
 use Rattle.rs_sweep.specs.Inner.{clipped, moved, shifted, in_columns}
 use Rattle.rs_sweep.specs.Lists.{AreSorted, AreWide}
 use Rattle.rs_sweep.proofs.Arrangement.{every-kept, sorted-kept, every-map, sorted-map, every-moved}
@@ -76,6 +77,9 @@ windowed-means lo hi xs k = same_rows _ _ (λ row.
 clipped_placed : (kind : Kind) (lo hi : ℕ) (x : Stretch) → IsPlaced kind x → some (clipped lo hi x) ≡ true → IsPlaced kind (clipped lo hi x)
 clipped_placed Line lo hi x h e = ltb-true (max x.lo lo) (min x.hi hi) e
 clipped_placed Point lo hi x h e = let l = ltb-true (max x.lo lo) (min x.hi hi) e in omega (arith, h, l)
+
+pub clipped-cuts : (lo hi : ℕ) (x : Stretch) → IsCut x (clipped lo hi x)
+clipped-cuts lo hi x = record { row = refl; lo = omega arith; hi = omega arith }
 
 pub windowed-placed : (kind : Kind) (lo hi : ℕ) (xs : List Stretch) → ArePlaced kind xs → ArePlaced kind (filter some (map (clipped lo hi) xs))
 windowed-placed kind lo hi xs h = every-kept (IsPlaced kind) (IsPlaced kind) some (clipped lo hi) (clipped_placed kind lo hi) xs h

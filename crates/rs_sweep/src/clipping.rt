@@ -2,6 +2,7 @@
 
 ghost use Rattle.std.specs.Prelude.{◌≡◌, ℕ, map};
 ghost use Rattle.rs_value.specs.declared.column.Kind.{Kind};
+ghost use Rattle.rs_coalesce.specs.Joined.{AreJoined};
 ghost use Rattle.rs_facts.specs.Operators.{windowed};
 ghost use Rattle.rs_facts.specs.Spans.{seen, places_of, ArePlaced};
 ghost use Rattle.rs_sweep.specs.Lists.{AreSorted, AreWide};
@@ -19,6 +20,8 @@ pub fn window(spans: &mut Vec<Span>, lo: u32, hi: u32)
         → ArePlaced kind (map seen spans.new.items) }
     ensures width { (width : ℕ) → AreWide width (map seen spans.old.items)
         → AreWide width (map seen spans.new.items) }
+    ensures joined { (kind : Kind) → AreJoined kind (map seen spans.old.items)
+        → AreJoined kind (map seen spans.new.items) }
 {
     clip_each(spans, lo, hi);
     spans.retain(|span| span.lo < span.hi);

@@ -2,6 +2,7 @@
 
 ghost use Rattle.std.specs.Prelude.{◌≡◌, ℕ, map};
 ghost use Rattle.rs_value.specs.declared.column.Kind.{Kind};
+ghost use Rattle.rs_coalesce.specs.Joined.{AreJoined};
 ghost use Rattle.rs_facts.specs.Condition.{meets};
 ghost use Rattle.rs_facts.specs.ConditionView.{condition_of};
 ghost use Rattle.rs_facts.specs.Fact.{keep};
@@ -21,6 +22,8 @@ pub fn select(spans: &mut Vec<Span>, condition: &Condition)
         → ArePlaced kind (map seen spans.new.items) }
     ensures width { (width : ℕ) → AreWide width (map seen spans.old.items)
         → AreWide width (map seen spans.new.items) }
+    ensures joined { (kind : Kind) → AreJoined kind (map seen spans.old.items)
+        → AreJoined kind (map seen spans.new.items) }
 {
     spans.retain(|span| meets(condition, &span.tuple));
 }

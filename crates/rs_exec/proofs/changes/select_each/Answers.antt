@@ -12,6 +12,7 @@ loop-condition-init c = record {
   sorted = c.requires.sorted;
   placed = λ kind placed. placed;
   wide = λ width wide. wide;
+  joined = λ kind joined. joined;
 }
 
 pub loop-condition-preserved : goal.loop-condition-preserved
@@ -24,6 +25,7 @@ loop-condition-preserved c = record {
   sorted = c.select.ensures.sorted;
   placed = λ kind placed. c.select.ensures.placed kind (c.loop-condition.invariant.placed kind placed);
   wide = λ width wide. c.select.ensures.width width (c.loop-condition.invariant.wide width wide);
+  joined = λ kind joined. c.select.ensures.joined kind (c.loop-condition.invariant.joined kind joined);
 }
 
 pub returns-clause-means : goal.returns-clause-means

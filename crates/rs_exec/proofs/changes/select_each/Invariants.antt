@@ -1,5 +1,6 @@
 use Rattle.std.proofs.Common.{◌≡◌, ℕ, drop, map}
 use Rattle.rs_value.specs.declared.column.Kind.{Kind}
+use Rattle.rs_coalesce.specs.Joined.{AreJoined}
 use Rattle.rs_facts.specs.ConditionView.{condition_of}
 use Rattle.rs_facts.specs.Spans.{seen, places_of, ArePlaced}
 use Rattle.rs_planning.specs.Plan.{met_by_each}
@@ -13,4 +14,5 @@ invariant-loop-condition l = record {
   sorted : AreSorted (map seen l.spans.items);
   placed : (kind : Kind) → ArePlaced kind (map seen l.fn.spans.items) → ArePlaced kind (map seen l.spans.items);
   wide : (width : ℕ) → AreWide width (map seen l.fn.spans.items) → AreWide width (map seen l.spans.items);
+  joined : (kind : Kind) → AreJoined kind (map seen l.fn.spans.items) → AreJoined kind (map seen l.spans.items);
 }

@@ -1,5 +1,5 @@
 -- Each number that comes has its rows, since there are as many of either.
-use Rattle.std.proofs.Common.{◌∙◌, length, map, get_or, sym, ap, subst, arith}
+use Rattle.std.proofs.Common.{length, map, get_or, sym, ap, subst, arith}
 use Rattle.std.specs.List.{zip}
 use Rattle.std.specs.Option.{option_to_list}
 use Rattle.rs_facts.specs.Spans.{seen}

@@ -1,4 +1,4 @@
-use Rattle.std.proofs.Common.{◌≡◌, ◌∙◌, List, map, refl, sym, ap, subst}
+use Rattle.std.proofs.Common.{◌∙◌, map, refl, sym, ap, subst}
 use Rattle.std.proofs.lemmas.Result.{IfOk-weaker}
 use Rattle.rs_coalesce.specs.Lent.{seen_lent}
 use Rattle.rs_facts.specs.Spans.{seen}

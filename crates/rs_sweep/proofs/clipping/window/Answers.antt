@@ -2,10 +2,12 @@ use Rattle.std.proofs.Common.{◌≡◌, filter, map, sym, ap, ◌∙◌, subst,
 use Rattle.std.proofs.lemmas.Fn.{filter_same}
 use Rattle.rs_facts.specs.declared.fact.Span.{Span}
 use Rattle.rs_facts.specs.Spans.{seen, places_of, ArePlaced}
+use Rattle.rs_coalesce.specs.Joined.{AreJoined}
+use Rattle.rs_coalesce.proofs.Separate.{joined-cut, joined-filtered}
 use Rattle.rs_sweep.specs.Inner.{clipped}
 use Rattle.rs_sweep.specs.Lists.{AreSorted, AreWide}
 use Rattle.rs_sweep.proofs.Arrangement.{map-filter}
-use Rattle.rs_sweep.proofs.Edits.{some, windowed-means, windowed-sorted, windowed-placed, windowed-wide}
+use Rattle.rs_sweep.proofs.Edits.{some, windowed-means, windowed-sorted, windowed-placed, windowed-wide, clipped-cuts}
 use Rattle.rs_sweep.proofs.clipping.window.Goals as goal
 
 is : (c : goal.After-retain) → map seen c.retain.new.self.items ≡ filter some (map (clipped c.args.lo c.args.hi) (map seen c.args.spans.now.items))
@@ -22,3 +24,7 @@ returns-clause-placed c = λ kind h. subst (ArePlaced kind) (sym (is c)) (window
 
 pub returns-clause-width : goal.returns-clause-width
 returns-clause-width c = λ width h. subst (AreWide width) (sym (is c)) (windowed-wide width c.args.lo c.args.hi (map seen c.args.spans.now.items) h)
+
+pub returns-clause-joined : goal.returns-clause-joined
+returns-clause-joined c = λ kind h. subst (AreJoined kind) (sym (is c))
+    (joined-filtered kind some (map (clipped c.args.lo c.args.hi) (map seen c.args.spans.now.items)) (joined-cut kind (clipped c.args.lo c.args.hi) (clipped-cuts c.args.lo c.args.hi) (map seen c.args.spans.now.items) h))

@@ -5,6 +5,8 @@ use Rattle.rs_facts.specs.ConditionView.{condition_of}
 use Rattle.rs_facts.specs.declared.fact.Span.{Span}
 use Rattle.rs_facts.specs.Runs.{Stretch}
 use Rattle.rs_facts.specs.Spans.{seen, places_of, ArePlaced}
+use Rattle.rs_coalesce.specs.Joined.{AreJoined}
+use Rattle.rs_coalesce.proofs.Separate.{joined-filtered}
 use Rattle.rs_sweep.specs.Lists.{AreSorted, AreWide}
 use Rattle.rs_sweep.proofs.Arrangement.{map-filter}
 use Rattle.rs_sweep.proofs.Edits.{selected-means, selected-sorted, selected-placed, selected-wide}
@@ -24,3 +26,6 @@ returns-clause-placed c = λ kind h. subst (ArePlaced kind) (sym (is c)) (select
 
 pub returns-clause-width : goal.returns-clause-width
 returns-clause-width c = λ width h. subst (AreWide width) (sym (is c)) (selected-wide width (said.meets (condition_of c.args.condition.now)) (map seen c.args.spans.now.items) h)
+
+pub returns-clause-joined : goal.returns-clause-joined
+returns-clause-joined c = λ kind h. subst (AreJoined kind) (sym (is c)) (joined-filtered kind (λ (s : Stretch). said.meets (condition_of c.args.condition.now) s.row) (map seen c.args.spans.now.items) h)

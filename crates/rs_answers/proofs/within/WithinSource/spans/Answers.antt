@@ -20,7 +20,7 @@ returns-clause-gives g c =
     given-within c.args.self.now.from c.args.self.now.to c.kept_of-kept.result.from c.kept_of-kept.result.to c.args.part c.kept_of-kept.ensures
     g.S.Source.is c.args.self.now.source.now c.args.asked.now (map seen c.in_ok-spans.spans.items) (map seen c.cut.new.spans.items)
     (subst (λ (part : Part). AreGiven (g.S.Source.is c.args.self.now.source.now) c.args.asked.now part (map seen c.in_ok-spans.spans.items)) c.as_part.ensures c.in_ok-spans.ensures.gives)
-    c.cut.ensures.means c.cut.ensures.placed c.cut.ensures.width
+    c.cut.ensures.means c.cut.ensures.placed c.cut.ensures.width c.cut.ensures.joined
 
 pub returns-clause-stays : goal.returns-clause-stays
 returns-clause-stays g c =
