@@ -28,7 +28,6 @@ use crate::routes::visited_routes;
 use crate::runs::runs_on;
 use rs_catalog::NamedRoute;
 use rs_checker::{Columns, check_group, check_summed};
-use rs_coalesce::lent;
 use rs_machine_laws::printed::rows_lie_on_routes;
 use rs_methods::Name;
 use rs_refusal::Refusal;
@@ -129,8 +128,7 @@ fn add_rows<E: InMemory>(
 {
     rows_lie_on_routes();
     let runs = runs_on(alloc, e, asked.plan, named.route.number(), asked.version)?;
-    let lent_runs = lent(alloc, runs.as_slice())?;
-    Ok(totals.add_route(lent_runs.as_slice())?)
+    Ok(totals.add_route(runs.as_slice())?)
 }
 
 /// The line of each total.

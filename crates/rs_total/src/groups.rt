@@ -22,10 +22,10 @@ pub(crate) fn add_spans(
     by: &[u8],
     summed: Option<u8>,
     start: u64,
-    spans: &[&Span],
+    spans: &[Span],
 ) -> Result<(), AllocError>
     ensures added { OnOk result ((group : Row) → kept_of groups.new.entries group
-        ≡ kept_along by.now summed start group (kept_of groups.old.entries group) (map (λ span. seen span.now) spans.now)) }
+        ≡ kept_along by.now summed start group (kept_of groups.old.entries group) (map seen spans.now)) }
     ensures few { OnOk result (length spans.now < 2 ^ 64) }
 {
     let mut group = KeptRow::nulls(alloc, 0)?;

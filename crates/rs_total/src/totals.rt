@@ -60,9 +60,9 @@ impl Totals {
 
     /// Adds the runs of the rows along one route, by place and then by row. The sums are exact for 2^31 routes of fewer
     /// than 2^32 thousandths each. After want of memory the totals stand for no routes.
-    pub fn add_route(&mut self, runs: &[&Span]) -> Result<(), AllocError>
+    pub fn add_route(&mut self, runs: &[Span]) -> Result<(), AllocError>
         ensures { OnOk result ((kind : Kind) (by : List ℕ) (column : Option ℕ) (routes : List Along) (route : Along) → length routes < 2 ^ 31
-            → AreTotalsOf by column routes self.old → AreRunsAlong kind route (map (λ run. seen run.now) runs.now)
+            → AreTotalsOf by column routes self.old → AreRunsAlong kind route (map seen runs.now)
             → AreTotalsOf by column (routes ++ route ∷ []) self.new) }
     {
         add_spans(

@@ -1,4 +1,4 @@
-use Rattle.std.proofs.Common.{refl, ap}
+use Rattle.std.proofs.Common.{refl}
 use Rattle.rs_total.proofs.Adding.{tally-none}
 use Rattle.rs_total.proofs.totals.Totals.new.Goals as goal
 
