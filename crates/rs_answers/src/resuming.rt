@@ -173,12 +173,12 @@ fn goes_far_enough(found: &RunsFrom, wanted: usize) -> bool
 fn usual_length(named: &NamedRoute, all: usize, few: usize) -> u32 {
     let ends = named.route.ends();
     let start = ends.start().thousandths();
-    let length = ends.finish().thousandths().saturating_sub(start) as u64;
-    let each = length / (all.max(1) as u64) + 1;
+    let length = ends.finish().thousandths().saturating_sub(start);
     let count = few as u64;
     let more = count.isqrt().saturating_mul(2).saturating_add(1);
-    let usual = each.saturating_mul(count.saturating_add(more));
-    usual.min(u32::MAX as u64) as u32
+    let together = u128::from(length).saturating_mul(u128::from(count.saturating_add(more)));
+    let usual = together / (all.max(1) as u128);
+    usual.saturating_add(1).min(u32::MAX as u128) as u32
 }
 
 /// Runs from a mark on that end within so many thousandths from there, as far as no run before them ends beyond. The source tells why it is
