@@ -1,6 +1,5 @@
 -- What the tokens of a field spell.
 use Rattle.std.proofs.Common.{◌≡◌, ◌∙◌, ℕ, ◌<◌, ◌≤◌, Bool, true, false, List, [], ◌∷◌, ◌++◌, length, get_or, Ok, refl, sym, subst, append-nil, arith}
-use Rattle.std.specs.Prelude.{All}
 use denote.Enum.Bare.{sameb, same_true}
 use Rattle.rs_grammar.specs.contracts.kind.TokenKind.{the_type}
 use Rattle.rs_grammar.specs.declared.kind.TokenKind.{TokenKind}
@@ -9,6 +8,7 @@ use Rattle.rs_grammar.specs.Grammar.{rules, Derives, position_form}
 use Rattle.rs_grammar.specs.Reading.{Runs}
 use Rattle.rs_lexer.specs.declared.token.Token.{Token}
 use Rattle.rs_lexer.specs.Lexis.{kinds_of, token_text, IsTokenOf, AreTokensFrom}
+use Rattle.rs_lexer.proofs.CutLaws.{cut_inside}
 use Rattle.rs_methods.specs.Position.{PositionExpression}
 use Rattle.rs_syntax.specs.declared.written.WrittenValue.TheVariants as written_values
 use Rattle.rs_syntax.specs.declared.written.WrittenPosition.{WrittenPosition}
@@ -25,11 +25,11 @@ only [] d some few = absurd (omega arith)
 only (token ∷ []) d some few = refl
 only (token ∷ other ∷ items) d some few = absurd (omega arith)
 
-pub says_name : (text name : List ℕ) (items tokens : List Token) (d : Token) → items ≡ tokens → AreTokensFrom text 0 tokens → 1 ≤ length items → length items < 2 → (get_or items 0 d).kind ≡ kinds.Name
+pub says_name : (text name : List ℕ) (items : List Token) (d : Token) → AreTokensFrom text 0 items → 1 ≤ length items → length items < 2 → (get_or items 0 d).kind ≡ kinds.Name
     → name ≡ token_text text (get_or items 0 d) → SaysName text name
-says_name text name items tokens d same cut some few kind is = record {
+says_name text name items d cut some few kind is = record {
   token = get_or items 0 d;
-  cut = subst (AreTokensFrom text 0) (sym same ∙ only items d some few) cut;
+  cut = subst (AreTokensFrom text 0) (only items d some few) cut;
   kind = kind;
   is = is;
 }
@@ -46,19 +46,19 @@ no_kinds : (rest : List Token) → length rest < 1 → kinds_of rest ≡ []
 no_kinds [] none = refl
 no_kinds (token ∷ rest) none = absurd (omega arith)
 
-pub told_spelling : (text : List ℕ) (items tokens : List Token) (lexemes : List Lexeme) → items ≡ tokens → All (IsTokenOf text) tokens → lexemes_of items ≡ lexemes → AreToldOf text lexemes
-told_spelling text items tokens lexemes same all e = subst (AreToldOf text) e (told_of text items (subst (All (IsTokenOf text)) (sym same) all))
+pub told_spelling : (text : List ℕ) (items : List Token) (lexemes : List Lexeme) → AreTokensFrom text 0 items → lexemes_of items ≡ lexemes → AreToldOf text lexemes
+told_spelling text items lexemes cut e = subst (AreToldOf text) e (told_of text items (cut_inside text cut))
 
 pub number_token : (text : List ℕ) (is_negative : Bool) (digits : Token) → AreToldOf text (value_lexemes (written_values.Whole is_negative digits)) → IsTokenOf text digits
 number_token text true digits all = all.1.0.0
 number_token text false digits all = all.0.0
 
-pub spells_position : (text : List ℕ) (items tokens rest : List Token) (written : WrittenPosition) (position : PositionExpression) → items ≡ tokens → AreTokensFrom text 0 tokens
+pub spells_position : (text : List ℕ) (items rest : List Token) (written : WrittenPosition) (position : PositionExpression) → AreTokensFrom text 0 items
     → Runs position_form (kinds_of items) (Ok (kinds_of rest)) → lexemes_of items ≡ position_lexemes written ++ lexemes_of rest → length rest < 1 → SaysPosition text written position → SpellsPosition text written position
 unfolding rules
-spells_position text items tokens rest written position same cut runs e none says = record {
+spells_position text items rest written position cut runs e none says = record {
   tokens = items;
-  cut = subst (AreTokensFrom text 0) (sym same) cut;
+  cut = cut;
   derived = subst (λ ks. Derives position_form (kinds_of items) ks) (no_kinds rest none) (derived runs (kinds_of rest) refl);
   spelled = whole_spelling (position_lexemes written) (lexemes_of items) rest e none;
   says = says;

@@ -2,19 +2,20 @@
 //!
 //! Names, positions and numbers are read by the grammar that reads lines, so blanks may stand around them.
 
-ghost use Rattle.std.specs.Prelude.{◌≡◌, IfOk, All, IsTrue};
+ghost use Rattle.std.specs.Prelude.{◌≡◌, ◌∷◌, [], IfOk, IfSome, IsTrue};
 ghost use Rattle.csv.specs.Records.{fields_of};
-ghost use Rattle.rs_lexer.specs.Lexis.{AreTokensFrom, IsTokenOf};
+ghost use Rattle.rs_lexer.specs.Lexis.{AreTokensFrom};
 ghost use Rattle.rs_methods.specs.Position.{expression_of};
 ghost use Rattle.rs_csv_lines.specs.Fields.{content, HasText, SaysName, SpellsPosition, SpellsNumber};
 ghost use Rattle.rs_value.specs.Values.{is_text};
 ghost use Rattle.rs_csv_lines.specs.Inserts.{Field};
 
+use crate::numbers::{MEASURE_PLACES, PART_PLACES, count_digits};
 use crate::plan::{Cause, Misfit};
 use csv::ByteRecord;
 use rs_descent::front::Stop;
 use rs_grammar::kind::TokenKind;
-use rs_lexer::{Token, tokens};
+use rs_lexer::{Token, front_token, tokens};
 use rs_meaning::meaning::{self, GREATEST_NUMBER};
 use rs_methods::{Name, Position};
 use rs_refusal::Refusal;
@@ -67,8 +68,7 @@ pub fn field_text(csv_record: &ByteRecord, place: usize) -> Result<FieldText<'_>
 
 // The tokens of a text; where it can't be cut into tokens, this is wrong with the field.
 fn field_tokens(alloc: Global, text: &str, place: usize, cause: Cause) -> Result<Vec<Token>, Misfit>
-    ensures cut { IfOk result (λ tokens. AreTokensFrom text.now 0 tokens.items) }
-    ensures inside { IfOk result (λ tokens. All (IsTokenOf text.now) tokens.items) }
+    ensures { IfOk result (λ tokens. AreTokensFrom text.now 0 tokens.items) }
 {
     match tokens(alloc, text, 0) {
         Ok(tokens) => Ok(tokens),
@@ -77,12 +77,27 @@ fn field_tokens(alloc: Global, text: &str, place: usize, cause: Cause) -> Result
     }
 }
 
-/// The name that a text is.
-pub fn name_in(alloc: Global, text: &str, place: usize) -> Result<Name, Misfit>
+// The token that a text is, where it is one.
+fn lone_token(text: &str) -> Option<Token>
+    ensures { IfSome result (λ token. AreTokensFrom text.now 0 (token ∷ [])) }
+{
+    let (kind, length) = front_token(text.as_bytes())?;
+    if length < text.len() {
+        return None;
+    }
+    Some(Token {
+        kind,
+        first: 0,
+        length,
+    })
+}
+
+// The name that tokens are.
+fn name_of(text: &str, tokens: &[Token], place: usize) -> Result<Name, Misfit>
+    requires { AreTokensFrom text.now 0 tokens.now }
     ensures { IfOk result (λ name. SaysName text.now name.bytes) }
 {
-    let tokens = field_tokens(alloc, text, place, Cause::NotName)?;
-    match tokens.as_slice() {
+    match tokens {
         [token] => {
             if token.kind == TokenKind::Name {
                 Ok(meaning::name(text, *token))
@@ -94,6 +109,56 @@ pub fn name_in(alloc: Global, text: &str, place: usize) -> Result<Name, Misfit>
     }
 }
 
+/// The name that a text is.
+pub fn name_in(alloc: Global, text: &str, place: usize) -> Result<Name, Misfit>
+    ensures { IfOk result (λ name. SaysName text.now name.bytes) }
+{
+    if let Some(token) = lone_token(text) {
+        return name_of(text, &[token], place);
+    }
+    let tokens = field_tokens(alloc, text, place, Cause::NotName)?;
+    name_of(text, tokens.as_slice(), place)
+}
+
+// Why a position of the grammar is refused: it has more decimals than its method allows, or another number that it may not have.
+fn position_cause(text: &str, written: WrittenPosition) -> Cause {
+    let most = match written {
+        WrittenPosition::Percentage(_) => PART_PLACES,
+        WrittenPosition::Beyond(..) | WrittenPosition::Before(..) => MEASURE_PLACES,
+        _ => return Cause::NotPosition,
+    };
+    match text.split_once('.') {
+        Some((_, behind)) => {
+            let count = count_digits(behind.as_bytes());
+            if count > most {
+                Cause::Decimals(count)
+            } else {
+                Cause::NotPosition
+            }
+        }
+        None => Cause::NotPosition,
+    }
+}
+
+// The position that tokens are: how it is written, and what it says.
+fn position_of(
+    text: &str,
+    tokens: &[Token],
+    place: usize,
+) -> Result<(WrittenPosition, Position), Misfit>
+    requires { AreTokensFrom text.now 0 tokens.now }
+    ensures { IfOk result (λ found. SpellsPosition text.now found.0 (expression_of found.1)) }
+{
+    match rs_descent::positions::position(tokens) {
+        Ok((written, [])) => match meaning::position(text, written) {
+            Ok(position) => Ok((written, position)),
+            Err(_) => Err(Misfit::Field(place, position_cause(text, written))),
+        },
+        Err(Stop::OutOfMemory) => Err(Misfit::OutOfMemory),
+        _ => Err(Misfit::Field(place, Cause::NotPosition)),
+    }
+}
+
 /// The position that a text is: how it is written, and what it says.
 pub fn position_in(
     alloc: Global,
@@ -102,23 +167,19 @@ pub fn position_in(
 ) -> Result<(WrittenPosition, Position), Misfit>
     ensures { IfOk result (λ found. SpellsPosition text.now found.0 (expression_of found.1)) }
 {
-    let tokens = field_tokens(alloc, text, place, Cause::NotPosition)?;
-    match rs_descent::positions::position(tokens.as_slice()) {
-        Ok((written, [])) => match meaning::position(text, written) {
-            Ok(position) => Ok((written, position)),
-            Err(_) => Err(Misfit::Field(place, Cause::NotPosition)),
-        },
-        Err(Stop::OutOfMemory) => Err(Misfit::OutOfMemory),
-        _ => Err(Misfit::Field(place, Cause::NotPosition)),
+    if let Some(token) = lone_token(text) {
+        return position_of(text, &[token], place);
     }
+    let tokens = field_tokens(alloc, text, place, Cause::NotPosition)?;
+    position_of(text, tokens.as_slice(), place)
 }
 
-/// The number that a text is: whether a minus sign stands before it, and its digits.
-pub fn number_in(alloc: Global, text: &str, place: usize) -> Result<(bool, Token), Misfit>
+// The number that tokens are: whether a minus sign stands before it, and its digits.
+fn number_of(text: &str, tokens: &[Token], place: usize) -> Result<(bool, Token), Misfit>
+    requires { AreTokensFrom text.now 0 tokens.now }
     ensures { IfOk result (λ found. SpellsNumber text.now found.0 found.1) }
 {
-    let tokens = field_tokens(alloc, text, place, Cause::NotNumber)?;
-    match rs_descent::values::value(tokens.as_slice()) {
+    match rs_descent::values::value(tokens) {
         Ok((WrittenValue::Whole(is_negative, digits), [])) => {
             match meaning::number(meaning::text(text, digits), GREATEST_NUMBER) {
                 Some(_) => Ok((is_negative, digits)),
@@ -128,4 +189,15 @@ pub fn number_in(alloc: Global, text: &str, place: usize) -> Result<(bool, Token
         Err(Stop::OutOfMemory) => Err(Misfit::OutOfMemory),
         _ => Err(Misfit::Field(place, Cause::NotNumber)),
     }
+}
+
+/// The number that a text is: whether a minus sign stands before it, and its digits.
+pub fn number_in(alloc: Global, text: &str, place: usize) -> Result<(bool, Token), Misfit>
+    ensures { IfOk result (λ found. SpellsNumber text.now found.0 found.1) }
+{
+    if let Some(token) = lone_token(text) {
+        return number_of(text, &[token], place);
+    }
+    let tokens = field_tokens(alloc, text, place, Cause::NotNumber)?;
+    number_of(text, tokens.as_slice(), place)
 }

@@ -10,8 +10,11 @@ use rs_measure::{GREATEST_MEASURE, Measure};
 /// The greatest number of a column.
 const GREATEST_WHOLE: u64 = 1_000_000_000_000;
 
-/// How many decimals a measure has.
-const MEASURE_PLACES: usize = 3;
+/// How many decimals a measure has at the most.
+pub const MEASURE_PLACES: usize = 3;
+
+/// How many decimals a percentage has at the most.
+pub const PART_PLACES: usize = 7;
 
 /// A number as it is written.
 #[derive(Clone, Copy)]
@@ -59,8 +62,8 @@ fn count_blanks(bytes: &[u8]) -> usize
     bytes.len()
 }
 
-// How many digits are at the beginning.
-fn count_digits(bytes: &[u8]) -> usize
+/// How many digits are at the beginning.
+pub fn count_digits(bytes: &[u8]) -> usize
     ensures within { result ≤ length bytes.now }
     ensures digits { AreDigits (take result bytes.now) }
 {

@@ -143,10 +143,11 @@ pub fn put_route(
     Ok(name)
 }
 
-// Puts a measure as an office wrote it, and gives it, and whether it was rounded.
+// Puts a measure as an office wrote it, and gives it, and whether it was rounded. What is no number is refused so.
 fn put_measure(
     text: &str,
     place: usize,
+    refused: Misfit,
     measures: Measures,
     line: &mut String,
 ) -> Result<(Position, bool), Misfit>
@@ -158,6 +159,7 @@ fn put_measure(
             line.push_str(write_measure(measure).as_str())?;
             Ok((Position::Absolute(measure), is_rounded))
         }
+        Err(Cause::NotPosition) => Err(refused),
         Err(cause) => Err(Misfit::Field(place, cause)),
     }
 }
@@ -180,7 +182,7 @@ pub fn put_position(
             Ok((position, false))
         }
         Err(Misfit::OutOfMemory) => Err(Misfit::OutOfMemory),
-        Err(_) => put_measure(field.text, place, measures, line),
+        Err(refused) => put_measure(field.text, place, refused, measures, line),
     }
 }
 

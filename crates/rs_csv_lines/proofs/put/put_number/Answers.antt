@@ -2,7 +2,6 @@ use Rattle.std.proofs.Common.{◌∙◌, ◌++◌, refl, ap, inl, inr, decimal, 
 use Rattle.std.proofs.lemmas.Result.{on_ok_weaker}
 use Rattle.rs_measure.specs.FixedPoint.{number_of_digits}
 use Rattle.rs_lexer.specs.Lexis.{token_text}
-use Rattle.rs_lexer.proofs.CutLaws.{cut_inside}
 use Rattle.rs_value.specs.Row.{number}
 use Rattle.rs_syntax.specs.Written.{signed}
 use Rattle.rs_csv_lines.specs.Texts.{signed_text}
@@ -13,7 +12,7 @@ pub text-requires : goal.text-requires
 text-requires c =
     let found = c.in-Ok in
     let spells = found.ensures in
-    number_token c.args.field.now found.is_negative found.digits (told_spelling c.args.field.now spells.tokens spells.tokens _ refl (cut_inside c.args.field.now spells.cut) spells.spelled)
+    number_token c.args.field.now found.is_negative found.digits (told_spelling c.args.field.now spells.tokens _ spells.cut spells.spelled)
 
 pub returns-in_ok-put_signed-in-Ok : goal.returns-in_ok-put_signed-in-Ok
 returns-in_ok-put_signed-in-Ok c =
