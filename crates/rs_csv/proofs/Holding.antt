@@ -11,6 +11,10 @@ use Rattle.rs_protocol.specs.Puts.{PutsBut}
 pub flat_push : {X : Type 0} (text : X → List ℕ) (list : List X) (x : X) → flat_map text (list ++ x ∷ []) ≡ flat_map text list ++ text x
 flat_push text list x = flat_map-append text list (x ∷ []) ∙ ap (λ bs. flat_map text list ++ bs) (append-nil (text x))
 
+-- what is shown of a text that was cleared, and has one piece alone
+pub only_piece : (shown text cleared piece item : List ℕ) → shown ≡ text → text ≡ cleared ++ piece → cleared ≡ [] → piece ≡ item → shown ++ [] ≡ item
+only_piece shown text cleared piece item shows has none is = append-nil shown ∙ shows ∙ has ∙ ap (λ bs. bs ++ piece) none ∙ is
+
 module _ {X : Type 0} (text : X → List ℕ) (list : List X) (i : ℕ) (d : X) (within : i < length list) where
   -- the texts before a place, and the one at it
   pub flat_next : flat_map text (take (i + 1) list) ≡ flat_map text (take i list) ++ text (get_or list i d)

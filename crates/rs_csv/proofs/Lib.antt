@@ -12,5 +12,6 @@ mod Rejected
 mod Meeting
 mod Defining
 mod RouteLines
+mod Unpacking
 mod Holding
 mod NamesFiles

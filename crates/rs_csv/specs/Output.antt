@@ -17,6 +17,7 @@ use Rattle.rs_csv_lines.specs.Inserts.{IsInsertOf}
 use Rattle.rs_csv_lines.specs.Texts.{session_text}
 use Rattle.rs_csv.specs.Header.{AreColumnsOf, AreScales, IsNamed, IsPlaceNamed}
 use Rattle.rs_csv.specs.Cutting.{IsBatchOf, IsCut, kept, kept_of}
+use Rattle.rs_csv.specs.Packing.{packed_text}
 use Rattle.rs_csv.specs.Reading.{AreReadOf}
 use Rattle.rs_csv.specs.Routes.{DefineRoutes, HaveMet, IsMet, MeetsMore, Placed}
 use Rattle.rs_csv.specs.declared.batch.Batch.{Batch}
@@ -155,7 +156,7 @@ IsMade wanted table known number extents (Some planned) records bytes = IsMadeBy
 
 -- the lines that are held until the routes are known
 abbrev pub held_lines : Progress → List ℕ
-held_lines progress = flat_map (λ lines. lines.items) progress.held.items
+held_lines progress = flat_map packed_text progress.held.items
 
 -- these lines were sent so, and after them others are held, or are still to be sent or held
 abbrev pub IsMadeIn : Wanted → CommandTree → Progress → List (List (List ℕ)) → List ℕ → Type 0

@@ -396,7 +396,52 @@ impl Filter<'_> {
         self.take_text(batch.text(), batch.lines(), output, errors, rejects)
     }
 
-    // Reads the records to the end of the input.
+    // Reads the records to the end of the input, where nothing was read and made so far.
+    fn read_pieces<R: Read, W: Write, E: Write, X: Rejecting>(
+        &mut self,
+        batch: &mut Batch,
+        input: &mut R,
+        output: &mut W,
+        errors: &mut E,
+        rejects: &mut X,
+    ) -> Result<(), Stop>
+        requires no_record { IsBatchOf self.old.job.wanted.separator batch.old [] [] }
+        requires no_plan { self.old.progress.planned ≡ None }
+        requires no_line { self.old.progress.made.bytes.items ≡ [] }
+        requires no_number { self.old.progress.made.number ≡ 0 }
+        requires none_held { self.old.progress.held.items ≡ [] }
+        requires none_met { self.old.job.wanted.defines_routes ≡ true → HaveMet self.old.progress.made.extents [] }
+        ensures stops { IfErr result IsMidway }
+        ensures input { TakesInput self.old.job.wanted (table_of self.old.job.definition) result self.new.progress (R.remaining input.old) (R.remaining input.new) (W.contents output.old) (W.contents output.new) }
+        ensures quiet { OnOk result (IsQuiet self.old.progress.made.has_told self.new.progress.made.has_told (E.contents errors.old) (E.contents errors.new)) }
+    {
+        match self.take_head(batch, input, output, errors, rejects) {
+            Ok(true) => return self.take_end(batch, output, errors, rejects),
+            Ok(false) => {}
+            Err(stop) => return Err(stop),
+        }
+        let mut piece = [0u8; PIECE_BYTES];
+        'pieces: for _ in 0..u64::MAX {
+            match input.read(&mut piece) {
+                Ok(0) => return self.take_end(batch, output, errors, rejects),
+                Ok(count) => {
+                    if let Err(stop) = self.take_piece(
+                        batch,
+                        &piece[..count],
+                        output,
+                        errors,
+                        rejects,
+                    ) {
+                        return Err(stop);
+                    }
+                }
+                Err(_) => return Err(Stop::Stream(Fault::Read)),
+            }
+        }
+        Err(Stop::Stream(Fault::Read))
+    }
+
+    // The same, with a batch for the records.
     fn read_all<R: Read, W: Write, E: Write, X: Rejecting>(
         &mut self,
         input: &mut R,
@@ -417,30 +462,9 @@ impl Filter<'_> {
         let Ok(mut batch) = Batch::new(job.alloc, job.wanted.separator) else {
             return Err(Stop::OutOfMemory);
         };
-        match self.take_head(&mut batch, input, output, errors, rejects) {
-            Ok(true) => return self.take_end(&mut batch, output, errors, rejects),
-            Ok(false) => {}
-            Err(stop) => return Err(stop),
-        }
-        let mut piece = [0u8; PIECE_BYTES];
-        'pieces: for _ in 0..u64::MAX {
-            match input.read(&mut piece) {
-                Ok(0) => return self.take_end(&mut batch, output, errors, rejects),
-                Ok(count) => {
-                    if let Err(stop) = self.take_piece(
-                        &mut batch,
-                        &piece[..count],
-                        output,
-                        errors,
-                        rejects,
-                    ) {
-                        return Err(stop);
-                    }
-                }
-                Err(_) => return Err(Stop::Stream(Fault::Read)),
-            }
-        }
-        Err(Stop::Stream(Fault::Read))
+        let result = self.read_pieces(&mut batch, input, output, errors, rejects);
+        drop(batch);
+        result
     }
 }
 

@@ -4,15 +4,18 @@ ghost use Rattle.std.specs.Prelude.{◌≡◌, OnErr, OnOk, IfErr, IfOk, ℕ, Li
 ghost use Rattle.std.specs.Io.KnownBytes.{Appends, Keeps};
 ghost use Rattle.rs_protocol.specs.Puts.{PutsBut};
 ghost use Rattle.rs_csv.specs.Output.{EndsTaken, IsQuiet, table_of};
+ghost use Rattle.rs_csv.specs.Packing.{packed_text};
 ghost use Rattle.rs_csv.specs.Routes.{DefineRoutes, HaveMet, IsMet, Placed, PutsRoute};
 ghost use Rattle.rs_csv.specs.Stops.{IsFailure};
 
 use crate::filter::{Job, Stop};
 use crate::made::Made;
+use crate::packing::PackedLines;
 use crate::progress::Progress;
 use crate::routes::{Extent, push_route};
 use rs_methods::Name;
 use rs_protocol::put_parts;
+use std::alloc::Global;
 use std::io::Write;
 
 // Adds the line that defines a route. One on which no measure was met has none, which is told.
@@ -55,13 +58,18 @@ fn route_lines<E: Write>(job: &Job<'_>, made: &mut Made, errors: &mut E) -> Resu
 }
 
 // Writes the lines that were held.
-fn write_held<W: Write>(held: &[Vec<u8>], output: &mut W) -> Result<(), Stop>
+fn write_held<W: Write>(alloc: Global, held: &[PackedLines], output: &mut W) -> Result<(), Stop>
     ensures stops { IfErr result IsFailure }
-    ensures sent { OnOk result (Appends (W.contents output.old) (W.contents output.new) (flat_map (λ lines. lines.items) held.now)) }
-    ensures fault { OnErr result ((lost : List ℕ) × PutsBut (flat_map (λ lines. lines.items) held.now) lost (W.contents output.old) (W.contents output.new)) }
+    ensures sent { OnOk result (Appends (W.contents output.old) (W.contents output.new) (flat_map packed_text held.now)) }
+    ensures fault { OnErr result ((lost : List ℕ) × PutsBut (flat_map packed_text held.now) lost (W.contents output.old) (W.contents output.new)) }
 {
+    let mut text = Vec::new(alloc);
     for lines in held {
-        if let Err(fault) = put_parts(output, &[lines.as_slice()]) {
+        text.clear();
+        let Ok(()) = lines.unpack(&mut text) else {
+            return Err(Stop::OutOfMemory);
+        };
+        if let Err(fault) = put_parts(output, &[text.as_slice()]) {
             return Err(Stop::Stream(fault));
         }
     }
@@ -90,7 +98,7 @@ pub fn write_rest<W: Write, E: Write>(
     if let Err(fault) = put_parts(output, &[routes.as_slice()]) {
         return Err(Stop::Stream(fault));
     }
-    match write_held(progress.held.as_slice(), output) {
+    match write_held(job.alloc, progress.held.as_slice(), output) {
         Ok(()) => Ok(progress.made.has_told),
         Err(stop) => Err(stop),
     }

@@ -15,6 +15,7 @@ pub mod left_out;
 pub mod made;
 pub mod names;
 pub mod names_file;
+pub mod packing;
 pub mod progress;
 pub mod quoting;
 pub mod rejects;

@@ -11,6 +11,7 @@ ghost use Rattle.rs_csv.specs.Stops.{IsFailure, IsMidway};
 use crate::filter::{Job, Stop};
 use crate::header::make_plan;
 use crate::made::{Made, next_number, push_line};
+use crate::packing::PackedLines;
 use crate::spot::{Lines, LinesRead, Spot};
 use crate::tell::tell_record;
 use crate::told::Kind;
@@ -39,7 +40,7 @@ pub struct Progress {
     /// What is made of the records.
     pub made: Made,
     /// The lines that are held until the routes are known.
-    pub held: Vec<Vec<u8>>,
+    pub held: Vec<PackedLines>,
 }
 
 impl Progress {
@@ -131,6 +132,17 @@ pub fn write_made<W: Write>(made: &mut Made, output: &mut W) -> Result<(), Stop>
     }
 }
 
+// What the INSERTs of a plan have in common, where there is one.
+fn insert_front(alloc: Global, planned: &Option<Planned>) -> Result<Vec<u8>, AllocError> {
+    let mut front = Vec::new(alloc);
+    if let Some(planned) = planned {
+        front.extend_from_slice(b" INSERT INTO ")?;
+        front.extend_from_slice(planned.plan.table.as_str().as_bytes())?;
+        front.extend_from_slice(b" ON ")?;
+    }
+    Ok(front)
+}
+
 /// Holds the lines that were made until the routes are known.
 pub fn hold_made(alloc: Global, progress: &mut Progress) -> Result<(), Stop>
     ensures stops { IfErr result IsFailure }
@@ -141,7 +153,8 @@ pub fn hold_made(alloc: Global, progress: &mut Progress) -> Result<(), Stop>
     ensures texts { progress.new.made.texts ≡ progress.old.made.texts }
     ensures extents { progress.new.made.extents ≡ progress.old.made.extents }
 {
-    let lines = Vec::from_slice(alloc, progress.made.bytes.as_slice())?;
+    let front = insert_front(alloc, &progress.planned)?;
+    let lines = PackedLines::pack(alloc, front.as_slice(), progress.made.bytes.as_slice())?;
     progress.held.push(lines)?;
     progress.made.bytes.clear();
     Ok(())

@@ -2,7 +2,7 @@ use Rattle.std.proofs.Common.{◌≡◌, ℕ, List, ◌≤◌, length}
 use Rattle.std.specs.Io.KnownBytes.{Consumes}
 use Rattle.csv.specs.Reading.{strip_bom}
 use Rattle.rs_csv.specs.Output.{IsQuiet, SoFar, table_of}
-use Rattle.rs_csv.proofs.filter.Filter.read_all.Given as goal
+use Rattle.rs_csv.proofs.filter.Filter.read_pieces.Given as goal
 
 abbrev pub invariant-pieces : goal.invariant-pieces
 invariant-pieces g l = record {
