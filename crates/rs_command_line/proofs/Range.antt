@@ -1,5 +1,5 @@
 -- What is asked with a number of connections has one that is in its range.
-use Rattle.std.proofs.Common.{◌≡◌, ◌≤◌, ◌||◌, ℕ, Bool, true, false, arith, codes, refl, subst, List, Option, Some, None, option_map}
+use Rattle.std.proofs.Common.{◌≡◌, ◌≤◌, ◌||◌, ℕ, Bool, true, false, codes, refl, subst, List, Option, Some, None, option_map}
 use Rattle.std.specs.Prelude.{⊤, IfSome, if◌then◌else◌, option_and_then}
 use Rattle.std.specs.Option.{option_map_or}
 use Rattle.std.specs.Str.{bytes_eq}
@@ -9,7 +9,7 @@ use Rattle.clap.specs.Walk.{Row, Text}
 use Rattle.clap.specs.Words.{one_of}
 use Rattle.clap.specs.declared.builder.value_parser.ValueParser.TheVariants.{Unsigned}
 use Rattle.clap.proofs.ValueTestLemmas.{accepts-Accepts}
-use Rattle.rs_command_line.specs.Asked.{HasConnectionsInRange, Said, address_in, answers, asked_by, asked_by_ask, asked_by_create, asked_by_csv, asked_by_dump, asked_by_explain, asked_by_run, asked_by_serve, asked_by_table, asks, connections_in, creates, dumps, file_in, flag_in, number_in, runs, runs_over, said_by, serves, watches}
+use Rattle.rs_command_line.specs.Asked.{HasConnectionsInRange, Said, address_in, answers, asked_by, asked_by_ask, asked_by_csv, asked_by_dump, asked_by_explain, asked_by_serve, asked_by_table, connections_in, creates, file_in, flag_in, number_in, runs, runs_over, said_by, serves, watches}
 use Rattle.rs_command_line.specs.declared.command_line.Asked.{Asked}
 use Rattle.rs_command_line.specs.declared.command_line.Asked.TheVariants as asked
 

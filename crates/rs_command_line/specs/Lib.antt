@@ -1,3 +1,4 @@
 pub mod CommandLine
 pub mod Asked
 pub mod Separator
+pub mod Table

@@ -4,24 +4,19 @@
 //! connections.
 
 ghost use Rattle.std.specs.Prelude.{◌≡◌, [], IfOk, Some, IsSome, map, option_and_then, unwrap_or};
-ghost use Rattle.clap.specs.Words.{all_of, app_of, FailsBy, fault_of, first_of, found_of, rows_of};
+ghost use Rattle.clap.specs.Words.{all_of, FailsBy, fault_of, first_of, found_of, rows_of};
 ghost use Rattle.clap.specs.Words.{subcommand_rows_of};
 ghost use Rattle.rs_command_line.specs.CommandLine.{command_line};
-ghost use Rattle.rs_command_line.specs.CommandLine.{create_command, run_command, serve_command, table_command};
-ghost use Rattle.rs_command_line.specs.CommandLine.{ask_command, csv_command, dump_command, explain_command};
 ghost use Rattle.rs_command_line.specs.Asked.{asked_of, asked_by, asked_by_ask, asked_by_csv, asked_by_dump, asked_by_run, flag_in};
 ghost use Rattle.rs_command_line.specs.Asked.{said_by, HasConnectionsInRange};
 
-use crate::arguments::{
-    column_option, connections_option, define_argument, file_option, flag, listen_option,
-    question_argument, refusal_argument, scale_option, text_option,
-};
-use clap::{ArgMatches, Command, Error};
+use crate::subcommands::roadseg_command;
+use clap::{ArgMatches, Error};
 use std::alloc::{AllocError, Global};
 use std::convert::AsStr;
 
 /// What `csv` is told: the texts of its options, each as it was given.
-#[derive(Debug, Drop)]
+#[derive(Drop)]
 pub struct CsvWords<'a> {
     /// The DEFINE TABLE.
     pub define: Option<&'a str>,
@@ -62,7 +57,7 @@ pub struct CsvWords<'a> {
 }
 
 /// What the words ask.
-#[derive(Debug, Drop)]
+#[derive(Drop)]
 pub enum Asked<'a> {
     /// `create --file F`: an empty file is made.
     Create {
@@ -126,7 +121,10 @@ pub fn read_words<'a, S: AsStr>(alloc: Global, words: &'a [S]) -> Result<Asked<'
 {
     let command = roadseg_command(alloc)?;
     let matches = command.try_get_matches_from(words)?;
-    let asked = asked_in(alloc, &matches)?;
+    let asked = asked_in(alloc, &matches);
+    // (by a call, so that the proof does not take the matches apart)
+    drop(matches);
+    let asked = asked?;
     Ok(asked)
 }
 
@@ -279,218 +277,4 @@ fn text_of<'a>(given: &ArgMatches<'a>, id: &str) -> &'a str
     ensures { first_of id.now (rows_of (found_of given.now)) ≡ Some result.now }
 {
     given.get_str(id).unwrap()
-}
-
-// decision: one-growing-version
-/// The commands of the program.
-fn roadseg_command<'a>(alloc: Global) -> Result<Command<'a>, AllocError>
-    ensures { IfOk result (λ command. app_of command ≡ command_line) }
-{
-    Command::new(alloc, "roadseg")
-        .about(
-            "Answers queries on routes and events by linear reference. A line is a session from 0 to 63 and a command, as: 0 DEFINE ROUTE SR12 FROM 0 TO 18.5, or: 0 SELECT WHERE(pavement, surface = 'gravel'). The page docs/LANGUAGE.md has them all",
-        )
-        .version("0.8.0 (for rattle-kit-13f logic dac8208d650f15bf)")
-        .subcommand_required(true)
-        .subcommand(create_command(alloc)?)?
-        .subcommand(run_command(alloc)?)?
-        .subcommand(ask_command(alloc)?)?
-        .subcommand(csv_command(alloc)?)?
-        .subcommand(table_command(alloc)?)?
-        .subcommand(dump_command(alloc)?)?
-        .subcommand(explain_command(alloc)?)?
-        .subcommand(serve_command(alloc)?)
-}
-
-fn create_command<'a>(alloc: Global) -> Result<Command<'a>, AllocError>
-    ensures { IfOk result (λ command. app_of command ≡ create_command) }
-{
-    let file = file_option(alloc, "The file to make");
-    Command::new(alloc, "create")
-        .about(
-            "Makes a new file for routes and events, with nothing in it, as: roadseg create --file roads.seg",
-        )
-        .arg(file.required(true))
-}
-
-fn run_command<'a>(alloc: Global) -> Result<Command<'a>, AllocError>
-    ensures { IfOk result (λ command. app_of command ≡ run_command) }
-{
-    let file = file_option(
-        alloc,
-        "The file to work on; without it, everything is kept in memory and lost at the end",
-    );
-    Command::new(alloc, "run")
-        .about(
-            "Answers the lines of standard input on standard output, as: echo '0 SELECT pavement' | roadseg run --file roads.seg",
-        )
-        .arg(file)?
-        .arg(flag(
-            alloc,
-            "bail",
-            "Stop at the first refused line, with status 1",
-        ))?
-        .arg(flag(
-            alloc,
-            "report",
-            "Show each refused line, of each number the first ten, and count them at the end; with status 1 where there are any",
-        ))?
-        .arg(flag(
-            alloc,
-            "csv",
-            "Write the rows of each answer as CSV with a header, and say of refused lines on standard error",
-        ))
-}
-
-fn ask_command<'a>(alloc: Global) -> Result<Command<'a>, AllocError>
-    ensures { IfOk result (λ command. app_of command ≡ ask_command) }
-{
-    let file = file_option(alloc, "The file to read; nothing is written to it");
-    Command::new(alloc, "ask")
-        .about(
-            "Answers questions from a file as CSV with a header, as: roadseg ask --file roads.seg 'SELECT pavement' > pavement.csv. A question is a SELECT or a TOTAL, without its session",
-        )
-        .arg(file.required(true))?
-        .arg(question_argument(alloc))
-}
-
-fn csv_command<'a>(alloc: Global) -> Result<Command<'a>, AllocError>
-    ensures { IfOk result (λ command. app_of command ≡ csv_command) }
-{
-    Command::new(alloc, "csv")
-        .about(
-            "Makes the CSV of standard input into lines, as: roadseg csv 'DEFINE LINE TABLE pavement (surface TEXT(12))' --route road < pavement.csv | roadseg run --file roads.seg",
-        )
-        .arg(define_argument(alloc))?
-        .arg(text_option(
-            alloc,
-            "route",
-            "The column of the CSV that names the route [default: route]. The routes must be defined before, or each line is refused 20: see --routes",
-        ))?
-        .arg(text_option(
-            alloc,
-            "from",
-            "The column that says where a span begins [default: from]",
-        ))?
-        .arg(text_option(
-            alloc,
-            "to",
-            "The column that says where a span ends [default: to]",
-        ))?
-        .arg(text_option(
-            alloc,
-            "at",
-            "The column that says where a point is [default: at]",
-        ))?
-        .arg(column_option(alloc))?
-        .arg(text_option(
-            alloc,
-            "session",
-            "The session of the lines, 0 to 63 [default: 0]",
-        ))?
-        .arg(flag(
-            alloc,
-            "no-define",
-            "Leave out the line that defines the table",
-        ))?
-        .arg(flag(
-            alloc,
-            "routes",
-            "Define the routes too, each from the least to the greatest measure met; the lines wait in memory for the end of the input",
-        ))?
-        .arg(flag(
-            alloc,
-            "round",
-            "Take measures with more than three decimals to the nearest thousandth, of two the even one, and say of how many at the end",
-        ))?
-        .arg(text_option(
-            alloc,
-            "separator",
-            "The byte between two fields, as ';', or the word tab [default: ,]",
-        ))?
-        .arg(scale_option(alloc))?
-        .arg(flag(
-            alloc,
-            "names",
-            "Make names of routes, and of columns of the header, that are none: each byte that no name has becomes _, so that I-95 is I_95; R is put before what begins with no letter, and _ after a reserved word; past 32 bytes it is cut. Of two that would become one name the second is refused",
-        ))?
-        .arg(flag(
-            alloc,
-            "latin1",
-            "Read the input as Latin-1, each byte a character. Without it the input is UTF-8, or UTF-16 where it begins with its byte order mark",
-        ))?
-        .arg(text_option(
-            alloc,
-            "number",
-            "The INT column of the table that takes the number of each record, from 1, and not a field: equal records stay apart, and a refused line leads back to its record",
-        ))?
-        .arg(text_option(
-            alloc,
-            "rejects",
-            "A file to write the records into that are left out, as CSV with the reason in a last column; mended, they are read again",
-        ))?
-        .arg(text_option(
-            alloc,
-            "names-file",
-            "A file to write the names into that are made, as CSV: the text and the name of each; makes names as --names does",
-        ))?
-        .arg(text_option(
-            alloc,
-            "stations",
-            "How many units a station has, 1 to 1000000, so that with 100 the measure 12+50.5 is 1250.5",
-        ))
-}
-
-fn table_command<'a>(alloc: Global) -> Result<Command<'a>, AllocError>
-    ensures { IfOk result (λ command. app_of command ≡ table_command) }
-{
-    Command::new(alloc, "table")
-        .about(
-            "Aligns the columns of the CSV of standard input for the eye, numbers to the right, as: roadseg ask --file roads.seg 'SELECT pavement' | roadseg table",
-        )
-        .arg(text_option(
-            alloc,
-            "separator",
-            "The byte between two fields, as ';', or the word tab [default: ,]",
-        ))
-}
-
-fn dump_command<'a>(alloc: Global) -> Result<Command<'a>, AllocError>
-    ensures { IfOk result (λ command. app_of command ≡ dump_command) }
-{
-    let file = file_option(alloc, "The file to read; nothing is written to it");
-    Command::new(alloc, "dump")
-        .about(
-            "Prints the lines that rebuild what a file holds, as: roadseg dump --file roads.seg > roads.txt. To rebuild it: roadseg create --file new.seg && roadseg run --file new.seg < roads.txt",
-        )
-        .arg(file.required(true))?
-        .arg(flag(alloc, "definitions", "Leave out the rows of tables"))?
-        .arg(text_option(
-            alloc,
-            "table",
-            "Print one table alone, its definition and its rows",
-        ))
-}
-
-fn explain_command<'a>(alloc: Global) -> Result<Command<'a>, AllocError>
-    ensures { IfOk result (λ command. app_of command ≡ explain_command) }
-{
-    Command::new(alloc, "explain")
-        .about(
-            "Says what a refusal means and what to look at, as: roadseg explain 21. Without a number it says so of each",
-        )
-        .arg(refusal_argument(alloc))
-}
-
-fn serve_command<'a>(alloc: Global) -> Result<Command<'a>, AllocError>
-    ensures { IfOk result (λ command. app_of command ≡ serve_command) }
-{
-    let file = file_option(alloc, "The file to work on");
-    Command::new(alloc, "serve")
-        .about(
-            "Answers the lines that arrive over the network, for one connection after another, as: roadseg serve --file roads.seg --connections 10",
-        )
-        .arg(file.required(true))?
-        .arg(listen_option(alloc))?
-        .arg(connections_option(alloc))
 }

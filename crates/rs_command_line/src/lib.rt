@@ -8,6 +8,7 @@ mod arguments;
 pub mod command_line;
 pub mod laws;
 pub mod separator;
+mod subcommands;
 
 pub use command_line::{Asked, CsvWords, read_words};
 pub use separator::separator_of;

@@ -1,4 +1,4 @@
-use Rattle.std.proofs.Common.{◌≡◌, ◌∙◌, [], List, Option, Some, IsSome, None, ap, codes, map, option_map, refl, sym, true≢false}
+use Rattle.std.proofs.Common.{◌∙◌, [], List, Option, Some, IsSome, None, ap, codes, option_map, refl, sym, true≢false}
 use Rattle.std.specs.Prelude.{unwrap_or}
 use Rattle.clap.specs.Words.{Text, all_of, first_of, found_of, rows_of}
 use Rattle.rs_command_line.specs.Asked.{Said, asks}

@@ -23,8 +23,8 @@ returns-clause-fails g c =
     let P : App → Type 0 = λ a. is_simple_and_free a ≡ true → fault_of a (map g.S.AsStr.text c.args.words.now) ≡ [] in
     subst P c.in_ok-command.ensures c.in_ok-matches.ensures.kinds is_plain
 
-pub asked_in-requires : goal.asked_in-requires
-asked_in-requires g c =
+pub asked_in-asked-requires : goal.asked_in-asked-requires
+asked_in-asked-requires g c =
     let words = map g.S.AsStr.text c.args.words.now in
     let P : App → Type 0 = λ a. is_simple_and_free a ≡ true → fault_of a words ≡ [] in
     let passed = subst P c.in_ok-command.ensures c.in_ok-matches.ensures.kinds is_plain in
