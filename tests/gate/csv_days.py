@@ -10,6 +10,7 @@ numbers. Day 1 has 400 routes, 100,920 pavement records, 20,000 crashes, and 1,0
 fortieth of the records. One record in fifty is spoilt, of the signs one in ten.
 """
 
+import contextlib
 import os
 import random
 import re
@@ -291,6 +292,8 @@ class Day:
     def left_lines(self, what, sheet, words, data):
         """The lines of a sheet that go in at once; what is left out is in the file of `--rejects`."""
         left, rounds = self.path("left.csv"), "--round" in words
+        with contextlib.suppress(FileNotFoundError):
+            os.remove(left)
         told = [*sheet.told(), *(["measures rounded: %d" % sum(entry.rounded for entry in sheet.entries)] if rounds else [])]
         lines = self.lines_of(what, data, [*words, "--rejects", left], told)
         with open(left, encoding="utf-8", newline="") as rows:
@@ -301,6 +304,8 @@ class Day:
         """The lines of what was left out, once it is mended."""
         told = ["measures rounded: 0"] if "--round" in words else []
         words = [word for word in words if word != "--latin1"]
+        if "--names-file" in words:
+            words[words.index("--names-file") + 1] = self.path("more_names.csv")
         return self.lines_of("%s, mended" % what, sheet.mended().encode(), [*words, "--no-define"], told)
 
     def taken_in(self, what, sheet, words, data):

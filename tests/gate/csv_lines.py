@@ -346,7 +346,8 @@ def check_numbers():
         ("2.1622", "has four decimals"), ("2.16225", "has five decimals"), ("0.1234567890", "has nine decimals"), (".30000000000000004", "has 17 decimals"),
         ("-1", "is below 0"), ("-0.0", "is below 0"), ("1000000", "is past 999999.999"), ("1000000.00001", "is past 999999.999"), ("1e3", "is not a position"),
         (".", "is not a position"), ("+", "is not a position"), ("1..2", "is not a position"), ("+ 1", "is not a position"), ("1_0", "is not a position"),
-        ("é" * 70, "is not a position"),
+        ("é" * 70, "is not a position"), ("12.12345678%", "has eight decimals"), ("12.500000000 %", "has nine decimals"), ("101%", "is not a position"),
+        ("@B+1.2345", "has four decimals"), ("@B - 0.12340", "has five decimals"), ("@B+1000000", "is not a position"), ("@B+.1234", "is not a position"),
     ):
         got = run("csv", DEFINE, "--no-define", data=head + ("SR1,0,%s,a,1\n" % measure).encode())
         expect(measure, got, (1, b"", told_once(2, ("to", "%s %s" % (shown(measure), words)))))
@@ -646,6 +647,12 @@ def reasons_of(faults):
     return "; ".join("%s: %s" % (name, words) if name else words for name, words in faults)
 
 
+def emptied(file):
+    """Leaves nothing in a file, so that it may be written again."""
+    with open(file, "wb"):
+        pass
+
+
 def check_rejects(count=3_000):
     """Records that are left out are written as they stood, with the reason after them, and go in again once they are mended."""
     with tempfile.TemporaryDirectory() as folder:
@@ -655,6 +662,7 @@ def check_rejects(count=3_000):
             records = [some_record(chance, True) for _ in range(count)]
             data = csv_of(records, ending, separator=separator)
             lines, told, _ = wanted_of(data, False, separator)
+            emptied(file)
             expect("with --rejects", run(*WORDS, *words, "--rejects", file, data=data), (1, lines, told))
             with open(file, newline="") as left:
                 rows = list(csv.reader(left, delimiter=separator))
@@ -674,14 +682,21 @@ def check_rejects(count=3_000):
         header = b'route,at,"no""te","left_out_because"\n'
         wrong = b'"S ",x,"","at: x is not a position"\nSR1,2,,"no""te: no such field"\nSR1,3,a,b,"4 fields, where the header has 3; the first past it is b"\nSR1,x,"a, ""b""","at: x is not a position"\n'
         words = ["csv", NOTES, "--no-define", "--column", 'note=no"te', "--rejects", file]
+        emptied(file)
         expect("rejects one by one", run(*words, data=data)[:2], (1, b"0 INSERT INTO notes ON SR1 AT 1 VALUES ('')\n"))
         with open(file, "rb") as left:
             data = left.read()
         expect("their rows", data, header + wrong)
+        told = ("roadseg: cannot open file\nroadseg: %s: there already, and not empty\n" % file).encode()
+        expect("over what is there", run(*words, data=data), (1, b"", told))
+        with open(file, "rb") as left:
+            expect("what stays there", left.read(), data)
+        emptied(file)
         expect("read again", run(*words, data=data)[:2], (1, b"0 INSERT INTO notes ON SR1 AT 2 VALUES (NULL)\n"))
         with open(file, "rb") as left:
             expect("their rows", left.read(), header + b"".join(row for row in wrong.splitlines(True) if b"SR1,2" not in row))
         data = b"route,at,year\nI-95,1,\nI 95,x,\n"
+        emptied(file)
         status = run("csv", POINTS, "--names", "--rejects", file, data=data)[0]
         with open(file, "rb") as left:
             row = b'I 95,x,,"route: I 95 would be I_95, as I-95 is; at: x is not a position"\n'
@@ -692,12 +707,14 @@ def check_rejects(count=3_000):
         expect("the status with --names-file", run("csv", POINTS, "--names-file", names, data=data)[0], 0)
         with open(names, "rb") as made:
             expect("the names", made.read(), columns + b'"I-95",I_95,route\n"SR1",SR1,route\n"US ""40""",US__40_,route\n')
+        emptied(names)
         data = b'Route No., "MP","MP (mi)",,"a ""b"""," ",Year,101,SELECT,\xff,x\ty\n I_9\xff\t,,1,,,,7,,,,\n'
         expect("the status with other columns", run("csv", POINTS, "--names-file", names, "--route", "Route No.", "--at", "MP (mi)", data=data)[0], 0)
         with open(names, "rb") as made:
             rows = b'old,new,what\n"Route No.",Route_No_,column\n" ""MP""",R_MP_,column\n"MP (mi)",MP__mi_,column\n"a ""b""",a__b_,column\n"Year",Year,column\n"101",R101,column\n'
             rows += b'"SELECT",SELECT_,column\n"\xff",R_,column\n"x\ty",x_y,column\n"I_9\xff",I_9_,route\n'
             expect("the names of other columns", made.read(), rows)
+        emptied(names)
         expect("the status without a record", run("csv", POINTS, "--names-file", names, data=b"")[0], 0)
         with open(names, "rb") as made:
             expect("no names", made.read(), b"old,new,what\n")

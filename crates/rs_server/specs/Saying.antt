@@ -5,7 +5,7 @@ use Rattle.rs_protocol.specs.declared.stream.Fault.TheVariants.{Read, Write}
 use Rattle.rs_refusal.specs.declared.refusal.Refusal.{Refusal}
 use Rattle.rs_refusal.specs.Refusal.{number_of, words_of}
 use Rattle.rs_server.specs.declared.reasons.Reason.{Reason}
-use Rattle.rs_server.specs.declared.reasons.Reason.TheVariants.{Device, Folder, InUse, NoAddress, NoFile, NoFolder, NoPermission}
+use Rattle.rs_server.specs.declared.reasons.Reason.TheVariants.{Device, Folder, InUse, NoAddress, NoFile, NoFolder, NotEmpty, NoPermission}
 use Rattle.rs_server.specs.declared.reasons.Reason.TheVariants as reasons
 use Rattle.rs_server.specs.declared.report.Failure.{Failure}
 use Rattle.rs_server.specs.declared.report.Failure.TheVariants.{CannotAccept, CannotListen, CannotOpen, FileExists, Refused, Stream}
@@ -22,6 +22,7 @@ reason_text InUse = codes "in use by another program"
 reason_text NoPermission = codes "no permission"
 reason_text Folder = codes "a folder"
 reason_text Device = codes "a device, a pipe or a socket"
+reason_text NotEmpty = codes "there already, and not empty"
 reason_text reasons.Refused = codes "no permission, or refused by the system"
 
 -- `roadseg: `, the file or the address, and what is wrong with it

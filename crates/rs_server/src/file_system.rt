@@ -7,7 +7,7 @@ ghost use Rattle.std.specs.Prelude.{List, ℕ, Result};
 ghost use Rattle.rs_server.specs.declared.file_system.Opening.{Opening};
 ghost use Rattle.rs_server.specs.declared.report.Failure.{Failure};
 
-use crate::reasons::why_text_not_made;
+use crate::reasons::{Reason, is_not_empty, why_text_not_made};
 use crate::report::{Failure, failure_to_make, failure_to_open};
 use rs_disk::{Disk, FileDisk};
 use std::fs::File;
@@ -36,7 +36,8 @@ pub trait FileSystem {
     /// A file of text that is being written.
     type Text: Write + Drop;
 
-    /// Makes the file of this name for text, or empties the one that is there; or says why it is not open.
+    /// Makes the file of this name for text, or takes an empty one that is there; or says why it is not open. A file that holds something
+    /// is refused, so that nothing is lost.
     fn make_text<'a>(&self, file: &'a str) -> Result<Self::Text, Failure<'a>>;
 
     /// Opens the file of this name, or says why it is not open.
@@ -55,6 +56,12 @@ impl<P: Files<File = File>> FileSystem for P {
     ghost gives = { λ _. GivesFile };
 
     fn make_text<'a>(&self, file: &'a str) -> Result<File, Failure<'a>> {
+        if is_not_empty(self, file) {
+            return Err(Failure::CannotOpen {
+                file,
+                why: Reason::NotEmpty,
+            });
+        }
         match File::create(self, file) {
             Ok(made) => Ok(made),
             Err(_) => {

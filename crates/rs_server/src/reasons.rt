@@ -30,6 +30,8 @@ pub enum Reason {
     Folder,
     /// A device, a pipe or a socket is at the path.
     Device,
+    /// A file that is not empty is at the path, which would be lost.
+    NotEmpty,
     /// Any other reason.
     Refused,
 }
@@ -47,6 +49,7 @@ impl Reason {
             Reason::NoPermission => "no permission",
             Reason::Folder => "a folder",
             Reason::Device => "a device, a pipe or a socket",
+            Reason::NotEmpty => "there already, and not empty",
             Reason::Refused => "no permission, or refused by the system",
         }
     }
@@ -84,6 +87,14 @@ pub(crate) fn why_text_not_made<R: Files<File = File>>(rt: &R, file: &str) -> Re
         Ok(found) if found.is_dir() => Reason::Folder,
         Ok(_) => Reason::Refused,
         Err(_) => why_not_made(rt, file),
+    }
+}
+
+/// Whether a file is there that is not empty.
+pub(crate) fn is_not_empty<R: Files<File = File>>(rt: &R, file: &str) -> bool {
+    match metadata(rt, file) {
+        Ok(found) => found.is_file() && found.len() > 0,
+        Err(_) => false,
     }
 }
 
