@@ -17,11 +17,15 @@ cd "$(dirname "$0")/.."
 QUICK="documents conversations compare compare_cursors files_in_use words_and_streams peers csv_lines csv_encodings csv_answers csv_days clients"
 OTHERS="cursors_in_turn room dumps open_files refusals refused_fetches open_damaged lying_disks last_change line_forms many_peers little_room crashes"
 
+# Runs each of them, two at a time, and shows what each wrote as it ends; the first that fails ends all.
 run_each() {
-    for name in "$@"; do
-        echo "tests/gate/$name.py"
-        python3 "tests/gate/$name.py"
-    done
+    shown=$(mktemp -d)
+    trap 'rm -rf "$shown"' EXIT
+    printf '%s\n' "$@" | shown="$shown" xargs -P 2 -I NAME bash -c '
+        { echo "tests/gate/NAME.py"; python3 tests/gate/NAME.py; } > "$shown/NAME" 2>&1
+        status=$?
+        cat "$shown/NAME"
+        [ "$status" = 0 ] || exit 255'
 }
 
 case "${1:-}" in
