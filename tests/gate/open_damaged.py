@@ -8,8 +8,9 @@ Each file is a sound one with one change of bytes or pages (large_files.py). It 
 refuses it as the slow reader of files does; where it is opened, its questions are answered as by the slow machine, its bytes
 stay, and after one definition more it stands for that state. For one change of ten it is also counted what opening it takes:
 
-- it reads each page once, however many there are, and page 0 three times; a page that is cut off twice as often; and besides at most
-  64 bytes for each page of the file and four times the bytes of the catalogue;
+- it reads each page once in a file of 256 pages at the most, in a larger one three times on an average at the most, however many
+  there are, and page 0 three times; a page that is cut off twice as often; and besides at most 64 bytes for each page of the file
+  and four times the bytes of the catalogue;
 - it takes no more memory than 24 times the bytes of the file and a constant, whatever numbers stand in it. So each number of page
   0, of the directory and of the catalogue is also set to its greatest value, and to 2^63 where it is that wide.
 
@@ -41,6 +42,7 @@ SHARE, ALL = 2_000, 1_000_000  # changes
 BATCH = 25  # changes of one size that a process makes before it gives its counts
 COUNTED = 10  # of so many changes one is counted
 READINGS_OF_PAGE_0 = 3  # it is looked at, looked at as the journal gives it, and read
+HELD = 256  # pages that are held: those of a larger file are read as parts of trees and for what they say, an index's more often
 
 # How many of 200 batches are of files of each size.
 WEIGHTS = dict(zip(SIZES, (50, 45, 40, 30, 20, 9, 3, 1, 1, 1)))
@@ -63,12 +65,13 @@ class Opened(NamedTuple):
 
 
 def bytes_of_pages(size):
-    """How many bytes are read of the pages of a file of so many bytes: page 0 three times, each other once, one that is cut off twice as
-    often."""
+    """How many bytes are read of the pages of a file of so many bytes: page 0 three times, each other once, or three times where not all
+    are held, and one that is cut off twice as often."""
     whole, cut_off = divmod(size, PAGE_BYTES)
     if not whole:
         return READINGS_OF_PAGE_0 * 2 * cut_off
-    return (READINGS_OF_PAGE_0 + whole - 1) * PAGE_BYTES + 2 * cut_off
+    times = 1 if whole <= HELD else 3
+    return (READINGS_OF_PAGE_0 + times * (whole - 1)) * PAGE_BYTES + 2 * cut_off
 
 
 class Counting:

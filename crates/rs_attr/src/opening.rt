@@ -34,9 +34,13 @@ use rs_versioned::event::EVENT_BYTES;
 use rs_versioned::{EventTable, RouteSpan, ToldRecords};
 use std::alloc::Global;
 
-/// How many bytes of cells wait at the most before their entries are looked for. Putting them in order takes some three times as
+/// How many bytes of cells wait at the least before their entries are looked for. Putting them in order takes some three times as
 /// many.
-const MOST_WAITING: usize = 0x10_0000;
+const LEAST_WAITING: usize = 0x10_0000;
+
+/// Where that is more, this part of a table's cells waits: so the pages of an index are read so many times at the most, however many
+/// there are.
+const PARTS: u64 = 8;
 
 /// The table that lies in a file already, beside its indexes; their pages are marked. Ok exactly where it lies there as it was
 /// told, with the indexes of its cells, in pages none of which was reached before, and the version that was accepted last has just
@@ -63,16 +67,17 @@ pub fn open<P: Pages>(
     let mut opening = Opening::<GreatestEnd>::begin(alloc, pages, width, &told.records, reached)?;
     reach_indexes(pages, indexes, told.records, reached)?;
     let mut waiting = Cells::new(alloc, width);
+    let most = most_waiting(told.records, width);
     let mut route = None;
     for next in routes {
         let cells = opening.part(alloc, pages, &beginning(*next))?;
         check_events(alloc, &told, route, &cells)?;
-        gather(alloc, pages, indexes, &cells, &mut waiting)?;
+        gather(alloc, pages, indexes, &cells, &mut waiting, most)?;
         route = Some(*next);
     }
     let (versions, left) = opening.finish(alloc, pages)?;
     check_events(alloc, &told, route, &left)?;
-    check_last(alloc, pages, indexes, &left, waiting)?;
+    check_last(alloc, pages, indexes, &left, waiting, most)?;
     Ok(EventTable::with(told.schema, versions))
 }
 
@@ -82,6 +87,14 @@ fn beginning(route: RouteSpan) -> [u8; 4]
     ensures fits { route.number < 2 ^ 32 }
 {
     route.number.to_be_bytes()
+}
+
+/// How many cells, each of so many bytes, wait at the most before their entries are looked for.
+fn most_waiting(told: ToldRecords, width: usize) -> usize
+    requires some { 0 < width }
+{
+    let part = told.living.saturating_add(told.garbage) / PARTS;
+    usize::max(LEAST_WAITING / width, part as usize)
 }
 
 /// Checks the trees of the indexes, marks their pages, and counts their entries: as many as there are living and dead records.
@@ -106,7 +119,7 @@ fn reach_indexes<P: Pages>(
     Ok(())
 }
 
-/// Puts the cells after those that wait. As often as many do, their entries are looked for in each index, and none waits any
+/// Puts the cells after those that wait. As often as `most` do, their entries are looked for in each index, and none waits any
 /// longer. It is refused with 90, with 91, and with 94 only where the indexes are not those of cells that these are among. No page changes.
 fn gather<P: Pages>(
     alloc: Global,
@@ -114,6 +127,7 @@ fn gather<P: Pages>(
     indexes: &[AttrIndex],
     cells: &Cells,
     waiting: &mut Cells,
+    most: usize,
 ) -> Result<(), Refusal>
     requires width { record_width cells.now ≡ record_width waiting.old }
     requires indexes { AllByRecursion (λ index. index.field.cell_width ≡ record_width waiting.old) indexes.now }
@@ -128,7 +142,7 @@ fn gather<P: Pages>(
         return Ok(());
     }
     for place in 0..cells.len() {
-        gather_one(alloc, pages, indexes, cells.get(place), waiting)?;
+        gather_one(alloc, pages, indexes, cells.get(place), waiting, most)?;
     }
     Ok(())
 }
@@ -140,6 +154,7 @@ fn gather_one<P: Pages>(
     indexes: &[AttrIndex],
     cell: &[u8],
     waiting: &mut Cells,
+    most: usize,
 ) -> Result<(), Refusal>
     requires width { length cell.now ≡ record_width waiting.old }
     requires indexes { AllByRecursion (λ index. index.field.cell_width ≡ record_width waiting.old) indexes.now }
@@ -151,7 +166,7 @@ fn gather_one<P: Pages>(
     ensures refused { RefusesLook result }
 {
     waiting.push(cell)?;
-    if waiting.len() < MOST_WAITING / waiting.width() {
+    if waiting.len() < most {
         return Ok(());
     }
     check_all(alloc, pages, indexes, waiting)?;
@@ -166,6 +181,7 @@ fn check_last<P: Pages>(
     indexes: &[AttrIndex],
     cells: &Cells,
     mut waiting: Cells,
+    most: usize,
 ) -> Result<(), Refusal>
     requires width { record_width cells.now ≡ record_width waiting }
     requires indexes { AllByRecursion (λ index. index.field.cell_width ≡ record_width waiting) indexes.now }
@@ -173,7 +189,7 @@ fn check_last<P: Pages>(
     ensures checks { Checks P.Pages indexes.now (listed waiting ++ listed cells.now) result pages.old }
     ensures refused { RefusesLook result }
 {
-    gather(alloc, pages, indexes, cells, &mut waiting)?;
+    gather(alloc, pages, indexes, cells, &mut waiting, most)?;
     check_all(alloc, pages, indexes, &waiting)
 }
 

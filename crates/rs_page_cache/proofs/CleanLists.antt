@@ -1,6 +1,6 @@
 -- The clean pages: a look-up in them, and what stays as they move.
 use Rattle.std.proofs.Common.{◌≡◌, ◌⊎◌, inl, inr, ℕ, zero, suc, nat_eq, Bool, true, false, Option, Some, None, List, [], ◌∷◌, ◌++◌, Contains, refl, sym, ap, ◌∙◌, subst, arith}
-use Rattle.std.specs.Prelude.{if◌then◌else◌}
+use Rattle.std.specs.Prelude.{if◌then◌else◌, take}
 use Rattle.std.specs.Option.{option_map}
 use Rattle.std.specs.Map.{lookup}
 use Rattle.std.specs.declared.alloc.Global.{Global}
@@ -12,7 +12,7 @@ use Rattle.std.specs.Option.{option_map_or}
 use Rattle.std.specs.Map.{lookup_entry, remove_entry}
 use Rattle.std.proofs.lemmas.Bool.{eqb-true}
 use Rattle.lru.specs.LruCache.{LruCache, lru_cache, promoted, put_entries}
-use Rattle.lru.proofs.CallerLemmas.{Contains-promoted, Contains-put_entries, Contains-lookup_entry}
+use Rattle.lru.proofs.CallerLemmas.{Contains-promoted, Contains-put_entries, Contains-lookup_entry, Contains-take}
 use Rattle.rs_page.specs.declared.page.Page.{Page}
 use Rattle.rs_page_cache.specs.Clean.{Clean, clean_at, spare_page, kept_pages, has_number, Loads}
 
@@ -120,6 +120,10 @@ still_found test es (Some f) h some = rw (Contains-lookup_entry test es f h).1 r
 
 pub found-promoted : (test : ℕ → Bool) (es : List (ℕ × Box Page Global)) → is_some (lookup test es) ≡ true → is_some (lookup test (promoted test es)) ≡ true
 found-promoted test es = still_found test es (lookup_entry test es) refl
+
+-- each of the first of the pages is held
+pub first-stays : (es : List (ℕ × Box Page Global)) (n : ℕ) (e : ℕ × List ℕ) → Contains (kept_pages (take n es)) e → Contains (kept_pages es) e
+first-stays es n e there = kept-more es (take n es) (λ one. Contains-take n es one) e there
 
 -- after another page was used the same pages are held
 pub promoted-stays : (number : Option ℕ) (spare : Box Page Global) (es : List (ℕ × Box Page Global)) (n : ℕ) (e : ℕ × List ℕ)

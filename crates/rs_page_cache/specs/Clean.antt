@@ -11,11 +11,6 @@ use Rattle.rs_page_cache.specs.Stored.{disk_page}
 abbrev pub Clean : Type 0
 Clean = List (ℕ × List ℕ)
 
--- the clean pages that are held, and how many may be
-pub record HeldClean : Type 0 where
-  pub pages : Clean
-  pub most : ℕ
-
 -- the clean page with this number, where it is held
 abbrev pub clean_at : Clean → ℕ → Option (List ℕ)
 clean_at clean number = lookup (nat_eq number) clean

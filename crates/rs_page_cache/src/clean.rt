@@ -1,4 +1,4 @@
-//! The clean pages that are held: a bounded number of pages as the disk has them. While a whole file is read they may be more.
+//! The clean pages that are held: a bounded number of pages as the disk has them.
 //!
 //! A page is read into a spare one that is always there, so a read wants no memory. The spare page joins the others
 //! before the next read where there is memory for another; else it is dropped.
@@ -23,9 +23,6 @@ use std::num::NonZeroUsize;
 /// The greatest number of clean pages that are held, the spare one among them.
 pub const MOST_CLEAN: usize = 256;
 
-/// The greatest number of them while a whole file is read.
-pub const MOST_WHILE_OPENING: usize = 65_536;
-
 /// The clean pages.
 #[derive(Drop)]
 pub struct CleanPages {
@@ -37,22 +34,22 @@ pub struct CleanPages {
 
 impl Model for CleanPages {
     ghost use Rattle.std.specs.Prelude.{◌≡◌};
-    ghost use Rattle.rs_page_cache.specs.Clean.{HeldClean, spare_page, kept_pages};
+    ghost use Rattle.rs_page_cache.specs.Clean.{Clean, spare_page, kept_pages};
 
-    ghost Value = { HeldClean };
+    ghost Value = { Clean };
 
-    ghost use Rattle.std.specs.Prelude.{◌++◌, ◌+◌, ◌<◌};
-    ghost use Rattle.rs_page_cache.specs.declared.clean.TheConstants.{MOST_WHILE_OPENING};
+    ghost use Rattle.std.specs.Prelude.{◌++◌, ◌<◌};
+    ghost use Rattle.rs_page_cache.specs.declared.clean.TheConstants.{MOST_CLEAN};
 
-    ghost view = { λ c. record { pages = spare_page c.spare_number c.spare ++ kept_pages c.kept.entries; most = c.kept.cap + 1 } };
+    ghost view = { λ c. spare_page c.spare_number c.spare ++ kept_pages c.kept.entries };
 
-    ghost invariant = { λ c. c.kept.cap < MOST_WHILE_OPENING };
+    ghost invariant = { λ c. c.kept.cap < MOST_CLEAN };
 }
 
 impl CleanPages {
     /// No page is held, and the spare one is allocated.
     pub fn new(alloc: Global) -> Result<CleanPages, AllocError>
-        ensures { IfOk result (λ clean. clean ≡ record { pages = []; most = MOST_CLEAN }) }
+        ensures { IfOk result (λ clean. clean ≡ []) }
     {
         let most = NonZeroUsize::new(MOST_CLEAN - 1).unwrap();
         let kept = LruCache::new(alloc, most)?;
@@ -66,9 +63,8 @@ impl CleanPages {
 
     /// How many clean pages are held.
     pub fn len(&self) -> usize
-        ensures length { result ≡ length self.now.pages }
-        ensures bound { result ≤ self.now.most }
-        ensures greatest { self.now.most ≤ MOST_WHILE_OPENING }
+        ensures length { result ≡ length self.now }
+        ensures bound { result ≤ MOST_CLEAN }
     {
         match self.spare_number {
             Some(_) => self.kept.len() + 1,
@@ -78,7 +74,7 @@ impl CleanPages {
 
     /// The clean page with this number, where it is held.
     pub fn get(&self, number: PageNumber) -> Option<&Page>
-        ensures { option_map (λ page. page.now.bytes) result ≡ clean_at self.now.pages number }
+        ensures { option_map (λ page. page.now.bytes) result ≡ clean_at self.now number }
     {
         if is_number(self.spare_number, number) {
             return Some(&self.spare);
@@ -92,10 +88,9 @@ impl CleanPages {
     /// Holds the page with this number, and reads it where it isn't held.
     pub fn load<D: Disk>(&mut self, disk: &mut D, number: PageNumber) -> Result<(), Refusal>
         requires { number ≤ GREATEST_LIMIT }
-        ensures loaded { OnOk result (IsSome (clean_at self.new.pages number)) }
+        ensures loaded { OnOk result (IsSome (clean_at self.new number)) }
         ensures loads { IsTrue (D.is_honest disk.old)
-            → Loads number (λ page. page ≡ disk_page (D.seen disk.old) number) self.old.pages self.new.pages }
-        ensures most { self.new.most ≡ self.old.most }
+            → Loads number (λ page. page ≡ disk_page (D.seen disk.old) number) self.old self.new }
         ensures same { IsTrue (D.is_honest disk.old) → D.seen disk.new ≡ D.seen disk.old }
         ensures honesty { D.is_honest disk.new ≡ D.is_honest disk.old }
         ensures keeping { D.keeps_crashes disk.new ≡ D.keeps_crashes disk.old }
@@ -119,52 +114,32 @@ impl CleanPages {
 
     /// Whether the page with this number is held. It is the most recently used then.
     fn promote(&mut self, number: PageNumber) -> bool
-        ensures held { result ≡ is_some (clean_at self.old.pages number) }
-        ensures there { IsTrue result → IsSome (clean_at self.new.pages number) }
-        ensures pages { (e : _) → Contains self.new.pages e → Contains self.old.pages e }
-        ensures most { self.new.most ≡ self.old.most }
+        ensures held { result ≡ is_some (clean_at self.old number) }
+        ensures there { IsTrue result → IsSome (clean_at self.new number) }
+        ensures pages { (e : _) → Contains self.new e → Contains self.old e }
     {
         is_number(self.spare_number, number) || self.kept.promote(&number.number())
     }
 
     /// Holds the spare page among the others, if there is memory for another. It holds no page of the disk then.
     fn keep_spare(&mut self)
-        ensures pages { (e : _) → Contains self.new.pages e → Contains self.old.pages e }
-        ensures most { self.new.most ≡ self.old.most }
+        ensures pages { (e : _) → Contains self.new e → Contains self.old e }
     {
         let Some(number) = self.spare_number.take() else {
             return;
         };
-        if let Ok(fresh) = Box::new(*self.kept.allocator(), Page::new()) {
-            let page = mem::replace(&mut self.spare, fresh);
+        if let Some(room) = room_in(&mut self.kept) {
+            let page = mem::replace(&mut self.spare, room);
             put_page(&mut self.kept, number.number(), page);
         }
     }
 
     /// No page is held any more.
     pub fn clear(&mut self)
-        ensures { self.new ≡ record self.old { pages = [] } }
+        ensures { self.new ≡ [] }
     {
         self.kept.clear();
         self.spare_number = None;
-    }
-
-    /// No page is held any more, and as many may be from now on as while a whole file is read. It takes no memory until they are.
-    pub fn widen(&mut self)
-        ensures { self.new ≡ record { pages = []; most = MOST_WHILE_OPENING } }
-    {
-        let most = NonZeroUsize::new(MOST_WHILE_OPENING - 1).unwrap();
-        self.clear();
-        self.kept.resize(most);
-    }
-
-    /// No page is held any more, and no more may be from now on than at any other time.
-    pub fn narrow(&mut self)
-        ensures { self.new ≡ record { pages = []; most = MOST_CLEAN } }
-    {
-        let most = NonZeroUsize::new(MOST_CLEAN - 1).unwrap();
-        self.clear();
-        self.kept.resize(most);
     }
 }
 
@@ -175,6 +150,21 @@ fn is_number(spare: Option<PageNumber>, number: PageNumber) -> bool
     match spare {
         Some(spare) => number == spare,
         None => false,
+    }
+}
+
+/// Memory for another page: that of the page that was used longest ago, which is no longer held, where no more may be; else new
+/// memory, if there is some.
+fn room_in(kept: &mut LruCache<u32, Box<Page>>) -> Option<Box<Page>>
+    ensures pages { (e : _) → Contains (kept_pages kept.new.entries) e → Contains (kept_pages kept.old.entries) e }
+    ensures cap { kept.new.cap ≡ kept.old.cap }
+{
+    if kept.len() < kept.cap().get() {
+        return Box::new(*kept.allocator(), Page::new()).ok();
+    }
+    match kept.pop_lru() {
+        Some((_, page)) => Some(page),
+        None => None,
     }
 }
 

@@ -11,4 +11,4 @@ mod slot;
 mod slots;
 
 pub use changes::{Changes, copy_into_spare};
-pub use clean::{CleanPages, MOST_CLEAN, MOST_WHILE_OPENING};
+pub use clean::{CleanPages, MOST_CLEAN};

@@ -1,10 +1,9 @@
-//! The greatest numbers of clean pages, as numbers.
+//! The greatest number of clean pages, as a number.
 
 ghost use Rattle.std.specs.Prelude.{◌≡◌};
-ghost use Rattle.rs_page_cache.specs.declared.clean.TheConstants.{MOST_CLEAN, MOST_WHILE_OPENING};
+ghost use Rattle.rs_page_cache.specs.declared.clean.TheConstants.{MOST_CLEAN};
 
-/// The limits are these numbers.
+/// The limit is this number.
 pub fn limits_are_those()
-    ensures most_clean { MOST_CLEAN ≡ 256 }
-    ensures most_while_opening { MOST_WHILE_OPENING ≡ 65_536 }
+    ensures { MOST_CLEAN ≡ 256 }
 {}

@@ -112,7 +112,6 @@ KeepsMaps-refl d p sound = record {
   honesty = refl;
   limit = refl;
   full = refl;
-  most_clean = refl;
   least = sound.directory;
   within = omega (arith, sound.kept_room, sound.within);
 }
@@ -176,7 +175,6 @@ module _ {D : Type 0} (d : disk.Ghosts D) {T E : Type 0} (result : Result T E) (
       honesty = refl;
       limit = refl;
       full = refl;
-      most_clean = refl;
       least = sound.directory;
       within = within;
     };
@@ -207,7 +205,6 @@ module _ {D : Type 0} (d : disk.Ghosts D) {T E : Type 0} (result : Result T E) (
             honesty = honesty;
             limit = refl;
             full = refl;
-            most_clean = refl;
             least = sound.directory;
             within = within;
           };
@@ -266,7 +263,6 @@ module _ {D : Type 0} (d : disk.Ghosts D) {T E : Type 0} (result : Result T E) (
           honesty = cut_honesty ∙ honesty;
           limit = refl;
           full = refl;
-          most_clean = refl;
           least = sound.directory;
           within = within;
         };

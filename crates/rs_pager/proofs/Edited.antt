@@ -70,7 +70,6 @@ module _ {D : Type 0} (d : disk.Ghosts D) (p : Paged D) (changes : Changes) (fie
     kept = λ pages _ is. kept-edited d p changes fields fresh same pages is;
     unwritten = λ _. refl;
     crash = λ _. passes_none d.may_leave d.left_since Same p.disk (λ _. refl);
-    most_clean = refl;
   }
 
 -- the file has at most one page more, which has a working copy

@@ -82,9 +82,9 @@ module _ {D : Type 0} (d : disk.Ghosts D) (p : Paged D) where
   }
 
   -- what no page depends on has changed
-  pub kept-beside : (most : ℕ) (fields : FileHeader) (begun : Bool) (full : ℕ) (pages : FilePages) → IsKept d p pages
-      → IsKept d (record p { most_clean = most; working = fields; is_begun = begun; full_refusals = full }) pages
-  kept-beside most fields begun full pages is = record {
+  pub kept-beside : (fields : FileHeader) (begun : Bool) (full : ℕ) (pages : FilePages) → IsKept d p pages
+      → IsKept d (record p { working = fields; is_begun = begun; full_refusals = full }) pages
+  kept-beside fields begun full pages is = record {
     says = is.says;
     before = is.before;
     filled = is.filled;
@@ -93,9 +93,9 @@ module _ {D : Type 0} (d : disk.Ghosts D) (p : Paged D) where
         let on = is.under_way ne in record { checkpoint = on.checkpoint; lists = on.lists; makes = on.makes; are = on.are; every = on.every };
   }
 
-  pub tied-beside : (most : ℕ) (fields : FileHeader) (begun : Bool) (full : ℕ) → IsTied d p
-      → IsTied d (record p { most_clean = most; working = fields; is_begun = begun; full_refusals = full })
-  tied-beside most fields begun full tied = record {
+  pub tied-beside : (fields : FileHeader) (begun : Bool) (full : ℕ) → IsTied d p
+      → IsTied d (record p { working = fields; is_begun = begun; full_refusals = full })
+  tied-beside fields begun full tied = record {
     honest = tied.honest;
     clean = tied.clean;
     after_header = tied.after_header;
@@ -103,12 +103,12 @@ module _ {D : Type 0} (d : disk.Ghosts D) (p : Paged D) where
     inside = tied.inside;
     header = tied.header;
     kept = tied.kept;
-    is_kept = kept-beside most fields begun full tied.kept tied.is_kept;
+    is_kept = kept-beside fields begun full tied.kept tied.is_kept;
   }
 
   pub below-beside : (fields : FileHeader) (begun : Bool) (full : ℕ) → KeepsBelow d p (record p { working = fields; is_begun = begun; full_refusals = full })
   below-beside fields begun full = record {
-    tied = tied-beside p.most_clean fields begun full;
+    tied = tied-beside fields begun full;
     committed = λ _. record { fields = refl; pages = λ n. refl };
     committed_fields = refl;
     changed = λ n. refl;
@@ -116,10 +116,9 @@ module _ {D : Type 0} (d : disk.Ghosts D) (p : Paged D) where
     honesty = refl;
     keeping = refl;
     under_way = refl;
-    kept = λ pages _ is. kept-beside p.most_clean fields begun full pages is;
+    kept = λ pages _ is. kept-beside fields begun full pages is;
     unwritten = λ _. refl;
     crash = λ _. passes_none d.may_leave d.left_since Same p.disk (λ _. refl);
-    most_clean = refl;
   }
 
 -- ---- changes end
@@ -191,15 +190,14 @@ module _ {D : Type 0} (d : disk.Ghosts D) (p : Paged D) (sound : IsSound p.limit
     inside = λ n pos lt none. tied.inside n pos lt (sym (ap (λ (h : HeldPage). h.committed) (each n)) ∙ none);
     header = tied.header;
     kept = tied.kept;
-    is_kept = kept-beside d (with_changes p changes p.committed_fields) p.most_clean p.committed_fields false p.full_refusals tied.kept
+    is_kept = kept-beside d (with_changes p changes p.committed_fields) p.committed_fields false p.full_refusals tied.kept
         (kept-edited d p changes p.committed_fields (sound.begun_fresh begun) (λ n. ap (λ (h : HeldPage). h.committed) (each n)) tied.kept tied.is_kept);
   }
 
 -- the clean pages are dropped
--- the clean pages were dropped, and so many may be held
-pub forgotten-kept : {D : Type 0} (d : disk.Ghosts D) (p : Paged D) (most : ℕ) (pages : FilePages) → IsKept d p pages → IsKept d (record p { clean = []; most_clean = most }) pages
-forgotten-kept d p most pages is =
-    let was = kept-beside d p most p.working p.is_begun p.full_refusals pages is in
+pub forgotten-kept : {D : Type 0} (d : disk.Ghosts D) (p : Paged D) (pages : FilePages) → IsKept d p pages → IsKept d (record p { clean = [] }) pages
+forgotten-kept d p pages is =
+    let was = kept-beside d p p.working p.is_begun p.full_refusals pages is in
     record {
       says = was.says;
       before = was.before;
@@ -208,8 +206,8 @@ forgotten-kept d p most pages is =
       under_way = λ ne. let on = was.under_way ne in record { checkpoint = on.checkpoint; lists = on.lists; makes = on.makes; are = on.are; every = on.every };
     }
 
-pub forgotten-tied : {D : Type 0} (d : disk.Ghosts D) (p : Paged D) (most : ℕ) → IsTied d p → IsTied d (record p { clean = []; most_clean = most })
-forgotten-tied d p most tied = record {
+pub forgotten-tied : {D : Type 0} (d : disk.Ghosts D) (p : Paged D) → IsTied d p → IsTied d (record p { clean = [] })
+forgotten-tied d p tied = record {
   honest = tied.honest;
   clean = record { each = λ n page there. absurd (omega (arith, there.1)) };
   after_header = record { each = λ n page there. absurd (omega (arith, there.1)) };
@@ -217,13 +215,13 @@ forgotten-tied d p most tied = record {
   inside = tied.inside;
   header = tied.header;
   kept = tied.kept;
-  is_kept = forgotten-kept d p most tied.kept tied.is_kept;
+  is_kept = forgotten-kept d p tied.kept tied.is_kept;
 }
 
 -- nothing below the working pages has changed
 pub forgotten-below : {D : Type 0} (d : disk.Ghosts D) (p : Paged D) → KeepsBelow d p (record p { clean = [] })
 forgotten-below d p = record {
-  tied = forgotten-tied d p p.most_clean;
+  tied = forgotten-tied d p;
   committed = λ _. record { fields = refl; pages = λ n. refl };
   committed_fields = refl;
   changed = λ n. refl;
@@ -231,16 +229,15 @@ forgotten-below d p = record {
   honesty = refl;
   keeping = refl;
   under_way = refl;
-  kept = λ pages _ is. forgotten-kept d p p.most_clean pages is;
+  kept = λ pages _ is. forgotten-kept d p pages is;
   unwritten = λ _. refl;
   crash = λ _. passes_none d.may_leave d.left_since Same p.disk (λ _. refl);
-  most_clean = refl;
 }
 
 pub forgotten-keeps : {D : Type 0} (d : disk.Ghosts D) (p : Paged D) → IsSound p.limit p.changes p.committed_fields p.working p.is_begun p.under_way.stage
     → KeepsMaps d p (record p { clean = [] })
 forgotten-keeps d p sound = record {
-  tied = forgotten-tied d p p.most_clean;
+  tied = forgotten-tied d p;
   committed = λ _. record { fields = refl; pages = λ n. refl };
   working = λ _. record { fields = refl; pages = λ n. refl };
   committed_fields = refl;
@@ -248,7 +245,6 @@ forgotten-keeps d p sound = record {
   honesty = refl;
   limit = refl;
   full = refl;
-  most_clean = refl;
   least = sound.directory;
   within = omega (arith, sound.kept_room, sound.within);
 }

@@ -72,7 +72,6 @@ module _ {D : Type 0} (d : disk.Ghosts D) (n : ℕ) (old : Paged D) (disk : D) (
     kept = λ pages _ is. kept-read d old disk clean clean-reaches pages is;
     unwritten = reads.same;
     crash = reads.crash;
-    most_clean = refl;
   }
 
   clean-rests : Rests (IsTied d old) (pager_store d old) (pager_store d (with_clean old disk clean))

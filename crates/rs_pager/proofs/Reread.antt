@@ -44,7 +44,6 @@ module _ {D : Type 0} (d : disk.Ghosts D) (p : Paged D) (disk : D) (reaches : Re
     kept = λ pages _ is. kept-read d p disk p.clean reaches pages is;
     unwritten = reaches.reads;
     crash = reaches.images;
-    most_clean = refl;
   }
 
   pub reread-maps : IsSound p.limit p.changes p.committed_fields p.working p.is_begun p.under_way.stage → KeepsMaps d p (with_clean p disk p.clean)
@@ -63,7 +62,6 @@ module _ {D : Type 0} (d : disk.Ghosts D) (p : Paged D) (disk : D) (reaches : Re
     honesty = reaches.honesty;
     limit = refl;
     full = refl;
-    most_clean = refl;
     least = sound.directory;
     within = omega (arith, sound.kept_room, sound.within);
   }

@@ -22,7 +22,6 @@ module _ {D : Type 0} (d : disk.Ghosts D) where
     kept = λ pages tied is. is;
     unwritten = λ _. refl;
     crash = λ _. passes_none d.may_leave d.left_since Same p.disk (λ _. refl);
-    most_clean = refl;
   }
 
   pub KeepsBelow-trans : (a b c : Paged D) → KeepsBelow d a b → KeepsBelow d b c → KeepsBelow d a c
@@ -39,5 +38,4 @@ module _ {D : Type 0} (d : disk.Ghosts D) where
     unwritten = λ honest. other.unwritten (subst IsTrue (sym one.honesty) honest) ∙ one.unwritten honest;
     crash = λ keeps. passes_then d.may_leave d.left_since Same Same Same a.disk b.disk c.disk (λ _ _ same. same) (λ _ _ _ first then. then ∙ first)
         (one.crash keeps) (other.crash (subst IsTrue (sym one.keeping) keeps));
-    most_clean = other.most_clean ∙ one.most_clean;
   }

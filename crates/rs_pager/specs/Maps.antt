@@ -104,8 +104,7 @@ module _ {D : Type 0} (d : disk.Ghosts D) where
     pub kept : FilePages
     pub is_kept : IsKept p kept
 
-  -- The committed pages stay, what is held of them stays, and nothing is written to the disk: a crash leaves what it left before. As
-  -- many clean pages may be held.
+  -- The committed pages stay, what is held of them stays, and nothing is written to the disk: a crash leaves what it left before.
   pub record KeepsBelow (old new : Paged D) : Type 0 where
     pub tied : IsTied old → IsTied new
     pub committed : IsTied old → SamePages (committed new) (committed old)
@@ -118,10 +117,9 @@ module _ {D : Type 0} (d : disk.Ghosts D) where
     pub kept : (pages : FilePages) → IsTied old → IsKept old pages → IsKept new pages
     pub unwritten : IsTrue (d.is_honest old.disk) → d.seen new.disk ≡ d.seen old.disk
     pub crash : IsTrue (d.keeps_crashes old.disk) → Passes d.may_leave d.left_since Same old.disk new.disk
-    pub most_clean : new.most_clean ≡ old.most_clean
 
-  -- both maps of pages stay, and so do the limit, the count of full refusals and how many clean pages may be held, whatever
-  -- is written to the disk; there are two committed pages at least, and no more than the limit
+  -- both maps of pages stay, and so do the limit and the count of full refusals, whatever is written to the disk; there are two
+  -- committed pages at least, and no more than the limit
   pub record KeepsMaps (old new : Paged D) : Type 0 where
     pub tied : IsTied old → IsTied new
     pub committed : IsTied old → SamePages (committed new) (committed old)
@@ -131,6 +129,5 @@ module _ {D : Type 0} (d : disk.Ghosts D) where
     pub honesty : d.is_honest new.disk ≡ d.is_honest old.disk
     pub limit : new.limit ≡ old.limit
     pub full : new.full_refusals ≡ old.full_refusals
-    pub most_clean : new.most_clean ≡ old.most_clean
     pub least : 2 ≤ new.committed_fields.pages
     pub within : new.committed_fields.pages ≤ new.limit

@@ -9,15 +9,14 @@ use Rattle.rs_page_copies.specs.Listed.{Checkpoint}
 use Rattle.rs_journal.specs.declared.stage.Stage.{Stage}
 use Rattle.rs_journal.specs.declared.stage.Stage.TheVariants.{Fresh}
 
--- the disk, the greatest number of pages, the changed pages and the clean ones that are held, how many clean ones may be,
--- the committed and the working fields of page 0, whether the disk lacks the committed ones, whether changes are begun,
--- how often the file was full, and the checkpoint that is under way
+-- the disk, the greatest number of pages, the changed pages and the clean ones that are held, the committed and the working
+-- fields of page 0, whether the disk lacks the committed ones, whether changes are begun, how often the file was full, and
+-- the checkpoint that is under way
 pub record Paged (D : Type 0) : Type 0 where
   pub disk : D
   pub limit : ℕ
   pub changes : Changes
   pub clean : Clean
-  pub most_clean : ℕ
   pub committed_fields : FileHeader
   pub working : FileHeader
   pub is_header_changed : Bool

@@ -15,7 +15,6 @@ ghost use Rattle.rs_journal.specs.Recovery.{CallsOrDamaged, Recovered, SaysCount
 ghost use Rattle.rs_journal.specs.declared.limits.TheConstants.{GATE, OPEN};
 ghost use Rattle.rs_page.specs.declared.file_header.FileHeader.{FileHeader};
 ghost use Rattle.rs_page_cache.specs.Stored.{disk_page};
-ghost use Rattle.rs_page_cache.specs.declared.clean.TheConstants.{MOST_CLEAN};
 ghost use Rattle.rs_pages.specs.PageMap.{SamePages};
 ghost use Rattle.rs_journal.specs.declared.stage.Stage.TheVariants.{Fresh};
 ghost use Rattle.rs_pager.specs.Maps.{committed, working, HoldsNoChange, IsTied, KeepsBelow, KeepsChanges, KeepsMaps};
@@ -164,7 +163,7 @@ impl<D: Disk> Pager<D> {
 
 /// Memory for clean pages and for a checkpoint.
 fn room_of(alloc: Global) -> Result<Room, AllocError>
-    ensures clean { IfOk result (λ room. room.clean ≡ record { pages = []; most = MOST_CLEAN }) }
+    ensures clean { IfOk result (λ room. room.clean ≡ []) }
     ensures stage { IfOk result (λ room. room.under_way.stage ≡ Fresh) }
 {
     let clean = CleanPages::new(alloc)?;
@@ -181,7 +180,7 @@ fn new_pager<D: Disk>(
     fields: FileHeader,
     is_header_changed: bool,
 ) -> Pager<D>
-    requires empty { room.clean ≡ record { pages = []; most = MOST_CLEAN } }
+    requires empty { room.clean ≡ [] }
     requires stage { room.under_way.stage ≡ Fresh }
     requires least { 2 ≤ fields.pages }
     requires within { fields.pages ≤ limit }

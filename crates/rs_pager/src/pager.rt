@@ -17,7 +17,7 @@ ghost use Rattle.rs_pager.specs.Opened.{Commits, Abandons, CountsFault};
 use rs_disk::Disk;
 use rs_journal::Stage;
 use rs_page::FileHeader;
-use rs_page_cache::{Changes, CleanPages, MOST_CLEAN, MOST_WHILE_OPENING};
+use rs_page_cache::{Changes, CleanPages, MOST_CLEAN};
 use rs_page_copies::UnderWay;
 use rs_refusal::Refusal;
 use std::marker::Model;
@@ -51,8 +51,7 @@ impl<D: Disk> Model for Pager<D> {
       disk = p.disk;
       limit = p.limit;
       changes = p.changes;
-      clean = p.clean.pages;
-      most_clean = p.clean.most;
+      clean = p.clean;
       committed_fields = p.committed_fields;
       working = p.working;
       is_header_changed = p.is_header_changed;
@@ -138,23 +137,6 @@ impl<D: Disk> Pager<D> {
         self.clean.clear();
     }
 
-    /// Drops the clean pages that are held, and holds as many from then on as while a whole file is read. It is never refused, and
-    /// takes no memory until pages are read.
-    pub fn widen(&mut self)
-        ensures widens { self.new ≡ record self.old { clean = []; most_clean = MOST_WHILE_OPENING } }
-        ensures tied { IsTied D.Disk self.old → IsTied D.Disk self.new }
-    {
-        self.clean.widen();
-    }
-
-    /// Drops the clean pages that are held, and holds no more from then on than at any other time. It is never refused.
-    pub fn narrow(&mut self)
-        ensures narrows { self.new ≡ record self.old { clean = []; most_clean = MOST_CLEAN } }
-        ensures tied { IsTied D.Disk self.old → IsTied D.Disk self.new }
-    {
-        self.clean.narrow();
-    }
-
     /// Gives the disk back, and writes nothing.
     pub fn into_disk(self) -> D
         ensures { result ≡ self.disk }
@@ -182,7 +164,7 @@ impl<D: Disk> Pager<D> {
         ensures changed { result.0 ≡ min (length self.now.changes) (2 ^ 32 - 1) }
         ensures pages { ListsHeld self.now.changes }
         ensures clean { result.1 ≡ length self.now.clean }
-        ensures bound { result.1 ≤ self.now.most_clean }
+        ensures bound { result.1 ≤ MOST_CLEAN }
     {
         let changed = self.changes.held().min(u32::MAX as usize);
         (changed as u32, self.clean.len() as u32)

@@ -37,4 +37,3 @@ pub mod TableMore
 pub mod TableReads
 pub mod Tabled
 pub mod Visible
-pub mod Whole

@@ -31,7 +31,6 @@ module _ {D : Type 0} (d : disk.Ghosts D) where
     honesty = other.honesty ∙ one.honesty;
     limit = other.limit ∙ one.limit;
     full = other.full ∙ one.full;
-    most_clean = other.most_clean ∙ one.most_clean;
     least = other.least;
     within = other.within;
   }

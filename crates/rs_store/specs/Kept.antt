@@ -16,7 +16,6 @@ use Rattle.rs_file_parts.specs.Parts.{IsCommitted}
 use Rattle.rs_machine.specs.Lawful.{AreColumnsOfTable, AreViewsMeant, Each}
 use Rattle.rs_machine.specs.State.{State}
 use Rattle.rs_machine.specs.declared.limits.TheConstants.{CHANGES}
-use Rattle.rs_page_cache.specs.declared.clean.TheConstants.{MOST_CLEAN}
 use Rattle.rs_pager.specs.Maps.{IsTied, committed, working}
 use Rattle.rs_pager.specs.Paged.{Paged}
 use Rattle.rs_pages.specs.PageMap.{SamePages}
@@ -39,11 +38,9 @@ pub record IsAtRest (file : OpenedFile) (catalog : Definitions) : Type 0 where
   pub columns : Each catalog.tables (λ name table. AreColumnsOfTable table.columns)
   pub bound : file.accepted ≤ CHANGES
 
--- no changes are begun, no more clean pages may be held than at any time but while a whole file is read, and what is open and in
--- memory is at rest
-pub record IsSound (is_begun : Bool) (most_clean : ℕ) (file : OpenedFile) (catalog : Definitions) : Type 0 where
+-- no changes are begun, and what is open and in memory is at rest
+pub record IsSound (is_begun : Bool) (file : OpenedFile) (catalog : Definitions) : Type 0 where
   pub shut : is_begun ≡ false
-  pub narrow : most_clean ≡ MOST_CLEAN
   pub rests : IsAtRest file catalog
 
 module _ {D : Type 0} (d : disk.Ghosts D) where

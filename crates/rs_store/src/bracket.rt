@@ -35,7 +35,6 @@ pub(crate) fn begin_change<D: Disk>(pager: &mut Pager<D>) -> Result<(), Refusal>
     ensures begins { BeginsChange D.Disk result pager.old pager.new }
     ensures begun { OnOk result (pager.new.is_begun ≡ true) }
     ensures shut { OnErr result (pager.new.is_begun ≡ false) }
-    ensures most_clean { pager.new.most_clean ≡ pager.old.most_clean }
 {
     pager.make_room()?;
     pager.begin();
@@ -52,7 +51,6 @@ pub(crate) fn settle<D: Disk, T>(
     ensures same { result ≡ made }
     ensures settles { Settles D.Disk made pager.old pager.new file.old file.new }
     ensures shut { pager.new.is_begun ≡ false }
-    ensures most_clean { pager.new.most_clean ≡ pager.old.most_clean }
 {
     match made {
         Ok(answer) => {

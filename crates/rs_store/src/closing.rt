@@ -9,7 +9,7 @@ ghost use Rattle.rs_store.specs.Calls.{Closes, CountsClosing, KeepsStore, Reopen
 ghost use Rattle.rs_store.specs.Changing.{StillHolds};
 ghost use Rattle.rs_store.specs.Kept.{StandsIn};
 
-use crate::loading::{Loaded, load_whole};
+use crate::loading::{Loaded, load_state};
 use crate::store::Store;
 use rs_checkpoint::checkpoint;
 use rs_disk::Disk;
@@ -95,7 +95,7 @@ impl<D: Disk> Store<D> {
             file,
             catalog,
             referents,
-        } = load_whole(alloc, &mut self.pager)?;
+        } = load_state(alloc, &mut self.pager)?;
         self.file = file;
         self.catalog = catalog;
         self.referents = referents;

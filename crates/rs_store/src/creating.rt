@@ -53,7 +53,6 @@ fn create_pages<D: Disk>(alloc: Global, pager: &mut Pager<D>) -> Result<Loaded, 
     ensures file { IfOk result (λ loaded. IsAtRest loaded.file loaded.catalog) }
     ensures shut { OnOk result (pager.new.is_begun ≡ false) }
     ensures limit { pager.new.limit ≡ pager.old.limit }
-    ensures most_clean { pager.new.most_clean ≡ pager.old.most_clean }
     ensures honesty { D.is_honest pager.new.disk ≡ D.is_honest pager.old.disk }
     ensures keeping { D.keeps_crashes pager.new.disk ≡ D.keeps_crashes pager.old.disk }
     ensures refused { IfErr result WantsCreating }
@@ -76,7 +75,6 @@ fn write_nothing<D: Disk>(alloc: Global, pager: &mut Pager<D>) -> Result<(), Ref
     ensures sound { IsTrue (D.is_honest pager.old.disk) → IsCreated D.Disk pager.old → result ≢ Err Refusal.DamagedFile }
     ensures shut { OnOk result (pager.new.is_begun ≡ false) }
     ensures limit { pager.new.limit ≡ pager.old.limit }
-    ensures most_clean { pager.new.most_clean ≡ pager.old.most_clean }
     ensures honesty { D.is_honest pager.new.disk ≡ D.is_honest pager.old.disk }
     ensures keeping { D.keeps_crashes pager.new.disk ≡ D.keeps_crashes pager.old.disk }
     ensures refused { IfErr result WantsCreating }

@@ -1,6 +1,6 @@
 //! This module reads a whole file, checks what it says, and brings its definitions and its referents into memory.
 
-ghost use Rattle.std.specs.Prelude.{◌≡◌, ◌⊎◌, [], Err, IfErr, IfOk, OnOk, map};
+ghost use Rattle.std.specs.Prelude.{◌≡◌, ◌⊎◌, Err, IfErr, IfOk, OnOk, map};
 ghost use Rattle.rs_catalog_meaning.specs.Meaning.{AreMeant};
 ghost use Rattle.rs_catalog_pages.specs.Said.{said_catalogue, said_route};
 ghost use Rattle.rs_file.specs.Calls.{RefusesToLoad};
@@ -8,23 +8,18 @@ ghost use Rattle.rs_file.specs.Contents.{AreGivenOnce};
 ghost use Rattle.rs_file.specs.Meant.{span_of_route};
 ghost use Rattle.rs_file.specs.Opening.{IsFile};
 ghost use Rattle.rs_stored_catalog.specs.Made.{without_views};
-ghost use Rattle.rs_page_cache.specs.declared.clean.TheConstants.{MOST_CLEAN};
-ghost use Rattle.rs_pager.specs.Maps.{IsTied, KeepsBelow, pager_store, working};
 ghost use Rattle.rs_pages.specs.Calls.{OnlyReads};
-ghost use Rattle.rs_pages.specs.Lending.{RestsAfter};
 ghost use Rattle.rs_store.specs.Kept.{IsAtRest};
-ghost use Rattle.rs_store.specs.Loading.{Brings, BringsNone, Loads, LoadsNone, LoadsState, StandsForNone};
+ghost use Rattle.rs_store.specs.Loading.{Brings, BringsNone, Loads, LoadsNone};
 
 use rs_catalog::{Catalog, RouteReferents};
 use rs_catalog_meaning::check_meaning;
 use rs_catalog_pages::{StoredCatalogue, StoredRoute};
-use rs_disk::Disk;
 use rs_file::laws::{file_holds_one_thing, loaded_file_has_its_directory};
 use rs_file::opened::OpenedFile;
 use rs_file_meaning::changes::meant_contents_stay_meant;
 use rs_file_meaning::standing::contents_have_one_state;
 use rs_file_parts::laws::loaded_file_can_be_changed;
-use rs_pager::Pager;
 use rs_pages::Pages;
 use rs_refusal::Refusal;
 use rs_stored_catalog::laws::listed_definitions_are_a_catalogues;
@@ -39,23 +34,6 @@ pub(crate) struct Loaded {
     pub(crate) file: OpenedFile,
     pub(crate) catalog: Catalog,
     pub(crate) referents: RouteReferents,
-}
-
-/// Opens and checks all that a file holds, as `load_state` does, and holds each clean page until that is done, so that none is read twice
-/// in a file of no more pages than may be held then. Whatever is answered, no clean page is held after it, and no more may be than before.
-pub(crate) fn load_whole<D: Disk>(alloc: Global, pager: &mut Pager<D>) -> Result<Loaded, Refusal>
-    requires narrow { pager.old.most_clean ≡ MOST_CLEAN }
-    ensures rests { RestsAfter (IsTied D.Disk) (pager_store D.Disk) (KeepsBelow D.Disk) result pager.old pager.new }
-    ensures none_clean { pager.new.clean ≡ [] }
-    ensures loads { IsTied D.Disk pager.old → IfOk result (λ loaded. LoadsState (working D.Disk pager.old) loaded.file loaded.catalog loaded.referents) }
-    ensures damaged { IsTied D.Disk pager.old → result ≡ Err Refusal.DamagedFile → StandsForNone (working D.Disk pager.old) }
-    ensures file { IfOk result (λ loaded. IsAtRest loaded.file loaded.catalog) }
-    ensures refused { RefusesToLoad result }
-{
-    pager.widen();
-    let loaded = load_state(alloc, pager);
-    pager.narrow();
-    loaded
 }
 
 /// Opens and checks all that a file holds. Ok only where its pages stand for a state, which is then in memory; 94 only where they

@@ -3,7 +3,6 @@
 
 ghost use Rattle.std.specs.Prelude.{◌≡◌, ◌≢◌, ◌≤◌, ◌⊎◌, true, false, Err, IfErr, IfOk, IsTrue, MatchResult, OnOk};
 ghost use Rattle.rs_page.specs.declared.file_header.TheConstants.{FLAG_OFFSET};
-ghost use Rattle.rs_page_cache.specs.declared.clean.TheConstants.{MOST_CLEAN};
 ghost use Rattle.rs_pager.specs.Lasts.{KeepsMap};
 ghost use Rattle.rs_pager.specs.Maps.{committed, working, IsTied, KeepsBelow, KeepsMaps};
 ghost use Rattle.rs_pager.specs.Opened.{CountsFault};
@@ -12,7 +11,7 @@ ghost use Rattle.rs_store.specs.Kept.{IsAtRest};
 ghost use Rattle.rs_store.specs.Lasting.{Endures};
 ghost use Rattle.rs_store.specs.Loading.{LoadsState, StandsForNone, StandsForSome};
 
-use crate::loading::{Loaded, load_whole};
+use crate::loading::{Loaded, load_state};
 use crate::store::Store;
 use rs_disk::Disk;
 use rs_pager::Pager;
@@ -50,7 +49,6 @@ impl<D: Disk> Store<D> {
 /// The store over these pages, of which this is open and in memory.
 pub(crate) fn store_of<D: Disk>(pager: Pager<D>, loaded: Loaded) -> Store<D>
     requires shut { pager.is_begun ≡ false }
-    requires narrow { pager.most_clean ≡ MOST_CLEAN }
     requires rests { IsAtRest loaded.file loaded.catalog }
     ensures { result ≡ record { pager = pager; file = loaded.file; catalog = loaded.catalog; referents = loaded.referents } }
 {
@@ -71,14 +69,12 @@ pub(crate) fn store_of<D: Disk>(pager: Pager<D>, loaded: Loaded) -> Store<D>
 /// the pages stand for no state, and with 95 only where they do and are of version 1 and not closed. Nothing is written but to a file
 /// of version 1 that was closed and stands for a state.
 fn open_pages<D: Disk>(alloc: Global, pager: &mut Pager<D>) -> Result<Loaded, Refusal>
-    requires narrow { pager.old.most_clean ≡ MOST_CLEAN }
     requires shut { pager.old.is_begun ≡ false }
     ensures opens { OnOk result (OpensPages D.Disk pager.old pager.new) }
     ensures read { pager.old.is_header_changed ≡ false → KeepsBelow D.Disk pager.old pager.new }
     ensures endures { Endures D.Disk pager.old pager.new }
     ensures unclosed { IsTied D.Disk pager.old → KeepsBelow D.Disk pager.old pager.new
         ⊎ ((pager.old.is_header_changed ≡ true) × StandsForSome (working D.Disk pager.old) × ((D.seen pager.old.disk).byte FLAG_OFFSET ≡ 0)) }
-    ensures most_clean { pager.new.most_clean ≡ pager.old.most_clean }
     ensures shut { pager.new.is_begun ≡ pager.old.is_begun }
     ensures honesty { D.is_honest pager.new.disk ≡ D.is_honest pager.old.disk }
     ensures limit { pager.new.limit ≡ pager.old.limit }
@@ -93,7 +89,7 @@ fn open_pages<D: Disk>(alloc: Global, pager: &mut Pager<D>) -> Result<Loaded, Re
     ensures count { MatchResult result (λ _. D.failures pager.new.disk ≡ D.failures pager.old.disk)
         (λ why. CountsFault why (D.failures pager.old.disk) (D.failures pager.new.disk)) }
 {
-    let loaded = load_whole(alloc, pager)?;
+    let loaded = load_state(alloc, pager)?;
     migrate(pager)?;
     Ok(loaded)
 }
@@ -112,7 +108,6 @@ fn migrate<D: Disk>(pager: &mut Pager<D>) -> Result<(), Refusal>
     ensures honesty { D.is_honest pager.new.disk ≡ D.is_honest pager.old.disk }
     ensures limit { pager.new.limit ≡ pager.old.limit }
     ensures full { pager.new.full_refusals ≡ pager.old.full_refusals }
-    ensures most_clean { pager.new.most_clean ≡ pager.old.most_clean }
     ensures closed { IsTrue (D.is_honest pager.old.disk) → OnOk result (pager.old.is_header_changed ≡ true → (D.seen pager.old.disk).byte FLAG_OFFSET ≡ 0) }
     ensures open { IsTrue (D.is_honest pager.old.disk) → result ≡ Err Refusal.FileNotClosed
         → (pager.old.is_header_changed ≡ true) × ((D.seen pager.old.disk).byte FLAG_OFFSET ≢ 0) }

@@ -34,7 +34,7 @@ impl<D: Disk> Model for Store<D> {
 
     ghost view = { λ s. record { pager = s.pager; file = s.file; catalog = s.catalog; referents = s.referents } };
 
-    ghost invariant = { λ s. IsSound s.pager.is_begun s.pager.most_clean s.file s.catalog };
+    ghost invariant = { λ s. IsSound s.pager.is_begun s.file s.catalog };
 }
 
 impl<D: Disk> Store<D> {

@@ -6,7 +6,7 @@ use Rattle.std.specs.declared.alloc.Global.{Global}
 use Rattle.std.specs.declared.boxed.Box.{Box}
 use Rattle.lru.specs.LruCache.{LruCache, lru_cache, promoted}
 use Rattle.rs_page.specs.declared.page.Page.{Page}
-use Rattle.rs_page_cache.specs.Clean.{HeldClean, clean_at, has_number, kept_pages, spare_page}
+use Rattle.rs_page_cache.specs.Clean.{Clean, clean_at, has_number, kept_pages, spare_page}
 use Rattle.rs_page_cache.proofs.CleanLists.{held-kept, found-promoted, promoted-stays}
 use Rattle.rs_page_cache.proofs.clean.CleanPages.promote.Goals as goal
 
@@ -15,7 +15,7 @@ returns-else-is_number-clause-held c =
     let other : has_number c.self.inside.spare_number c.args.number ≡ false = search rules in
     let value : c.promote.result ≡ is_some (lookup (nat_eq c.args.number) c.self.inside.kept.entries) = search rules in
     value ∙ held-kept c.self.inside.spare_number c.self.inside.spare c.self.inside.kept.entries c.args.number other
-    ∙ ap (λ (all : HeldClean). is_some (clean_at all.pages c.args.number)) c.self.view_is
+    ∙ ap (λ (all : Clean). is_some (clean_at all c.args.number)) c.self.view_is
 
 pub returns-else-is_number-clause-there : goal.returns-else-is_number-clause-there
 returns-else-is_number-clause-there c = λ yes.
@@ -29,6 +29,6 @@ returns-else-is_number-clause-there c = λ yes.
 pub returns-else-is_number-clause-pages : goal.returns-else-is_number-clause-pages
 returns-else-is_number-clause-pages c = λ e there.
     let now : c.promote.new.self ≡ lru_cache (promoted (nat_eq c.args.number) c.self.inside.kept.entries) c.self.inside.kept.cap = search rules in
-    subst (λ (all : HeldClean). Contains all.pages e) c.self.view_is
+    subst (λ (all : Clean). Contains all e) c.self.view_is
     (promoted-stays c.self.inside.spare_number c.self.inside.spare c.self.inside.kept.entries c.args.number e
     (subst (λ (kept : LruCache ℕ (Box Page Global)). Contains (spare_page c.self.inside.spare_number c.self.inside.spare ++ kept_pages kept.entries) e) now there))

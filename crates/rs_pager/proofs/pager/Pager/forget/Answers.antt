@@ -1,6 +1,6 @@
 -- The clean pages are dropped.
 use Rattle.std.proofs.Common.{subst, sym}
-use Rattle.rs_page_cache.specs.Clean.{HeldClean}
+use Rattle.rs_page_cache.specs.Clean.{Clean}
 use Rattle.rs_pager.specs.Paged.{Paged}
 use Rattle.rs_pager.specs.Maps.{KeepsMaps}
 use Rattle.rs_pager.proofs.Keeping.{forgotten-keeps}
@@ -14,8 +14,7 @@ returns-clause-keeps g c =
       disk = i.disk;
       limit = i.limit;
       changes = i.changes;
-      clean = i.clean.pages;
-      most_clean = i.clean.most;
+      clean = i.clean;
       committed_fields = i.committed_fields;
       working = i.working;
       is_header_changed = i.is_header_changed;
@@ -23,5 +22,5 @@ returns-clause-keeps g c =
       full_refusals = i.full_refusals;
       under_way = i.under_way;
     } in
-    subst (λ (old : Paged _). KeepsMaps d old (record s { clean = c.clear.new.self.pages; most_clean = c.clear.new.self.most })) c.self.view_is
-    (subst (λ (clean : HeldClean). KeepsMaps d s (record s { clean = clean.pages; most_clean = clean.most })) (sym c.clear.ensures) (forgotten-keeps d s c.self.invariant))
+    subst (λ (old : Paged _). KeepsMaps d old (record s { clean = c.clear.new.self })) c.self.view_is
+    (subst (λ (clean : Clean). KeepsMaps d s (record s { clean = clean })) (sym c.clear.ensures) (forgotten-keeps d s c.self.invariant))

@@ -1,5 +1,5 @@
 -- The page may have been read.
-use Rattle.std.proofs.Common.{◌<◌, ℕ, subst, sym, arith}
+use Rattle.std.proofs.Common.{◌<◌, subst, arith}
 use Rattle.rs_pages.specs.Lending.{RestsAfter}
 use Rattle.rs_pager.specs.Paged.{Paged}
 use Rattle.rs_pager.specs.Maps.{pager_store, KeepsBelow, IsTied}
@@ -14,8 +14,7 @@ returns-clause-rests g c =
       disk = c.self.inside.disk;
       limit = c.self.inside.limit;
       changes = c.self.inside.changes;
-      clean = c.self.inside.clean.pages;
-      most_clean = c.self.inside.clean.most;
+      clean = c.self.inside.clean;
       committed_fields = c.self.inside.committed_fields;
       working = c.self.inside.working;
       is_header_changed = c.self.inside.is_header_changed;
@@ -24,12 +23,11 @@ returns-clause-rests g c =
       under_way = c.self.inside.under_way;
     } in
     let pos : 0 < c.args.number = omega arith in
-    subst (λ (old : Paged _). RestsAfter (IsTied d) (pager_store d) (KeepsBelow d) c.load.result old (record (with_clean s c.load.new.disk c.load.new.self.pages) { most_clean = c.load.new.self.most })) c.self.view_is
-    (subst (λ (most : ℕ). RestsAfter (IsTied d) (pager_store d) (KeepsBelow d) c.load.result s (record (with_clean s c.load.new.disk c.load.new.self.pages) { most_clean = most })) (sym c.load.ensures.most)
-    (clean-rests_after d c.args.number s c.load.new.disk c.load.new.self.pages pos (record {
+    subst (λ (old : Paged _). RestsAfter (IsTied d) (pager_store d) (KeepsBelow d) c.load.result old (with_clean s c.load.new.disk c.load.new.self)) c.self.view_is
+    (clean-rests_after d c.args.number s c.load.new.disk c.load.new.self pos (record {
       honesty = c.load.ensures.honesty;
       keeping = c.load.ensures.keeping;
       same = c.load.ensures.same;
       crash = c.load.ensures.crash;
       loads = c.load.ensures.loads;
-    }) c.load.result c.load.ensures.refused c.load.ensures.count))
+    }) c.load.result c.load.ensures.refused c.load.ensures.count)

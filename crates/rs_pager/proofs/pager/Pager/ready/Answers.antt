@@ -3,7 +3,7 @@ use Rattle.std.proofs.Common.{◌≡◌, ◌∙◌, [], OnOk, List, ap, subst, s
 use Rattle.rs_journal.proofs.Advancing.{on_ok_map}
 use Rattle.rs_journal.specs.declared.stage.Stage.{Stage}
 use Rattle.rs_journal.specs.declared.stage.Stage.TheVariants.{Fresh}
-use Rattle.rs_page_cache.specs.Clean.{HeldClean}
+use Rattle.rs_page_cache.specs.Clean.{Clean}
 use Rattle.rs_pager.specs.Maps.{CarriesOn, IsKept, IsTied}
 use Rattle.rs_pager.specs.Paged.{Paged}
 use Rattle.rs_pager.specs.SecondHeader.{IsSecondHeader}
@@ -20,8 +20,7 @@ returns-clause-carries g c =
       disk = i.disk;
       limit = i.limit;
       changes = i.changes;
-      clean = i.clean.pages;
-      most_clean = i.clean.most;
+      clean = i.clean;
       committed_fields = i.committed_fields;
       working = i.working;
       is_header_changed = i.is_header_changed;
@@ -34,8 +33,8 @@ returns-clause-carries g c =
     let still : u.stage ≡ Fresh = c.list.ensures.stage ∙ fresh in
     let header : IsSecondHeader u.first_page s.committed_fields = subst (λ (page : List _). IsSecondHeader page s.committed_fields) (sym c.list.ensures.first_page) c.second_page-first_page.ensures.header in
     let size : length u.first_page ≡ PAGE_SIZE = ap (λ (page : List _). length page) c.list.ensures.first_page ∙ c.second_page-first_page.ensures.size in
-    λ pages. subst (λ (old : Paged _). IsTied d old → IsKept d old pages → OnOk c.list.result (CarriesOn d (record s { clean = c.clear.new.self.pages; most_clean = c.clear.new.self.most; under_way = u }) pages)) c.self.view_is
+    λ pages. subst (λ (old : Paged _). IsTied d old → IsKept d old pages → OnOk c.list.result (CarriesOn d (record s { clean = c.clear.new.self; under_way = u }) pages)) c.self.view_is
     (λ tied is. on_ok_map c.list.result (λ lists.
-    subst (λ (clean : HeldClean). CarriesOn d (record s { clean = clean.pages; most_clean = clean.most; under_way = u }) pages) (sym c.clear.ensures)
+    subst (λ (clean : Clean). CarriesOn d (record s { clean = clean; under_way = u }) pages) (sym c.clear.ensures)
     (subst (λ (stage : Stage). CarriesOn d (record s { clean = []; under_way = record u { stage = stage } }) pages) (sym still)
     (ready_carries d s pages tied is c.self.invariant fresh u lists header size))) c.list.ensures.lists)

@@ -47,7 +47,6 @@ invariant_of-self-2 g c =
     let made = c.define_in_both-made in
     record {
       shut = c.settle.ensures.shut;
-      narrow = c.settle.ensures.most_clean ∙ made.ensures.leaves.keeps.most_clean ∙ c.begin_change.ensures.most_clean ∙ c.self.invariant.narrow;
       rests = rests_settled g.D.Disk made.result made.new.pages c.settle.new.pager (was g c).file made.new.file c.settle.new.file (was g c).catalog
           c.self.invariant.rests (room g c) made.ensures.opened.next made.ensures.opened.stays c.settle.ensures.settles;
     }

@@ -64,7 +64,6 @@ invariant_of-self-2 g c =
     let redefines = c.define_table_in_both-made.ensures.redefines in
     record {
       shut = c.settle.ensures.shut;
-      narrow = c.settle.ensures.most_clean ∙ redefines.rewrites.below.most_clean ∙ c.begin_change.ensures.most_clean ∙ c.self.invariant.narrow;
       rests = redefined_rests g.D.Disk (was g c) c.begin_change.new.pager made.new.pages c.settle.new.pager made.new.file c.settle.new.file (begun g c)
           c.args.oldest (PutsNumbered (number g c) (listing_of (next g c))) (next g c) made.result made.new.catalog redefines c.settle.ensures.settles c.self.invariant.rests (room g c) (columns_more (was g c).catalog.tables c.args.name.bytes (item g c) c.self.invariant.rests.columns c.requires.columns);
     }

@@ -58,7 +58,6 @@ invariant_of-self-2 g c =
     let redefines = (c.drop_route_from_all-made.ensures.redefines (one g c).0 (one g c).1) in
     record {
       shut = c.settle.ensures.shut;
-      narrow = c.settle.ensures.most_clean ∙ redefines.rewrites.below.most_clean ∙ c.begin_change.ensures.most_clean ∙ c.self.invariant.narrow;
       rests = redefined_rests g.D.Disk (was g c) c.begin_change.new.pager made.new.pages c.settle.new.pager made.new.file c.settle.new.file (begun g c)
           c.args.oldest (DropsRoute (one g c).0.number (listing_of (next g c))) (next g c) made.result made.new.catalog redefines c.settle.ensures.settles c.self.invariant.rests (room g c) c.self.invariant.rests.columns;
     }

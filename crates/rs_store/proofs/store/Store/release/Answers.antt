@@ -30,7 +30,6 @@ invariant_of-self-2 g c =
     let made = c.clear_only-made in
     record {
       shut = c.settle.ensures.shut;
-      narrow = c.settle.ensures.most_clean ∙ made.ensures.leaves.keeps.most_clean ∙ c.begin_change.ensures.most_clean ∙ c.self.invariant.narrow;
       rests = rests_released g.D.Disk made.result made.new.pages c.settle.new.pager (was g c).file made.new.file c.settle.new.file (was g c).catalog
           c.self.invariant.rests made.ensures.keeps made.ensures.may c.settle.ensures.settles;
     }
