@@ -1,10 +1,16 @@
--- Spans of which no two are one run stay so where some are left out, and where they are cut.
-use Rattle.std.proofs.Common.{◌≡◌, zero, suc, ◌≤◌, inl, inr, Bool, true, false, cond, List, [], ◌∷◌, map, filter, get_or, refl, sym, ap, ◌∙◌, subst, arith}
+-- Spans of which no two are one run stay so where some are left out, and where they are cut; maximal runs are such spans.
+use Rattle.std.proofs.Common.{◌≡◌, zero, suc, ◌+◌, ◌-◌, ◌<◌, ◌≤◌, inl, inr, Bool, true, false, cond, List, [], ◌∷◌, map, filter, get_or, Less, refl, sym, ap, ◌∙◌, subst, arith}
+use Rattle.std.proofs.lemmas.Bool.{cases_lt}
 use Rattle.std.proofs.lemmas.List.Elements.{Contains-get_or}
 use Rattle.std.specs.List.{AllByRecursion}
 use Rattle.rs_value.specs.declared.column.Kind.{Kind}
-use Rattle.rs_facts.specs.Runs.{Stretch}
+use Rattle.rs_value.specs.declared.column.Kind.TheVariants.{Point, Line}
+use Rattle.rs_facts.specs.Fact.{Places, contains}
+use Rattle.rs_facts.specs.Runs.{Stretch, stretch_cmp, AreOrdered, IsMaximalRun, AreRunsOf}
+use Rattle.rs_facts.specs.Spans.{gap_of}
+use Rattle.rs_facts.proofs.Rows.{row_cmp-less_apart}
 use Rattle.rs_facts.proofs.RunLaws.{IsApart, each-at, every-from_each}
+use Rattle.rs_facts.proofs.StretchOrder.{stretch_cmp-less}
 use Rattle.rs_coalesce.specs.Joined.{AreJoined}
 
 -- each apart from those after it
@@ -78,3 +84,32 @@ module _ (kind : Kind) (cut : Stretch → Stretch) (cuts : (span : Stretch) → 
 
   pub joined-cut : (spans : List Stretch) → AreJoined kind spans → AreJoined kind (map cut spans)
   joined-cut spans h = joined-from_separate kind (map cut spans) (separate_cut spans (separate-from_joined kind spans h))
+
+-- ---- maximal runs
+
+-- two of one row lie apart, since the row does not hold right before the second
+runs_before : (kind : Kind) (places : Places) (a b : Stretch) → IsMaximalRun kind places a → IsMaximalRun kind places b → a.row ≡ b.row → a.lo < b.lo → a.hi + gap_of kind ≤ b.lo
+runs_before Point places a b x y same first = let one = x.one in omega (arith, one, first)
+runs_before Line places a b x y same first = elim (cases_lt a.hi b.lo) [
+  | inl ended ↦ omega (arith, ended)
+  | inr reached ↦
+      let held : contains (places (b.lo - 1)) b.row ≡ true = subst (λ r. contains (places (b.lo - 1)) r ≡ true) same (x.holds (b.lo - 1) (omega (arith, first)) (omega (arith, first, reached))) in
+      let free : contains (places (b.lo - 1)) b.row ≡ false = y.not_before (b.lo - 1) (omega (arith, first)) in cc
+]
+
+runs_apart : (kind : Kind) (places : Places) (a b : Stretch) → IsMaximalRun kind places a → IsMaximalRun kind places b → stretch_cmp a b ≡ Less → IsApart kind a b
+runs_apart kind places a b x y less same = elim (stretch_cmp-less a b less) [
+  | inl first ↦ inl (runs_before kind places a b x y same first)
+  | inr beside ↦ absurd (row_cmp-less_apart a.row b.row beside.1 same)
+]
+
+after_apart : (kind : Kind) (places : Places) (one : Stretch) (runs : List Stretch) → IsMaximalRun kind places one → AllByRecursion (λ later. stretch_cmp one later ≡ Less) runs → AllByRecursion (IsMaximalRun kind places) runs → AllByRecursion (IsApart kind one) runs
+after_apart kind places one [] is later all = tt
+after_apart kind places one (x ∷ xs) is later all = (runs_apart kind places one x is all.0 later.0, after_apart kind places one xs is later.1 all.1)
+
+separate_runs : (kind : Kind) (places : Places) (runs : List Stretch) → AreOrdered runs → AllByRecursion (IsMaximalRun kind places) runs → AreSeparate kind runs
+separate_runs kind places [] ordered all = tt
+separate_runs kind places (x ∷ xs) ordered all = (after_apart kind places x xs all.0 ordered.0 all.1, separate_runs kind places xs ordered.1 all.1)
+
+pub joined-from_runs : (kind : Kind) (places : Places) (runs : List Stretch) → AreRunsOf kind places runs → AreJoined kind runs
+joined-from_runs kind places runs are = joined-from_separate kind runs (separate_runs kind places runs are.ordered are.maximal)

@@ -10,7 +10,6 @@ use Rattle.rs_facts.specs.Runs.{Stretch}
 use Rattle.rs_facts.specs.Spans.{seen, places_of, ArePlaced}
 use Rattle.rs_facts.proofs.SpanLaws.{places_of-permutation}
 use Rattle.rs_coalesce.specs.Joined.{AreJoined}
-use Rattle.rs_coalesce.proofs.Separate.{joined-from_separate}
 use Rattle.rs_planning.specs.Conjuncts.{meets_each}
 use Rattle.rs_planning.specs.Plan.{met_by_each}
 use Rattle.rs_plan.specs.PlanView.{conditions_of}
@@ -77,7 +76,3 @@ module _ (stands : Snapshots → Type 0) (version route : ℕ) (leaf : Leaf) whe
         ∙ sym (ap (met_by_each (conditions_of leaf.conditions)) (off.nothing k ((snapshots version).rows (table_of leaf.table) route k)) ∙ met-nothing (conditions_of leaf.conditions));
     shaped = none-shaped leaf.table.kind leaf.table.width made bare;
   }
-
--- of no spans no two are one run
-pub none-joined : (kind : Kind) (made : Vec Span Global) → made.items ≡ [] → AreJoined kind (map seen made.items)
-none-joined kind made bare = subst (λ (spans : List Span). AreJoined kind (map seen spans)) (sym bare) (joined-from_separate kind [] tt)

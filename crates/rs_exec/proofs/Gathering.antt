@@ -10,6 +10,7 @@ use Rattle.rs_facts.specs.Operators.{merged, carried}
 use Rattle.rs_facts.specs.Runs.{Stretch, AreRunsOf}
 use Rattle.rs_facts.specs.Spans.{seen, places_of, ArePlaced}
 use Rattle.rs_plan.specs.declared.plan.PlannedPiece.{PlannedPiece}
+use Rattle.rs_coalesce.proofs.Separate.{joined-from_runs}
 use Rattle.rs_sweep.specs.Lists.{AreWide}
 use Rattle.rs_exec.specs.declared.carrying.Sources.{Sources}
 use Rattle.rs_exec.specs.Meaning.{goes_forwards, carried_by, transformed}
@@ -119,4 +120,5 @@ module _ (sources : Sources) (route : ℕ) where
     sorted = runs-sorted (map seen runs.items) made.ordered;
     placed = placed;
     wide = λ width each. runs-wide sources.kind width old (map seen runs.items) (all.wide width each) made.maximal;
+    joined = joined-from_runs sources.kind (places_of old) (map seen runs.items) made;
   }

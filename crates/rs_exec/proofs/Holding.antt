@@ -8,6 +8,7 @@ use Rattle.std.specs.List.{AllZip, AllByRecursion, list_all, zip}
 use Rattle.rs_value.specs.declared.column.Kind.{Kind}
 use Rattle.rs_value.specs.declared.column.Kind.TheVariants as kinds
 use Rattle.rs_value.specs.declared.column.TheConstants.{COLUMNS}
+use Rattle.rs_coalesce.specs.Joined.{AreJoined}
 use Rattle.rs_facts.specs.declared.fact.Span.{Span}
 use Rattle.rs_facts.specs.Fact.{RowSet}
 use Rattle.rs_facts.specs.Operators.{overlaid, dissolved, mapped, chosen}
@@ -33,8 +34,9 @@ use Rattle.rs_exec.specs.Joined.{HasRuns, IsOfKind}
 use Rattle.rs_exec.specs.Pairs.{FitTogether, CanPair, IsPaired, ArePaired}
 use Rattle.rs_exec.specs.Routes.{IsInOrder, HasNone, AreNone, AllAreNone, IsShaped}
 use Rattle.rs_exec.specs.Windows.{AreOff, IsSeenOn, IsSpread}
-use Rattle.rs_exec.specs.Held.{HoldsRows, AreRowsOf, AreHeld, CanOverlay, IsLaidOver, AreLaidOver, IsBeside, AreBeside}
+use Rattle.rs_exec.specs.Held.{HoldsRows, AreRowsOf, AreHeld, AreJoinedIn, CanOverlay, IsLaidOver, AreLaidOver, IsBeside, AreBeside}
 use Rattle.rs_exec.proofs.InPlace.{rows-stay}
+use Rattle.rs_exec.proofs.JoinedRows.{none-joined}
 use Rattle.rs_exec.proofs.Lists.{zip-weaker, zip-where, zip-length}
 use Rattle.rs_exec.proofs.Pairing.{runs-shaped}
 use Rattle.rs_exec.proofs.RowLaws.{overlaid-nothing}
@@ -62,7 +64,7 @@ earlier was is version plan numbers rows stands held =
 pub laid-earlier : (was is : Snapshots → Type 0) (version : ℕ) (kind : Kind) (plans : List PlanMeaning) (numbers : List ℕ) (old new : List (Vec Span Global)) → ((snapshots : Snapshots) → was snapshots → is snapshots) → AreLaidOver is version kind plans numbers old new → AreLaidOver was version kind plans numbers old new
 laid-earlier was is version kind plans numbers old new stands laid =
     zip-weaker (IsLaidOver is version kind plans) (IsLaidOver was version kind plans) (zip numbers old) new
-    (λ pair each holds. record { means = λ snapshots there k. holds.means snapshots (stands snapshots there) k; shaped = holds.shaped }) laid
+    (λ pair each holds. record { means = λ snapshots there k. holds.means snapshots (stands snapshots there) k; shaped = holds.shaped; joined = λ snapshots there. holds.joined snapshots (stands snapshots there) }) laid
 
 pub shaped-length : (kind : Kind) (width : ℕ) (numbers : List ℕ) (rows : List (Vec Span Global)) → EachIsShaped kind width numbers rows → length rows ≡ length numbers
 shaped-length kind width numbers rows shaped = sym (zip-length (λ (number : ℕ) each. IsShaped kind width each) numbers rows shaped)
@@ -102,12 +104,11 @@ module _ (stands : Snapshots → Type 0) (version : ℕ) where
   changed-held change plan (number ∷ numbers) (o ∷ old) [] all held = absurd all
   changed-held change plan (number ∷ numbers) (o ∷ old) (n ∷ new) all held = (changed-step stands version number change plan o n held.0 all.0, changed-held change plan numbers old new all.1 held.1)
 
-  pub of-kind : (change : Change) (plan : PlanMeaning) (kind : Kind) (numbers : List ℕ) (rows : List (Vec Span Global)) → kind ≡ plan.kind → AreHeld stands version (changed_meaning change plan) numbers rows → AllByRecursion (IsOfKind kind) rows
-  of-kind change plan kind [] [] same held = tt
-  of-kind change plan kind [] (each ∷ rows) same held = absurd held
-  of-kind change plan kind (number ∷ numbers) [] same held = tt
-  of-kind change plan kind (number ∷ numbers) (each ∷ rows) same held =
-      (subst (λ p. IsOfKind p each) (sym (same ∙ sym (changed_kind change plan))) held.0.shaped.placed, of-kind change plan kind numbers rows same held.1)
+  pub of-kind : (plan : PlanMeaning) (kind : Kind) (numbers : List ℕ) (rows : List (Vec Span Global)) → kind ≡ plan.kind → AreHeld stands version plan numbers rows → AllByRecursion (IsOfKind kind) rows
+  of-kind plan kind [] [] same held = tt
+  of-kind plan kind [] (each ∷ rows) same held = absurd held
+  of-kind plan kind (number ∷ numbers) [] same held = tt
+  of-kind plan kind (number ∷ numbers) (each ∷ rows) same held = (subst (λ p. IsOfKind p each) (sym same) held.0.shaped.placed, of-kind plan kind numbers rows same held.1)
 
   runs-one : (plan : PlanMeaning) (number : ℕ) (old new : Vec Span Global) → HasRuns plan.kind old new → HoldsRows stands version plan number old → HoldsRows stands version plan number new
   runs-one plan number old new are holds = record {
@@ -149,6 +150,7 @@ module _ (stands : Snapshots → Type 0) (version : ℕ) where
     shaped = λ width shape.
         let same : width ≡ width + 0 = omega arith in
         subst (λ w. IsShaped (overlaid_kind kind kinds.Line) w rows) same (subst (λ p. IsShaped p width rows) (sym (line_last kind)) shape);
+    joined = λ snapshots there width shape apart. subst (λ p. AreJoined p (map seen rows.items)) (sym (line_last kind)) apart;
   }
 
   -- no further operand
@@ -164,6 +166,7 @@ module _ (stands : Snapshots → Type 0) (version : ℕ) where
         none-means rows k bare
         ∙ sym (ap (λ x. overlaid x (rows_together plans (snapshots version) number k)) (none-means rows k bare) ∙ overlaid-nothing (rows_together plans (snapshots version) number k));
     shaped = λ width shape. none-shaped (overlaid_kind kind (kinds_together plans)) (width + widths_together plans) rows bare;
+    joined = λ snapshots there width shape apart. none-joined (overlaid_kind kind (kinds_together plans)) rows bare;
   }
 
   -- no rows are left
@@ -185,6 +188,9 @@ module _ (stands : Snapshots → Type 0) (version : ℕ) where
         let same : (width + next.width) + widths_together others ≡ width + (next.width + widths_together others) = omega arith in
         subst (λ w. IsShaped (overlaid_kind kind (overlaid_kind next.kind (kinds_together others))) w new) same
         (subst (λ p. IsShaped p ((width + next.width) + widths_together others) new) (kind_assoc kind next.kind (kinds_together others)) all);
+    joined = λ snapshots there width shape apart.
+        subst (λ p. AreJoined p (map seen new.items)) (kind_assoc kind next.kind (kinds_together others))
+        (later.joined snapshots there (width + next.width) (is.shaped width shape) (is.joined snapshots there width shape apart));
   }
 
   -- one operand more
@@ -198,21 +204,22 @@ module _ (stands : Snapshots → Type 0) (version : ℕ) where
   laid-next next others p m (number ∷ numbers) (o ∷ old) (q ∷ laid) (n ∷ new) shaped is later =
       (laid_next-one p next others number o q n is.0 later.0, laid-next next others p m numbers old laid new shaped.1 is.1 later.1)
 
-  pub beside-one : (kind : Kind) (next : PlanMeaning) (number : ℕ) (old : Vec Span Global) (upper : List Stretch) (new : Vec Span Global) → AreRowsOf stands version next number upper → ArePaired pairings.Overlay (record { left = kind; right = next.kind }) (map seen old.items, upper) (map seen new.items) → IsBeside stands version kind next (number, old) new
-  beside-one kind next number old upper new held is = record {
+  pub beside-one : (kind : Kind) (next : PlanMeaning) (number : ℕ) (old : Vec Span Global) (upper : List Stretch) (new : Vec Span Global) → AreRowsOf stands version next number upper → ((snapshots : Snapshots) → stands snapshots → AreJoined next.kind upper) → ArePaired pairings.Overlay (record { left = kind; right = next.kind }) (map seen old.items, upper) (map seen new.items) → IsBeside stands version kind next (number, old) new
+  beside-one kind next number old upper new held joined is = record {
     means = λ snapshots there k. is.means k ∙ ap (overlaid (places_of (map seen old.items) k)) (held.means snapshots there k);
     shaped = λ width shape. record { sorted = is.sorted; placed = is.placed tt shape.placed held.shaped.placed; wide = is.wide width next.width tt shape.wide held.shaped.wide };
+    joined = λ snapshots there width shape apart. is.joined width next.width tt shape.wide held.shaped.wide apart (joined snapshots there);
   }
 
-  pub beside-held : (kind : Kind) (next : PlanMeaning) (numbers : List ℕ) (old rights new : List (Vec Span Global)) → AreHeld stands version next numbers rights → AllZip (IsPaired pairings.Overlay (record { left = kind; right = next.kind })) (zip old rights) new → length old ≡ length numbers → AreBeside stands version kind next numbers old new
-  beside-held kind next [] [] [] [] held all same = tt
-  beside-held kind next [] [] [] (n ∷ new) held all same = absurd all
-  beside-held kind next [] (o ∷ old) [] new held all same = absurd (omega (arith, same))
-  beside-held kind next [] old (r ∷ rights) new held all same = absurd held
-  beside-held kind next (number ∷ numbers) old [] new held all same = absurd held
-  beside-held kind next (number ∷ numbers) [] (r ∷ rights) new held all same = absurd (omega (arith, same))
-  beside-held kind next (number ∷ numbers) (o ∷ old) (r ∷ rights) [] held all same = absurd all
-  beside-held kind next (number ∷ numbers) (o ∷ old) (r ∷ rights) (n ∷ new) held all same = (beside-one kind next number o (map seen r.items) n held.0 all.0, beside-held kind next numbers old rights new held.1 all.1 (omega (arith, same)))
+  pub beside-held : (kind : Kind) (next : PlanMeaning) (numbers : List ℕ) (old rights new : List (Vec Span Global)) → AreHeld stands version next numbers rights → AreJoinedIn stands next.kind rights → AllZip (IsPaired pairings.Overlay (record { left = kind; right = next.kind })) (zip old rights) new → length old ≡ length numbers → AreBeside stands version kind next numbers old new
+  beside-held kind next [] [] [] [] held joined all same = tt
+  beside-held kind next [] [] [] (n ∷ new) held joined all same = absurd all
+  beside-held kind next [] (o ∷ old) [] new held joined all same = absurd (omega (arith, same))
+  beside-held kind next [] old (r ∷ rights) new held joined all same = absurd held
+  beside-held kind next (number ∷ numbers) old [] new held joined all same = absurd held
+  beside-held kind next (number ∷ numbers) [] (r ∷ rights) new held joined all same = absurd (omega (arith, same))
+  beside-held kind next (number ∷ numbers) (o ∷ old) (r ∷ rights) [] held joined all same = absurd all
+  beside-held kind next (number ∷ numbers) (o ∷ old) (r ∷ rights) (n ∷ new) held joined all same = (beside-one kind next number o (map seen r.items) n held.0 joined.0 all.0, beside-held kind next numbers old rights new held.1 joined.1 all.1 (omega (arith, same)))
 
   -- the first operand, and those laid over it
   pub together-laid : (first : PlanMeaning) (others : List PlanMeaning) (numbers : List ℕ) (old new : List (Vec Span Global)) → AreHeld stands version first numbers old → AreLaidOver stands version first.kind others numbers old new → AreHeld stands version (together_meaning (first ∷ others)) numbers new

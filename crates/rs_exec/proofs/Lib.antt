@@ -4,6 +4,7 @@ mod RowLaws
 mod CarriedSpans
 mod WindowLaws
 mod Steps
+mod JoinedRows
 mod Finding
 mod Gathering
 mod Leading

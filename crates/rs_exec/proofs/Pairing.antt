@@ -7,6 +7,8 @@ use Rattle.rs_facts.specs.Runs.{Stretch, stretch_cmp, AreOrdered}
 use Rattle.rs_facts.specs.Spans.{places_of, ArePlaced}
 use Rattle.rs_facts.proofs.KeptLaws.{every-weaker}
 use Rattle.rs_facts.proofs.StretchOrder.{stretch_cmp-less}
+use Rattle.rs_coalesce.specs.Joined.{AreJoined}
+use Rattle.rs_coalesce.proofs.Separate.{joined-from_runs}
 use Rattle.rs_sweep.specs.Lists.{AreSorted, AreWide}
 use Rattle.rs_exec.specs.declared.pairs.Kinds.{Kinds}
 use Rattle.rs_exec.specs.declared.pairs.Pairing.{Pairing}
@@ -20,12 +22,14 @@ module _ (kinds : Kinds) (lower upper made : List Stretch) (sorted : AreSorted m
   pub overlay-paired : ((k : ℕ) → places_of made k ≡ overlaid (places_of lower k) (places_of upper k))
       → ((p q : Kind) → ArePlaced p lower → ArePlaced q upper → ArePlaced (overlaid_kind p q) made)
       → ((m n : ℕ) → AreWide m lower → AreWide n upper → AreWide (m + n) made)
+      → ((p q : Kind) (m n : ℕ) → AreWide m lower → AreWide n upper → AreJoined p lower → AreJoined q upper → AreJoined (overlaid_kind p q) made)
       → ArePaired pairings.Overlay kinds (lower, upper) made
-  overlay-paired means placed wide = record {
+  overlay-paired means placed wide joined = record {
     means = means;
     sorted = sorted;
     placed = λ suit one two. placed kinds.left kinds.right one two;
     wide = λ m n suit one two. wide m n one two;
+    joined = λ m n keeps one two. joined kinds.left kinds.right m n one two;
   }
 
   -- the widths as the code has them
@@ -38,6 +42,7 @@ module _ (kinds : Kinds) (lower upper made : List Stretch) (sorted : AreSorted m
     sorted = sorted;
     placed = λ same one two. placed kinds.left one (subst (λ kind. ArePlaced kind upper) (sym same) two);
     wide = λ a b suit one two. subst (λ w. AreWide w made) (λ i. pm i + qn i) wide;
+    joined = λ a b keeps one two. absurd keeps;
   }
 
   pub merge-paired : ((k : ℕ) → places_of made k ≡ merged (places_of lower k) (places_of upper k))
@@ -49,6 +54,7 @@ module _ (kinds : Kinds) (lower upper made : List Stretch) (sorted : AreSorted m
     sorted = sorted;
     placed = λ same one two. placed kinds.left one (subst (λ kind. ArePlaced kind upper) (sym same) two);
     wide = λ m n same one two. wide m one (subst (λ w. AreWide w upper) (sym same) two);
+    joined = λ m n keeps one two. absurd keeps;
   }
 
   pub minus-paired : ((k : ℕ) → places_of made k ≡ without (places_of lower k) (places_of upper k))
@@ -60,6 +66,7 @@ module _ (kinds : Kinds) (lower upper made : List Stretch) (sorted : AreSorted m
     sorted = sorted;
     placed = λ suit one two. placed kinds.left one;
     wide = λ m n suit one two. wide m one;
+    joined = λ m n keeps one two. absurd keeps;
   }
 
 -- ---- operands as their maximal runs
@@ -99,4 +106,6 @@ runs-paired pairing kinds left right lower upper one other made first second e f
       sorted = is.sorted;
       placed = λ suit h l. is.placed suit (subst (ArePlaced kinds.left) (sym e) first.placed) (subst (ArePlaced kinds.right) (sym f) second.placed);
       wide = λ m n suit h l. is.wide m n suit (subst (AreWide m) (sym e) (runs-wide kinds.left m left lower h first.runs.maximal)) (subst (AreWide n) (sym f) (runs-wide kinds.right n right upper l second.runs.maximal));
+      joined = λ m n keeps h l p q. is.joined m n keeps (subst (AreWide m) (sym e) (runs-wide kinds.left m left lower h first.runs.maximal)) (subst (AreWide n) (sym f) (runs-wide kinds.right n right upper l second.runs.maximal))
+          (subst (AreJoined kinds.left) (sym e) (joined-from_runs kinds.left (places_of left) lower first.runs)) (subst (AreJoined kinds.right) (sym f) (joined-from_runs kinds.right (places_of right) upper second.runs));
     }

@@ -2,6 +2,7 @@
 use Rattle.std.specs.Prelude.{◌≡◌, ℕ, ◌==◌, Bool, true, false, ◌&&◌, nat_lt, List, [], ◌∷◌, map, length, Vec, if◌then◌else◌}
 use Rattle.std.specs.List.{AllByRecursion, list_any}
 use Rattle.std.specs.declared.alloc.Global.{Global}
+use Rattle.rs_coalesce.specs.Joined.{AreJoined}
 use Rattle.rs_facts.specs.declared.fact.Span.{Span}
 use Rattle.rs_facts.specs.Fact.{Places, none}
 use Rattle.rs_facts.specs.Operators.{merged}
@@ -69,3 +70,4 @@ pub record IsCarried (sources : Sources) (route : ℕ) (rows : Vec Span Global) 
   pub sorted : AreSorted (map seen rows.items)
   pub placed : ArePlaced sources.kind (map seen rows.items)
   pub wide : (width : ℕ) → AreAllWide width (list_of sources.rows.now) → AreWide width (map seen rows.items)
+  pub joined : AreJoined sources.kind (map seen rows.items)

@@ -3,6 +3,7 @@ use Rattle.std.specs.Prelude.{◌≡◌, ◌≤◌, ◌+◌, ℕ, List, [], ◌�
 use Rattle.std.specs.declared.alloc.Global.{Global}
 use Rattle.rs_value.specs.declared.column.Kind.{Kind}
 use Rattle.rs_value.specs.declared.column.TheConstants.{COLUMNS}
+use Rattle.rs_coalesce.specs.Joined.{AreJoined}
 use Rattle.rs_facts.specs.declared.fact.Span.{Span}
 use Rattle.rs_facts.specs.ConditionView.{condition_of}
 use Rattle.rs_facts.specs.Fact.{RowSet}
@@ -26,12 +27,18 @@ abbrev pub IsNarrow : Change → Type 0
 IsNarrow (changes.Where conditions) = Unit {0}
 IsNarrow (changes.Dissolve columns) = length columns.now ≤ COLUMNS
 
+-- rows that stay as they are stay apart
+abbrev pub KeepsJoined : Change → Type 0
+KeepsJoined (changes.Where conditions) = Unit {0}
+KeepsJoined (changes.Dissolve columns) = ⊥
+
 -- what the operator makes of the one list of spans is the other
 pub record IsChanged (change : Change) (old new : Vec Span Global) : Type 0 where
   pub means : (k : ℕ) → places_of (map seen new.items) k ≡ changed_rows change (places_of (map seen old.items) k)
   pub sorted : AreSorted (map seen new.items)
   pub placed : (kind : Kind) → ArePlaced kind (map seen old.items) → ArePlaced kind (map seen new.items)
   pub wide : (width : ℕ) → AreWide width (map seen old.items) → AreWide (changed_width change width) (map seen new.items)
+  pub joined : (kind : Kind) → KeepsJoined change → AreJoined kind (map seen old.items) → AreJoined kind (map seen new.items)
 
 -- these are the numbers from this one on, in their order
 abbrev pub AreFrom : ℕ → List ℕ → Type 0

@@ -13,21 +13,20 @@ ghost use Rattle.rs_exec.specs.Snapshot.{Snapshots};
 ghost use Rattle.rs_exec.specs.Meaning.{rows_in, kind_in, width_in, is_well_formed, overlay_meaning, transform_meaning, window_meaning, gaps_meaning};
 ghost use Rattle.rs_exec.specs.Leaving.{EndsWith};
 ghost use Rattle.rs_exec.specs.Operand.{operand_meaning, operands_meaning, together_meaning, changed_meaning, paired_meaning};
-ghost use Rattle.rs_exec.specs.Held.{AreEvaluated, AreLaidOver, AreBeside, CanOverlay};
+ghost use Rattle.rs_exec.specs.Held.{AreEvaluated, AreJoinedOn, AreLaidOver, AreBeside, CanOverlay};
 ghost use Rattle.rs_exec.specs.Routes.{numbers_of, list_of};
 
 use crate::carrying::{Sources, carried_on, sources_of};
 use crate::changes::{Change, are_in_order, changed_on};
 use crate::complements::gaps_on;
 use crate::joined::runs_on;
-use crate::kinds::{kind_of, overlaid_kind};
-use crate::leaves::{leaf_on, leaf_runs};
+use crate::kinds::overlaid_kind;
+use crate::leaves::leaf_on;
 use crate::operand::{Node, Operand, Operands};
 use crate::pairs::{Kinds, Pairing, paired_on};
 use crate::routes::{Routes, RowsOn, are_none, none_on};
 use crate::source::Source;
 use crate::windows::{cut, part_seen, spread_on};
-use rs_coalesce::runs;
 use rs_facts::Span;
 use rs_plan::{Plan, PlannedPiece, PlannedWindow};
 use rs_refusal::Refusal;
@@ -52,16 +51,15 @@ pub fn eval<S: Source>(
     ensures passes { S.passes source.old source.new }
     ensures wants { IfErr result (λ why. S.wants why source.old source.new) }
 {
-    if let Plan::Leaf(leaf) = plan {
-        return leaf_runs(alloc, source, version, route, leaf);
-    }
     let alone = Routes {
         version,
         first: route,
         others: &[],
     };
     let rows = rows_on(alloc, source, alone, Operand::of(plan))?;
-    Ok(runs(kind_of(plan), rows.first))
+    let mut spans = rows.first;
+    rs_coalesce::sort_by_place(&mut spans);
+    Ok(spans)
 }
 
 /// The rows of a plan on each of the routes. The plan is given away, and so is each of its operands: a second evaluation
@@ -75,6 +73,7 @@ fn rows_on<S: Source>(
 ) -> Result<RowsOn, Refusal>
     requires well_formed { (operand_meaning operand).is_well_formed ≡ true }
     ensures held { IfOk result (AreEvaluated S.Source source.old routes.entry (operand_meaning operand.entry)) }
+    ensures joined { IfOk result (AreJoinedOn S.Source source.old (operand_meaning operand.entry).kind) }
     ensures ends { EndsWith S.Source source.old source.new result }
 {
     match operand.node() {
@@ -102,6 +101,7 @@ fn changed_rows<S: Source>(
     requires well_formed { (changed_meaning change (operand_meaning operand)).is_well_formed ≡ true }
     ensures held { IfOk result (AreEvaluated S.Source source.old routes.entry
         (changed_meaning change.entry (operand_meaning operand.entry))) }
+    ensures joined { IfOk result (AreJoinedOn S.Source source.old (changed_meaning change.entry (operand_meaning operand.entry)).kind) }
     ensures ends { EndsWith S.Source source.old source.new result }
 {
     let kind = operand.kind();
@@ -129,6 +129,7 @@ fn paired_rows<S: Source>(
     requires well_formed { (paired_meaning pairing (operand_meaning left) (operand_meaning right)).is_well_formed ≡ true }
     ensures held { IfOk result (AreEvaluated S.Source source.old routes.entry
         (paired_meaning pairing (operand_meaning left.entry) (operand_meaning right.entry))) }
+    ensures joined { IfOk result (AreJoinedOn S.Source source.old (paired_meaning pairing (operand_meaning left.entry) (operand_meaning right.entry)).kind) }
     ensures ends { EndsWith S.Source source.old source.new result }
 {
     let kinds = Kinds {
@@ -138,7 +139,8 @@ fn paired_rows<S: Source>(
     let left_rows = rows_on(alloc, source, routes, left)?;
     let right_rows = rows_on(alloc, source, routes, right)?;
     let paired = paired_on(alloc, pairing, kinds, left_rows, right_rows)?;
-    Ok(paired)
+    let joined = runs_on(alloc, kinds.made_by(pairing), paired)?;
+    Ok(joined)
 }
 
 /// The rows of several operands side by side, on each of the routes, each column where it belongs.
@@ -153,8 +155,10 @@ fn overlaid_rows<S: Source>(
     requires well_formed { (overlay_meaning back.now (operands_meaning operands)).is_well_formed ≡ true }
     ensures held { IfOk result (AreEvaluated S.Source source.old routes.entry
         (overlay_meaning back.now (operands_meaning operands.entry))) }
+    ensures joined { IfOk result (AreJoinedOn S.Source source.old (overlay_meaning back.now (operands_meaning operands.entry)).kind) }
     ensures ends { EndsWith S.Source source.old source.new result }
 {
+    let kind = operands.kind();
     let Some((first, others)) = operands.next() else {
         let none = none_on(alloc, routes)?;
         return Ok(none);
@@ -164,7 +168,8 @@ fn overlaid_rows<S: Source>(
         return Ok(overlaid);
     }
     let put_back = changed_on(alloc, Change::Dissolve(back), overlaid)?;
-    Ok(put_back)
+    let joined = runs_on(alloc, kind, put_back)?;
+    Ok(joined)
 }
 
 /// The rows of an operand and of those after it side by side, on each of the routes.
@@ -179,6 +184,7 @@ fn rows_together<S: Source>(
     requires well_formed { (together_meaning (operand_meaning first ∷ operands_meaning others)).is_well_formed ≡ true }
     ensures held { IfOk result (AreEvaluated S.Source source.old routes.entry
         (together_meaning (operand_meaning first.entry ∷ operands_meaning others.entry))) }
+    ensures joined { IfOk result (AreJoinedOn S.Source source.old (together_meaning (operand_meaning first.entry ∷ operands_meaning others.entry)).kind) }
     ensures ends { EndsWith S.Source source.old source.new result }
 {
     let kind = first.kind();
@@ -250,6 +256,7 @@ fn seen_rows<S: Source>(
     requires well_formed { (window_meaning windows.now (operand_meaning operand)).is_well_formed ≡ true }
     ensures held { IfOk result (AreEvaluated S.Source source.old routes.entry
         (window_meaning windows.now (operand_meaning operand.entry))) }
+    ensures joined { IfOk result (AreJoinedOn S.Source source.old (window_meaning windows.now (operand_meaning operand.entry)).kind) }
     ensures ends { EndsWith S.Source source.old source.new result }
 {
     let Some((route, part)) = part_seen(windows, routes) else {
@@ -281,6 +288,7 @@ fn carried_rows<S: Source>(
     requires well_formed { (transform_meaning pieces.now (operand_meaning operand)).is_well_formed ≡ true }
     ensures held { IfOk result (AreEvaluated S.Source source.old routes.entry
         (transform_meaning pieces.now (operand_meaning operand.entry))) }
+    ensures joined { IfOk result (AreJoinedOn S.Source source.old (transform_meaning pieces.now (operand_meaning operand.entry)).kind) }
     ensures ends { EndsWith S.Source source.old source.new result }
 {
     let numbers = sources_of(alloc, pieces, routes)?;
@@ -315,9 +323,11 @@ fn gaps_rows<S: Source>(
 ) -> Result<RowsOn, Refusal>
     requires well_formed { (gaps_meaning (operand_meaning operand)).is_well_formed ≡ true }
     ensures held { IfOk result (AreEvaluated S.Source source.old routes.entry (gaps_meaning (operand_meaning operand.entry))) }
+    ensures joined { IfOk result (AreJoinedOn S.Source source.old (gaps_meaning (operand_meaning operand.entry)).kind) }
     ensures ends { EndsWith S.Source source.old source.new result }
 {
     let rows = rows_on(alloc, source, routes, operand)?;
     let gaps = gaps_on(alloc, source, routes, rows)?;
-    Ok(gaps)
+    let joined = runs_on(alloc, Kind::Line, gaps)?;
+    Ok(joined)
 }

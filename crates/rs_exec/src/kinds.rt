@@ -28,7 +28,7 @@ pub fn kind_of(plan: &Plan) -> Kind
 
 /// The kind of the rows of an OVERLAY of these operands.
 #[cycle(kinds)]
-fn kind_together(operands: &[Plan]) -> Kind
+pub(crate) fn kind_together(operands: &[Plan]) -> Kind
     ensures { result ≡ kinds_together (map meaning_of operands.now) }
 {
     let mut kind = Kind::Line;

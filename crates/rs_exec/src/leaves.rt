@@ -5,17 +5,13 @@ ghost use Rattle.rs_value.specs.Row.{Row};
 ghost use Rattle.rs_value.specs.View.{literal_datum};
 ghost use Rattle.rs_facts.specs.Condition.{meets};
 ghost use Rattle.rs_facts.specs.ConditionView.{condition_of};
-ghost use Rattle.rs_coalesce.specs.Joined.{AreJoined};
-ghost use Rattle.rs_facts.specs.Runs.{AreRunsOf};
-ghost use Rattle.rs_facts.specs.Spans.{seen, ArePlaced};
-ghost use Rattle.rs_sweep.specs.Lists.{AreWide};
+ghost use Rattle.rs_facts.specs.Spans.{seen};
 ghost use Rattle.rs_planning.specs.Conjuncts.{meets_each};
 ghost use Rattle.rs_exec.specs.Given.{has_datum, has_value};
 ghost use Rattle.rs_exec.specs.Found.{AreFound};
 ghost use Rattle.rs_exec.specs.Leaving.{EndsWith};
 ghost use Rattle.rs_exec.specs.Meaning.{leaf_meaning};
-ghost use Rattle.rs_exec.specs.Held.{HoldsRows, AreHeld, AreEvaluated};
-ghost use Rattle.rs_exec.specs.Snapshot.{Snapshots};
+ghost use Rattle.rs_exec.specs.Held.{HoldsRows, AreHeld, AreEvaluated, IsJoinedIn, AreJoinedIn, AreJoinedOn};
 
 use crate::changes::select_each;
 use crate::routes::{Routes, RowsOn};
@@ -36,6 +32,7 @@ pub(crate) fn leaf_on<S: Source>(
     leaf: &Leaf,
 ) -> Result<RowsOn, Refusal>
     ensures held { IfOk result (AreEvaluated S.Source source.old routes.entry (leaf_meaning leaf.now)) }
+    ensures joined { IfOk result (AreJoinedOn S.Source source.old leaf.now.table.kind) }
     ensures ends { EndsWith S.Source source.old source.new result }
 {
     let first = leaf_rows(alloc, source, routes.version, routes.first, leaf)?;
@@ -52,6 +49,7 @@ fn leaf_each<S: Source>(
     leaf: &Leaf,
 ) -> Result<Vec<Vec<Span>>, Refusal>
     ensures held { IfOk result (λ rows. AreHeld (S.is source.old) version (leaf_meaning leaf.now) numbers.now rows.items) }
+    ensures joined { IfOk result (λ rows. AreJoinedIn (S.is source.old) leaf.now.table.kind rows.items) }
     ensures ends { EndsWith S.Source source.old source.new result }
 {
     let mut rows = Vec::new(alloc);
@@ -60,25 +58,6 @@ fn leaf_each<S: Source>(
         rows.push(on_route)?;
     }
     Ok(rows)
-}
-
-/// The maximal runs of a leaf on one route, in printing order. The source gives no two spans that are one run, so that none are joined.
-pub(crate) fn leaf_runs<S: Source>(
-    alloc: Global,
-    source: &mut S,
-    version: u64,
-    route: u32,
-    leaf: &Leaf,
-) -> Result<Vec<Span>, Refusal>
-    ensures runs { IfOk result (λ runs. (snapshots : Snapshots) → S.is source.old snapshots
-        → AreRunsOf leaf.now.table.kind ((leaf_meaning leaf.now).rows (snapshots version) route) (map seen runs.items)) }
-    ensures placed { IfOk result (λ runs. ArePlaced leaf.now.table.kind (map seen runs.items)) }
-    ensures wide { IfOk result (λ runs. AreWide leaf.now.table.width (map seen runs.items)) }
-    ensures ends { EndsWith S.Source source.old source.new result }
-{
-    let mut spans = leaf_rows(alloc, source, version, route, leaf)?;
-    rs_coalesce::sort_by_place(&mut spans);
-    Ok(spans)
 }
 
 /// The rows of a leaf on one route, of which no two spans are one run. Where the windows leave nothing of it, the source is not asked.
@@ -90,7 +69,7 @@ fn leaf_rows<S: Source>(
     leaf: &Leaf,
 ) -> Result<Vec<Span>, Refusal>
     ensures held { IfOk result (HoldsRows (S.is source.old) version (leaf_meaning leaf.now) route) }
-    ensures joined { IfOk result (λ rows. (snapshots : Snapshots) → S.is source.old snapshots → AreJoined leaf.now.table.kind (map seen rows.items)) }
+    ensures joined { IfOk result (IsJoinedIn (S.is source.old) leaf.now.table.kind) }
     ensures ends { EndsWith S.Source source.old source.new result }
 {
     let Some(part) = part_inside(leaf.windows.as_slice(), route) else {

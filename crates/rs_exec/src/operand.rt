@@ -3,11 +3,11 @@
 //! It is given by value and can't be copied: an operand that was evaluated is gone, so that none is evaluated twice.
 
 ghost use Rattle.std.specs.Prelude.{◌≡◌, [], ◌∷◌, IfSome, IfNone};
-ghost use Rattle.rs_exec.specs.Meaning.{meaning_of, kind_in};
-ghost use Rattle.rs_exec.specs.Operand.{node_meaning, node_size, size_of};
+ghost use Rattle.rs_exec.specs.Meaning.{meaning_of, kind_in, kinds_together};
+ghost use Rattle.rs_exec.specs.Operand.{node_meaning, node_size, operands_meaning, size_of};
 
 use crate::changes::Change;
-use crate::kinds::kind_of;
+use crate::kinds::{kind_of, kind_together};
 use crate::pairs::Pairing;
 use rs_plan::{Leaf, Plan, PlannedPiece, PlannedWindow};
 use rs_value::Kind;
@@ -91,6 +91,13 @@ impl<'a> Operand<'a> {
 }
 
 impl<'a> Operands<'a> {
+    /// Whether the rows of an OVERLAY of them are points or lines.
+    pub(crate) fn kind(&self) -> Kind
+        ensures { result ≡ kinds_together (operands_meaning self.now) }
+    {
+        kind_together(self.plans)
+    }
+
     /// The first of them, and those after it; none where none is left.
     pub(crate) fn next(self) -> Option<(Operand<'a>, Operands<'a>)>
         ensures first { IfSome result (λ next. self.entry.plans.now ≡ next.0.plan.now ∷ next.1.plans.now) }

@@ -1,12 +1,13 @@
 //! OVERLAY, COVER, MERGE and MINUS of two operands, whose rows on one route make the operator's rows there.
 
-ghost use Rattle.std.specs.Prelude.{IfOk, map};
+ghost use Rattle.std.specs.Prelude.{◌≡◌, IfOk, map};
 ghost use Rattle.std.specs.List.{AllZip, zip};
 ghost use Rattle.rs_coalesce.specs.Lent.{seen_lent};
 ghost use Rattle.rs_facts.specs.Spans.{seen};
 ghost use Rattle.rs_exec.specs.Routes.{list_of};
-ghost use Rattle.rs_exec.specs.Pairs.{CanPair, CanPairSpans, IsPaired, ArePaired, AreMaximal};
+ghost use Rattle.rs_exec.specs.Pairs.{CanPair, CanPairSpans, IsPaired, ArePaired, AreMaximal, paired_kind};
 
+use crate::kinds::overlaid_kind;
 use crate::routes::RowsOn;
 use rs_coalesce::{lent, runs};
 use rs_facts::Span;
@@ -34,6 +35,18 @@ pub(crate) struct Kinds {
     pub(crate) left: Kind,
     /// Those of the second.
     pub(crate) right: Kind,
+}
+
+impl Kinds {
+    /// The kind of what an operator makes of operands of these kinds.
+    pub(crate) fn made_by(self, pairing: Pairing) -> Kind
+        ensures { result ≡ paired_kind pairing self.left self.right }
+    {
+        match pairing {
+            Pairing::Overlay => overlaid_kind(self.left, self.right),
+            Pairing::Cover(_, _) | Pairing::Merge | Pairing::Minus => self.left,
+        }
+    }
 }
 
 /// On each route what the operator makes of the operands' rows there. The only refusal is for want of memory.

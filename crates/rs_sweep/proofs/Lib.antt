@@ -3,6 +3,7 @@ mod Arrangement
 mod Edits
 mod Choosing
 mod LaidSpans
+mod SeparatePieces
 mod SweptPairs
 mod LeastCount
 mod TakenLaws

@@ -18,11 +18,13 @@ use Rattle.rs_facts.proofs.Rows.{same_row}
 use Rattle.rs_facts.proofs.Sets.{same_rows}
 use Rattle.rs_facts.proofs.SpanLaws.{holds, contains-places_of}
 use Rattle.rs_facts.proofs.RowSets.{any-same, any-places, contains-overlaid}
+use Rattle.rs_coalesce.specs.Joined.{AreJoined}
 use Rattle.rs_sweep.specs.Inner.{piece_of, laid, ArePieces}
 use Rattle.rs_facts.specs.Query.{overlaid_kind}
 use Rattle.rs_sweep.specs.Lists.{AreSorted, AreWide, shares, pairs}
 use Rattle.rs_sweep.specs.declared.laying.Side.TheVariants.{Left, Right}
 use Rattle.rs_sweep.proofs.LaidSpans.{both, laid-holds, laid-few, laid-all}
+use Rattle.rs_sweep.proofs.SeparatePieces.{Parted, parted-start, parted-left, parted-right, parted-end}
 
 -- ---- all pairs
 
@@ -121,6 +123,7 @@ pub record Swept (left right l r found : List Stretch) (made bound : ℕ) : Type
   pub means : (row : Row) (k : ℕ) → (list_any (holds row k) found || meets l r row k) ≡ meets left right row k
   pub placed : (a b : Kind) → ArePlaced a left → ArePlaced b right → ArePlaced (overlaid_kind a b) found × ArePlaced a l × ArePlaced b r
   pub wide : (m n : ℕ) → AreWide m left → AreWide n right → AreWide (m + n) found × AreWide m l × AreWide n r
+  pub parted : (a b : Kind) (m n : ℕ) → AreWide m left → AreWide n right → AreJoined a left → AreJoined b right → Parted a b m n l r found
   pub counted : made + 2 * (length l + length r) + 2 * pairs l r ≤ bound
   pub sorted_left : AreSorted l
   pub sorted_right : AreSorted r
@@ -132,6 +135,7 @@ swept-start left right made a b c d = record {
   means = λ row k. refl;
   placed = λ ka kb p q. (tt, p, q);
   wide = λ m n p q. (tt, p, q);
+  parted = λ ka kb m n w v p q. parted-start ka kb m n left right w v p q;
   counted = omega arith;
   sorted_left = a;
   sorted_right = b;
@@ -166,6 +170,7 @@ swept-left left right a b l r found made later bound h first asked =
       wide = λ m n p q.
           let now = h.wide m n p q in
           (every-append (λ s. length s.row ≡ m + n) found (laid Left a (b ∷ r)) now.0 (laid-all (λ s. length s.row ≡ n) (λ s. length s.row ≡ m + n) Left a (λ c x y z. length-append a.row c.row ∙ (λ i. now.1.0 i + z i)) (b ∷ r) low now.2), now.1.1, now.2);
+      parted = λ ka kb m n w v p q. parted-left ka kb m n a l (b ∷ r) found low (h.parted ka kb m n w v p q);
       counted = omega (arith, h.counted, asked, few, all);
       sorted_left = h.sorted_left.1;
       sorted_right = h.sorted_right;
@@ -190,6 +195,7 @@ swept-right left right a b l r found made later bound h first asked =
       wide = λ m n p q.
           let now = h.wide m n p q in
           (every-append (λ s. length s.row ≡ m + n) found (laid Right b (a ∷ l)) now.0 (laid-all (λ s. length s.row ≡ m) (λ s. length s.row ≡ m + n) Right b (λ c x y z. length-append c.row b.row ∙ (λ i. z i + now.2.0 i)) (a ∷ l) low now.1), now.1, now.2.1);
+      parted = λ ka kb m n w v p q. parted-right ka kb m n b (a ∷ l) r found low (h.parted ka kb m n w v p q);
       counted = omega (arith, h.counted, asked, few, all);
       sorted_left = h.sorted_left;
       sorted_right = h.sorted_right.1;
@@ -220,6 +226,7 @@ swept-end left right l r found made bound h done = record {
       ∙ sym (overlaid-meets left right k row));
   placed = λ a b p q. (h.placed a b p q).0;
   wide = λ m n p q. (h.wide m n p q).0;
+  joined = λ a b m n w v p q. parted-end a b m n l r found (h.parted a b m n w v p q);
 }
 
 -- ---- the same with the lists as they stand

@@ -5,6 +5,7 @@ use Rattle.rs_value.specs.Row.{Row}
 use Rattle.rs_facts.specs.Operators.{chosen, overlaid}
 use Rattle.rs_facts.specs.Runs.{Stretch, stretch}
 use Rattle.rs_facts.specs.Spans.{places_of, ArePlaced}
+use Rattle.rs_coalesce.specs.Joined.{AreJoined}
 use Rattle.rs_sweep.specs.declared.laying.Side.{Side}
 use Rattle.rs_sweep.specs.declared.laying.Side.TheVariants.{Left, Right}
 use Rattle.rs_facts.specs.Query.{overlaid_kind}
@@ -49,3 +50,4 @@ pub record ArePieces (left right pieces : List Stretch) : Type 0 where
   pub means : (k : ℕ) → places_of pieces k ≡ overlaid (places_of left k) (places_of right k)
   pub placed : (a b : Kind) → ArePlaced a left → ArePlaced b right → ArePlaced (overlaid_kind a b) pieces
   pub wide : (m n : ℕ) → AreWide m left → AreWide n right → AreWide (m + n) pieces
+  pub joined : (a b : Kind) (m n : ℕ) → AreWide m left → AreWide n right → AreJoined a left → AreJoined b right → AreJoined (overlaid_kind a b) pieces

@@ -6,6 +6,7 @@ ghost use Rattle.rs_value.specs.declared.column.Kind.TheVariants as kinds;
 ghost use Rattle.rs_facts.specs.Operators.{overlaid};
 ghost use Rattle.rs_facts.specs.Spans.{seen, places_of, ArePlaced};
 ghost use Rattle.rs_facts.specs.Query.{overlaid_kind};
+ghost use Rattle.rs_coalesce.specs.Joined.{AreJoined};
 ghost use Rattle.rs_coalesce.specs.Lent.{seen_lent};
 ghost use Rattle.rs_sweep.specs.Lists.{AreSorted, AreWide, pairs};
 ghost use Rattle.rs_sweep.specs.Inner.{ArePieces};
@@ -18,7 +19,8 @@ use std::alloc::{AllocError, Global};
 
 /// Each row of the left before each row of the right, and the number of comparisons of a bound of the one with a bound
 /// of the other: two for each pair of spans that share a thousandth, one at least for each span of the shorter list, and
-/// two at most for each span of either. The number stops at 2^64 - 1. The only refusal is for want of memory.
+/// two at most for each span of either. The number stops at 2^64 - 1. Where no two spans of either list are one run, none of
+/// the result are. The only refusal is for want of memory.
 pub fn overlay(
     alloc: Global,
     left: &[&Span],
@@ -35,6 +37,9 @@ pub fn overlay(
         → ArePlaced b (map seen_lent right.now) → ArePlaced (overlaid_kind a b) (map seen answer.0.items)) }
     ensures width { IfOk result (λ answer. (m n : ℕ) → AreWide m (map seen_lent left.now)
         → AreWide n (map seen_lent right.now) → AreWide (m + n) (map seen answer.0.items)) }
+    ensures joined { IfOk result (λ answer. (a b : Kind) (m n : ℕ) → AreWide m (map seen_lent left.now)
+        → AreWide n (map seen_lent right.now) → AreJoined a (map seen_lent left.now) → AreJoined b (map seen_lent right.now)
+        → AreJoined (overlaid_kind a b) (map seen answer.0.items)) }
     ensures comparisons { IfOk result (λ answer. answer.1
         ≤ 2 * (length left.now + length right.now) + 2 * pairs (map seen_lent left.now) (map seen_lent right.now)) }
     ensures at_least { IfOk result (λ answer. min (min (length left.now) (length right.now)

@@ -7,7 +7,8 @@ use Rattle.rs_planning.specs.Plan.{met_by_each}
 use Rattle.rs_plan.specs.declared.plan.PlannedWindow.{PlannedWindow}
 use Rattle.rs_exec.specs.Windows.{IsInsideEach, AreOff}
 use Rattle.rs_facts.proofs.Apart.{apart-permutation}
-use Rattle.rs_exec.proofs.Finding.{leaf-step, leaf-off, none-joined}
+use Rattle.rs_exec.proofs.Finding.{leaf-step, leaf-off}
+use Rattle.rs_exec.proofs.JoinedRows.{none-joined}
 use Rattle.rs_exec.proofs.leaves.leaf_rows.Goals as goal
 
 pub returns-in_default-clause-held : goal.returns-in_default-clause-held
