@@ -14,25 +14,25 @@ use Rattle.rs_cell_versions.specs.Changes.{cleared}
 use Rattle.rs_page_owners.specs.Counts.{◌&◌}
 use Rattle.rs_versioned.proofs.Changing.{records_cleared}
 use Rattle.rs_versioned.proofs.KeptRecords.{events_are_kept}
-use Rattle.rs_file.specs.Contents.{Contents, ReferentContents, TableContents}
+use Rattle.rs_file.specs.Contents.{Contents, LiesTable, ReferentContents, TableContents}
 use Rattle.rs_file.specs.Opening.{IsOpened}
 use Rattle.rs_file.specs.declared.opened.OpenedFile.{OpenedFile}
 use Rattle.rs_file_parts.specs.Parts.{Makes}
 use Rattle.rs_file.specs.declared.opened.OpenedTable.{OpenedTable}
 use Rattle.rs_file_parts.specs.Calls.{ChangesReferents}
 use Rattle.rs_file_parts.specs.Clearing.{ClearsParts, ClearsReferents, ClearsTable, ClearsAsMany, ClearsFirst, clearable, clearable_events, clearable_referents}
-use Rattle.rs_file_parts.specs.Inner.{ClearsAllReferents, ClearsOpened, ClearsPlaces, ClearsSome, HasNoneAt}
+use Rattle.rs_file_parts.specs.Inner.{ClearsAllReferents, ClearsOpened, ClearsPlaces, ClearsSome, HasNoneAt, HasNoneDead}
 use Rattle.rs_file_parts.proofs.Lists.{each_same, each_then, together}
 use Rattle.rs_file_parts.proofs.Made.{ChangesAt}
 use Rattle.rs_tree_edit.proofs.Pieces.{zip_append}
 use Rattle.rs_pages.specs.PageMap.{PageMap}
-use Rattle.rs_tree.proofs.Lists.{has_inside, zip_lengths}
+use Rattle.rs_tree.proofs.Lists.{all_at, has_inside, zip_lengths}
 use Rattle.rs_versioned.specs.Events.{Event, kept_events}
 use Rattle.rs_records.specs.Listed.{listed}
 use Rattle.rs_records.specs.declared.cells.Cells.{Cells}
 use Rattle.rs_cell_versions.specs.Versioned.{Standing}
 use Rattle.rs_versioned.specs.Calls.{IsVacuumed}
-use Rattle.rs_versioned.specs.Records.{ChangesRecords, HasCleared, Kept}
+use Rattle.rs_versioned.specs.Records.{ChangesRecords, HasCleared, HoldsRecords, Kept}
 use Rattle.rs_versioned.specs.Referents.{ReferentRecord, kept_referents}
 use Rattle.rs_value.specs.declared.column.ColumnType.{ColumnType}
 
@@ -316,6 +316,45 @@ places_below oldest most gone from mid to below old now clears = record {
   none = λ under less place low high. clears.none under less place low (omega arith);
 }
 
+-- ---- tables without dead records
+
+none_may_go : (map : PageMap) (oldest accepted : ℕ) (opened : List OpenedTable) (tables : List TableContents) → AllByRecursion HasNoneDead opened → AllZip IsOpened opened tables
+    → AllByRecursion (LiesTable map accepted) tables → (place : ℕ) (table : TableContents) → slice_get tables place ≡ Some table → oldest < LIVING → clearable_events oldest table.events ≡ 0
+none_may_go map oldest accepted opened tables none are lie place table there below =
+    let back = back_at IsOpened opened tables place table are there in
+    let one : OpenedTable = back.0 in
+    let is = back.2 in
+    let lies = all_at (LiesTable map accepted) tables place table lie there in
+    let holds : HoldsRecords (kept_events one.records.types) map one.records.working accepted table.events table.used =
+    subst (λ (ts : List ColumnType). HoldsRecords (kept_events ts) map one.records.working accepted table.events table.used) (sym is.types)
+    (subst (λ (s : Standing). HoldsRecords (kept_events table.types) map s accepted table.events table.used) (sym is.stands) lies.records) in
+    let clears = cleared_as_it_is map one oldest 1 (all_at HasNoneDead opened place one none back.1) in
+    omega (arith, clears.as_many table.events table.used accepted holds below)
+
+-- where no record is dead, the tables are cleared as they are
+places_idle : (map : PageMap) (file : OpenedFile) (oldest most from to : ℕ) → AllByRecursion HasNoneDead file.tables.items → (accepted : ℕ)
+    → Makes map map file file accepted accepted (ClearsPlaces oldest most 0 from to)
+places_idle map file oldest most from to none accepted = record {
+  each = λ contents holds opened.
+      let no_event : (place : ℕ) (table : TableContents) → slice_get contents.tables place ≡ Some table → oldest < LIVING → clearable_events oldest table.events ≡ 0 =
+      none_may_go map oldest accepted file.tables.items contents.tables none opened.tables holds.tables in
+      record {
+        contents = contents;
+        holds = holds;
+        opened = opened;
+        directory = refl;
+        changed = record {
+          some = some_none oldest most contents;
+          first = λ less. record {
+            first = λ below was is there here.
+                let same : was ≡ is = cc in
+                omega (arith, ap (λ (t : TableContents). length t.events) same, no_event from was there below);
+          };
+          none = λ below fewer place low high. record { none = λ table there. no_event place table there below };
+        };
+      };
+}
+
 -- ---- one table
 
 -- so many of a table's events are gone
@@ -530,3 +569,16 @@ all_cleared p0 p1 p2 p3 f0 f1 f2 f3 oldest most one other last start count place
             (subst (λ n. ClearsPlaces oldest most one start n contents m1.contents) as_many m1.changed) m2.changed m3.changed;
       };
 }
+
+-- where no record of a table is dead, clearing the referents clears all
+pub referents_alone : (old new : PageMap) (was is : OpenedFile) (oldest most gone place : ℕ) → AllByRecursion HasNoneDead was.tables.items → gone ≤ most
+    → ((accepted : ℕ) → Makes old new was is accepted accepted (ClearsAllReferents oldest most gone))
+    → (accepted : ℕ) → Makes old new was is accepted accepted (ClearsInTurn oldest most gone place)
+referents_alone old new was is oldest most gone place none few clears accepted =
+    let all : (0 + 0) + gone ≡ gone = omega arith in
+    let left : most ≡ (most - 0) - 0 = omega arith in
+    let count = length was.tables.items in
+    subst (λ n. Makes old new was is accepted accepted (ClearsInTurn oldest most n place)) all
+    (all_cleared old old old new was was was is oldest most 0 0 gone place count place refl (λ some. refl) (omega arith) (omega arith) (omega arith)
+    (places_idle old was oldest most place count none) (places_idle old was oldest (most - 0) 0 place none)
+    (λ at. subst (λ n. Makes old new was is at at (ClearsAllReferents oldest n gone)) left (clears at)) accepted)

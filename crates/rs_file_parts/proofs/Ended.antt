@@ -1,5 +1,5 @@
 -- What is kept or taken back.
-use Rattle.std.proofs.Common.{◌≡◌, ℕ, List, [], ◌∷◌, refl, sym, ap, ◌∙◌, subst, map, arith}
+use Rattle.std.proofs.Common.{◌≡◌, ◌≤◌, ℕ, List, [], ◌∷◌, refl, sym, ap, ◌∙◌, subst, length, map, arith}
 use Rattle.std.specs.List.{AllByRecursion, AllZip}
 use Rattle.rs_attr.specs.Entries.{Field, HoldsIndex}
 use Rattle.rs_attr.specs.Tables.{HoldIndexes, IndexState, all_of, kept_parts}
@@ -12,9 +12,9 @@ use Rattle.rs_file.specs.Opening.{IsOpened}
 use Rattle.rs_file.specs.declared.opened.OpenedFile.{OpenedFile}
 use Rattle.rs_file.specs.declared.opened.OpenedTable.{OpenedTable}
 use Rattle.rs_file_parts.specs.Calls.{StaysOpened}
-use Rattle.rs_file_parts.specs.Inner.{IsIndexKept, IsIndexTakenBack, IsTableKept, IsTableTakenBack}
+use Rattle.rs_file_parts.specs.Inner.{HaveChangedWithin, IsIndexKept, IsIndexTakenBack, IsTableKept, IsTableTakenBack}
 use Rattle.rs_file_parts.specs.Parts.{HaveAllDiedBy, IsAsItWas, IsCommitted, IsReady, IsTableCommitted, KeepsCommitted, KeepsOpened, SameOpened}
-use Rattle.rs_file_parts.proofs.Lists.{each_right}
+use Rattle.rs_file_parts.proofs.Lists.{Partly, each_right, partly_to, partly_whole}
 use Rattle.rs_file_parts.proofs.Ready.{ready_of}
 use Rattle.rs_page_owners.proofs.Moving.{shares_same}
 use Rattle.rs_pages.specs.PageMap.{PageMap}
@@ -132,6 +132,23 @@ order_kept was is tables referents version died = record {
   tables = order_each version was.tables.items is.tables.items tables died.tables;
   referents = subst (λ (standing : Standing). HaveDiedBy version standing.dead) (sym referents) died.referents;
 }
+
+-- what has not changed since the last commit is kept as it is
+indexes_stand : (indexes : List IndexState) → AllByRecursion (λ (index : IndexState). index.committed ≡ index.working) indexes → AllZip IsIndexKept indexes indexes
+indexes_stand [] all = tt
+indexes_stand (i ∷ is) all = (record { field = refl; working = refl; committed = all.0 }, indexes_stand is all.1)
+
+table_stands : (table : OpenedTable) → IsTableCommitted table → IsTableKept table table
+table_stands table committed = record { types = refl; working = refl; committed = committed.records; indexes = indexes_stand table.indexes.items committed.indexes }
+
+-- so only the tables that have changed have to be kept
+pub kept_before : (from to : ℕ) (tables : List OpenedTable) → HaveChangedWithin from to (length tables) tables → Partly IsTableKept from tables tables
+kept_before from to tables changed =
+    partly_to IsTableKept from 0 from tables tables (omega arith) refl (λ place table low high there. table_stands table (changed.before place table high there))
+
+pub kept_whole : (from to place : ℕ) (was is : List OpenedTable) → HaveChangedWithin from to (length was) was → to ≤ place → Partly IsTableKept place was is → AllZip IsTableKept was is
+kept_whole from to place was is changed past partly =
+    partly_whole IsTableKept place was is partly (λ other table low high there. table_stands table (changed.after other table (omega arith) high there))
 
 -- ---- taken back
 

@@ -12,3 +12,4 @@ pub mod Overwritten
 pub mod SlotBytes
 pub mod Slotted
 pub mod Stood
+pub mod Looked

@@ -1,5 +1,6 @@
 -- One element among others, and lists that change from the first element on.
-use Rattle.std.proofs.Common.{◌≡◌, ◌≤◌, ℕ, zero, suc, Some, List, [], ◌∷◌, ◌++◌, length, set, slice_get, take, refl, ap, ◌∙◌, subst, arith}
+use Rattle.std.proofs.Common.{◌≡◌, ◌<◌, ◌≤◌, ◌+◌, ◌-◌, ℕ, zero, suc, Some, List, [], ◌∷◌, ◌++◌, length, set, slice_get, take, refl, sym, ap, ◌∙◌, subst, inl, inr, arith}
+use Rattle.std.proofs.lemmas.Bool.{cases_lt}
 use Rattle.std.proofs.lemmas.List.{take-append-le, take_all}
 use Rattle.std.specs.List.{AllByRecursion, AllZip}
 
@@ -128,3 +129,31 @@ partly_all R (suc n) (x ∷ xs) (y ∷ ys) partly below = (partly.0, partly_all 
 -- what is written over a whole list is the list
 pub refilled : {X : Type 0} (n : ℕ) (ws rest : List X) → length ws ≡ n → take n (ws ++ rest) ≡ ws
 refilled n ws rest same = take-append-le n ws rest (omega arith) ∙ take_all n ws (omega arith)
+
+-- one more has changed as it should where it is as it was
+partly_stays : {X : Type 0} (R : X → X → Type 0) (n : ℕ) (xs ys : List X) → Partly R n xs ys → ((x : X) → slice_get xs n ≡ Some x → R x x) → Partly R (suc n) xs ys
+partly_stays R zero [] [] partly same = tt
+partly_stays R zero [] (y ∷ ys) partly same = absurd (cc)
+partly_stays R zero (x ∷ xs) [] partly same = absurd (cc)
+partly_stays R zero (x ∷ xs) (y ∷ ys) partly same =
+    let one : y ≡ x = cc in let rest : ys ≡ xs = cc in (subst (R x) (sym one) (same x refl), rest)
+partly_stays R (suc n) [] [] partly same = tt
+partly_stays R (suc n) [] (y ∷ ys) partly same = absurd partly
+partly_stays R (suc n) (x ∷ xs) [] partly same = absurd partly
+partly_stays R (suc n) (x ∷ xs) (y ∷ ys) partly same = (partly.0, partly_stays R n xs ys partly.1 same)
+
+-- and so many more
+pub partly_to : {X : Type 0} (R : X → X → Type 0) (more n to : ℕ) (xs ys : List X) → more + n ≡ to → Partly R n xs ys
+    → ((place : ℕ) (x : X) → n ≤ place → place < to → slice_get xs place ≡ Some x → R x x) → Partly R to xs ys
+partly_to R zero n to xs ys all partly same = let end : n ≡ to = omega arith in subst (λ m. Partly R m xs ys) end partly
+partly_to R (suc more) n to xs ys all partly same =
+    partly_to R more (suc n) to xs ys (omega arith) (partly_stays R n xs ys partly (λ x there. same n x (omega arith) (omega arith) there))
+    (λ place x low high there. same place x (omega arith) high there)
+
+-- or all
+pub partly_whole : {X : Type 0} (R : X → X → Type 0) (n : ℕ) (xs ys : List X) → Partly R n xs ys
+    → ((place : ℕ) (x : X) → n ≤ place → place < length xs → slice_get xs place ≡ Some x → R x x) → AllZip R xs ys
+partly_whole R n xs ys partly same = elim (cases_lt n (length xs)) [
+  | inl inside ↦ partly_all R (length xs) xs ys (partly_to R (length xs - n) n (length xs) xs ys (omega arith) partly same) (omega arith)
+  | inr past ↦ partly_all R n xs ys partly past
+]

@@ -1,8 +1,9 @@
 -- Slots of a directory that is there are filled one after another.
-use Rattle.std.proofs.Common.{◌≡◌, ◌<◌, ◌≤◌, ◌+◌, ◌^◌, ◌==◌, ◌++◌, ℕ, true, Some, List, [], ◌∷◌, length, map, set, slice_get, take, refl, sym, ap, subst, ◌∙◌, arith}
+use Rattle.std.proofs.Common.{◌≡◌, ◌<◌, ◌≤◌, ◌+◌, ◌-◌, ◌^◌, ◌==◌, ◌++◌, ℕ, zero, suc, true, Some, List, [], ◌∷◌, length, map, set, slice_get, take, refl, sym, ap, subst, ◌∙◌, inl, inr, arith}
 use Rattle.std.specs.List.{AllByRecursion, AllZip}
+use Rattle.std.proofs.lemmas.Bool.{cases_lt}
 use Rattle.std.proofs.lemmas.Bool.Decides.{nat_tests}
-use Rattle.std.proofs.lemmas.List.{map-append}
+use Rattle.std.proofs.lemmas.List.{map-append, take_all}
 use Rattle.rs_attr.specs.Tables.{IndexState}
 use Rattle.rs_catalog_pages.specs.Directory.{DirectoryItems, IsDirectory, TreeItem}
 use Rattle.rs_catalog_pages.specs.Fitting.{FitsDirectory}
@@ -20,14 +21,14 @@ use Rattle.rs_file.proofs.Selected.{zip_push}
 use Rattle.rs_file.proofs.Slotted.{put_next, put_none, roots_next, said_of, take_one, times-both, times-earlier}
 use Rattle.rs_file_parts.specs.Calls.{RewritesDirectory}
 use Rattle.rs_file_parts.proofs.Lists.{all_first, all_one}
-use Rattle.rs_file_parts.specs.Parts.{IsReady}
+use Rattle.rs_file_parts.specs.Parts.{IsReady, IsTableCommitted}
 use Rattle.rs_file_parts.specs.Slots.{ChangesDirectory, HadRoot, HadRoots, HadTree, IsOnNone, PutsRoots, PutsRootsOn, PutsSlots, PutsTrees, with_accepted, with_referents, with_root, with_tree}
 use Rattle.rs_page_owners.specs.Counts.{one_at, times}
 use Rattle.rs_page_owners.proofs.Moving.{one_at-same}
 use Rattle.rs_pages.specs.PageMap.{PageMap, ReplacesPage}
 use Rattle.rs_pages.proofs.FreeLists.{page_one}
 use Rattle.rs_pages.proofs.PlainStore.{at_set, beside_set}
-use Rattle.rs_tree.proofs.Lists.{zip_at}
+use Rattle.rs_tree.proofs.Lists.{inside_has, zip_at}
 use Rattle.rs_attr.specs.Versioned.{Standing}
 
 -- what a page says fits
@@ -106,6 +107,33 @@ module _ (all : List TableItem) (opened : List OpenedTable) (k : ℕ) (item : Ta
           others = λ n lacks. before.others n (omega (arith, lacks, times_upto number all k item there n));
         };
   }
+
+-- the tables from one place up to another have not changed since the last commit
+abbrev pub StandFrom : List OpenedTable → ℕ → ℕ → Type 0
+StandFrom opened from to = (place : ℕ) (table : OpenedTable) → from ≤ place → place < to → slice_get opened place ≡ Some table → IsTableCommitted table
+
+module _ (all : List TableItem) (opened : List OpenedTable) (long : length all ≡ length opened)
+    (once : (number : ℕ) → times (map (λ (item : TableItem). item.number) all) number ≤ 1) (old mid : List ℕ) where
+  -- tables that have not changed have their trees there
+  pub trees_to : (more k to : ℕ) → more + k ≡ to → to ≤ length opened → StandFrom opened k to
+      → PutsTrees all opened (take k all) (take k opened) old mid → PutsTrees all opened (take to all) (take to opened) old mid
+  trees_to zero k to are inside stand so_far = let end : k ≡ to = omega arith in subst (λ n. PutsTrees all opened (take n all) (take n opened) old mid) end so_far
+  trees_to (suc more) k to are inside stand so_far =
+      let item = inside_has all k (omega (arith, long)) in
+      let table = inside_has opened k (omega arith) in
+      trees_to more (k + 1) to (omega arith) inside (λ place other low high there. stand place other (omega arith) high there)
+      (trees_skip all opened k item.0 table.0 old mid mid item.1 table.1 (once item.0.number) (stand k table.0 (omega arith) (omega arith) table.1).records so_far)
+
+  -- and so do all of them
+  pub trees_all : (k : ℕ) → StandFrom opened k (length opened) → PutsTrees all opened (take k all) (take k opened) old mid → PutsTrees all opened all opened old mid
+  trees_all k stand so_far = elim (cases_lt k (length opened)) [
+    | inl inside ↦ whole (length opened) (omega arith) (trees_to (length opened - k) k (length opened) (omega arith) (omega arith) stand so_far)
+    | inr past ↦ whole k past so_far
+  ] where
+    whole : (n : ℕ) → length opened ≤ n → PutsTrees all opened (take n all) (take n opened) old mid → PutsTrees all opened all opened old mid
+    whole n past puts =
+        subst (λ (xs : List TableItem). PutsTrees all opened xs opened old mid) (take_all n all (omega (arith, long)))
+        (subst (λ (ys : List OpenedTable). PutsTrees all opened (take n all) ys old mid) (take_all n opened (omega arith)) puts)
 
 -- ---- the roots of one table
 
@@ -212,6 +240,29 @@ module _ (indexes : List IndexItem) (each : (n : ℕ) → times (map (λ (index 
             others = λ n on. before.others n (parted n on).0;
           };
     }
+
+  module _ (items : List TableItem) (opened : List OpenedTable) (long : length items ≡ length opened)
+      (once : (number : ℕ) → times (map (λ (item : TableItem). item.number) items) number ≤ 1) (old mid : List ℕ) where
+    -- tables that have not changed have the roots of their indexes there
+    pub roots_to : (more k to : ℕ) → more + k ≡ to → to ≤ length opened → StandFrom opened k to
+        → PutsRoots indexes items opened (take k items) (take k opened) old mid → PutsRoots indexes items opened (take to items) (take to opened) old mid
+    roots_to zero k to are inside stand so_far = let end : k ≡ to = omega arith in subst (λ n. PutsRoots indexes items opened (take n items) (take n opened) old mid) end so_far
+    roots_to (suc more) k to are inside stand so_far =
+        let item = inside_has items k (omega (arith, long)) in
+        let table = inside_has opened k (omega arith) in
+        roots_to more (k + 1) to (omega arith) inside (λ place other low high there. stand place other (omega arith) high there)
+        (roots_skip items opened k item.0 table.0 old mid mid item.1 table.1 (once item.0.number) (stand k table.0 (omega arith) (omega arith) table.1).indexes so_far)
+
+    -- and so do all of them
+    pub roots_all : (k : ℕ) → StandFrom opened k (length opened) → PutsRoots indexes items opened (take k items) (take k opened) old mid → PutsRoots indexes items opened items opened old mid
+    roots_all k stand so_far = elim (cases_lt k (length opened)) [
+      | inl inside ↦ whole (length opened) (omega arith) (roots_to (length opened - k) k (length opened) (omega arith) (omega arith) stand so_far)
+      | inr past ↦ whole k past so_far
+    ] where
+      whole : (n : ℕ) → length opened ≤ n → PutsRoots indexes items opened (take n items) (take n opened) old mid → PutsRoots indexes items opened items opened old mid
+      whole n past puts =
+          subst (λ (xs : List TableItem). PutsRoots indexes items opened xs opened old mid) (take_all n items (omega (arith, long)))
+          (subst (λ (ys : List OpenedTable). PutsRoots indexes items opened (take n items) ys old mid) (take_all n opened (omega arith)) puts)
 
 -- ---- the whole page
 

@@ -11,6 +11,7 @@ use Rattle.rs_versioned.specs.Events.{Event, kept_events}
 use Rattle.rs_versioned.specs.Records.{HasCleared, HoldsRecords}
 use Rattle.rs_versioned.specs.Referents.{ReferentRecord, SaysReferent}
 use Rattle.rs_file_parts.specs.Clearing.{ClearsFirst, ClearsParts, clearable, clearable_events, clearable_referents, records_in}
+use Rattle.rs_file_parts.specs.Parts.{IsTableCommitted}
 
 -- ---- keeping and taking back
 
@@ -40,7 +41,20 @@ pub record IsTableTakenBack (was is : OpenedTable) : Type 0 where
   pub committed : is.records.committed ≡ was.records.committed
   pub indexes : AllZip IsIndexTakenBack was.indexes.items is.indexes.items
 
+-- ---- which tables have changed
+
+-- of the tables up to a place only those from one place up to another have changed since the last commit
+pub record HaveChangedWithin (from to upto : ℕ) (tables : List OpenedTable) : Type 0 where
+  pub order : from ≤ to
+  pub within : to ≤ upto
+  pub before : (place : ℕ) (table : OpenedTable) → place < from → slice_get tables place ≡ Some table → IsTableCommitted table
+  pub after : (place : ℕ) (table : OpenedTable) → to ≤ place → place < upto → slice_get tables place ≡ Some table → IsTableCommitted table
+
 -- ---- clearing
+
+-- no record of the table is dead
+abbrev pub HasNoneDead : OpenedTable → Type 0
+HasNoneDead table = length table.records.working.dead ≡ 0
 
 -- where the table's events lie there, the events of these cells are gone, so many, which is all that may go or as many as were
 -- asked for

@@ -9,6 +9,7 @@ ghost use Rattle.rs_file_parts.specs.Inner.{ClearsAllReferents, ClearsOpened, Cl
 ghost use Rattle.rs_file_parts.specs.Parts.{HaveAllDiedBy, IsReady, KeepsCommitted, KeepsOpened, Makes};
 ghost use Rattle.rs_page_owners.specs.Calls as owners;
 
+use crate::looking::none_is_dead;
 use rs_attr::vacuum;
 use rs_file::{OpenedFile, OpenedTable};
 use rs_pages::Pages;
@@ -44,6 +45,9 @@ pub fn clear<P: Pages>(
     ensures order { (version : ℕ) → HaveAllDiedBy version file.old → HaveAllDiedBy version file.new }
     ensures room { result ≢ Err Refusal.FileFull }
 {
+    if none_is_dead(file.tables.as_slice()) {
+        return clear_referents(alloc, pages, file, oldest, most);
+    }
     let count = file.tables.len();
     let start = place_among(first, count);
     let bounds = Bounds { oldest, most };

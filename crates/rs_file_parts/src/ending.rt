@@ -8,6 +8,7 @@ ghost use Rattle.rs_file_parts.specs.Calls.{StaysOpened};
 ghost use Rattle.rs_file_parts.specs.Inner.{IsIndexKept, IsIndexTakenBack, IsTableKept, IsTableTakenBack};
 ghost use Rattle.rs_file_parts.specs.Parts.{HaveAllDiedBy, IsAsItWas, IsCommitted, IsReady, KeepsCommitted};
 
+use crate::looking::changed_places;
 use rs_attr::AttrIndex;
 use rs_file::{OpenedFile, OpenedTable};
 
@@ -20,7 +21,8 @@ pub fn keep(file: &mut OpenedFile)
     ensures definitions { file.new.definitions ≡ file.old.definitions }
     ensures accepted { file.new.accepted ≡ file.old.accepted }
 {
-    for place in 0..file.tables.len() {
+    let places = changed_places(file.tables.as_slice());
+    for place in places.from..places.to {
         keep_table(&mut file.tables[place]);
     }
     file.referents.commit();

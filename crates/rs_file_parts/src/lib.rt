@@ -9,6 +9,7 @@ pub mod definitions;
 pub mod directory;
 pub mod ending;
 pub mod laws;
+mod looking;
 pub mod referents;
 mod slot;
 pub mod slots;

@@ -1,18 +1,20 @@
 //! This module writes of the directory the slots of what is open, where just these tables and indexes were there before. Tables and
-//! indexes that have not changed since the last commit keep the bytes of theirs, at the cost of a look at each.
+//! indexes that have not changed since the last commit keep the bytes of theirs.
 
-ghost use Rattle.std.specs.Prelude.{◌≡◌, ◌≢◌, ◌<◌, ◌≤◌, ℕ, true, false, Err, length, map};
+ghost use Rattle.std.specs.Prelude.{◌≡◌, ◌≢◌, ◌<◌, ◌≤◌, ℕ, true, Err, length, map};
 ghost use Rattle.std.specs.List.{AllByRecursion, AllZip};
 ghost use Rattle.rs_catalog_pages.specs.Calls.{StaysRefused};
 ghost use Rattle.rs_catalog_pages.specs.Said.{said_index, said_table, said_tree};
 ghost use Rattle.rs_file.specs.Contents.{item_of};
 ghost use Rattle.rs_file.specs.Slots.{HasAsMany, indexes_on};
 ghost use Rattle.rs_file_parts.specs.Calls.{HoldsNoDirectory, Rewrites};
+ghost use Rattle.rs_file_parts.specs.Inner.{HaveChangedWithin};
 ghost use Rattle.rs_file_parts.specs.Parts.{IsReady};
 ghost use Rattle.rs_file_parts.specs.Slots.{PutsRoots, PutsRootsOn, PutsSlots, PutsTrees};
 ghost use Rattle.rs_page_owners.specs.Calls.{Leaves};
 ghost use Rattle.rs_page_owners.specs.Counts.{times};
 
+use crate::looking::{Places, changed_places, has_changed};
 use crate::slot::{put_accepted, put_referents, put_root, put_tree};
 use rs_attr::AttrIndex;
 use rs_catalog_pages::{INDEXES, StoredIndex, StoredTable, StoredTree, TABLES};
@@ -47,56 +49,57 @@ fn put_slots(page: &mut Page, file: &OpenedFile, version: u64)
 {
     let items = file.definitions.tables.as_slice();
     let tables = file.tables.as_slice();
-    put_trees(page, items, tables);
-    put_roots(page, items, file.definitions.indexes.as_slice(), tables);
+    let places = changed_places(tables);
+    put_trees(page, items, tables, places);
+    put_roots(
+        page,
+        items,
+        file.definitions.indexes.as_slice(),
+        tables,
+        places,
+    );
     put_referents(page, &tree_of_referents(&file.referents));
     put_accepted(page, version);
 }
 
-/// Puts the trees of these tables into the slots of their numbers, where they have changed.
-fn put_trees(page: &mut Page, items: &[StoredTable], tables: &[OpenedTable])
+/// Puts the trees of the tables at these places into the slots of their numbers, where they have changed. No other has.
+fn put_trees(page: &mut Page, items: &[StoredTable], tables: &[OpenedTable], places: Places)
     requires many { length items.now ≡ length tables.now }
     requires below { AllByRecursion (λ item. item.number < TABLES) (map said_table items.now) }
     requires once { (number : ℕ) → times (map (λ item. item.number) (map said_table items.now)) number ≤ 1 }
+    requires changed { HaveChangedWithin places.from places.to (length tables.now) tables.now }
     ensures { PutsTrees (map said_table items.now) tables.now (map said_table items.now) tables.now page.old.bytes page.new.bytes }
 {
-    for (place, table) in tables.iter().enumerate() {
+    for place in places.from..places.to {
+        let table = &tables[place];
         if table.records.is_changed() {
             put_tree(page, items[place].number, &tree_of_records(&table.records));
         }
     }
 }
 
-/// Puts the roots of the indexes of these tables into the slots of their numbers, where a table has one that has changed.
+/// Puts the roots of the indexes of the tables at these places into the slots of their numbers, where a table has one that has changed.
+/// No other has.
 fn put_roots(
     page: &mut Page,
     items: &[StoredTable],
     indexes: &[StoredIndex],
     tables: &[OpenedTable],
+    places: Places,
 )
     requires many { AllZip (HasAsMany (map said_index indexes.now)) (map said_table items.now) tables.now }
     requires tables_once { (number : ℕ) → times (map (λ item. item.number) (map said_table items.now)) number ≤ 1 }
     requires below { AllByRecursion (λ index. index.number < INDEXES) (map said_index indexes.now) }
     requires once { (number : ℕ) → times (map (λ index. index.number) (map said_index indexes.now)) number ≤ 1 }
+    requires changed { HaveChangedWithin places.from places.to (length tables.now) tables.now }
     ensures { PutsRoots (map said_index indexes.now) (map said_table items.now) tables.now (map said_table items.now) tables.now page.old.bytes page.new.bytes }
 {
-    for (place, table) in tables.iter().enumerate() {
+    for place in places.from..places.to {
+        let table = &tables[place];
         if has_changed(table.indexes.as_slice()) {
             put_roots_on(page, indexes, items[place].number, table.indexes.as_slice());
         }
     }
-}
-
-/// Whether one of these indexes may have changed since the last commit.
-fn has_changed(indexes: &[AttrIndex]) -> bool
-    ensures { result ≡ false → AllByRecursion (λ index. index.committed ≡ index.working) indexes.now }
-{
-    for index in indexes {
-        if index.is_changed() {
-            return true;
-        }
-    }
-    false
 }
 
 /// Puts the roots of the indexes of the table with this number.

@@ -1,6 +1,6 @@
 -- Each table in turn.
-use Rattle.std.proofs.Common.{◌<◌, ◌+◌, List, ap, get_or, length, map, refl, sym, subst, take, arith}
-use Rattle.std.proofs.lemmas.List.{length-map, take_all}
+use Rattle.std.proofs.Common.{◌<◌, ◌+◌, ◌∙◌, List, ap, get_or, length, map, refl, sym, subst, take, arith}
+use Rattle.std.proofs.lemmas.List.{length-map}
 use Rattle.std.proofs.lemmas.Option.{slice_get_read}
 use Rattle.rs_catalog_pages.specs.Directory.{TreeItem}
 use Rattle.rs_catalog_pages.specs.Items.{TableItem}
@@ -13,15 +13,22 @@ use Rattle.rs_file.proofs.Numbering.{each_at, said_at, said_each}
 use Rattle.rs_page.specs.declared.page.Page.{Page}
 use Rattle.rs_tree.proofs.Lists.{inside_has}
 use Rattle.rs_file_parts.specs.Slots.{ChangesDirectory, PutsTrees, with_tree}
-use Rattle.rs_file_parts.proofs.Slotted.{trees_skip, trees_start, trees_step}
+use Rattle.rs_file_parts.proofs.Slotted.{trees_all, trees_skip, trees_start, trees_step, trees_to}
 use Rattle.rs_file_parts.proofs.slots.put_trees.Goals as goal
 use Rattle.rs_file_parts.proofs.slots.put_trees.Goals.{then-is_changed, else-is_changed}
 
 pub loop-place-init : goal.loop-place-init
-loop-place-init c = trees_start (map said_table c.args.items.now) c.args.tables.now c.args.page.now.bytes
+loop-place-init c =
+    let items = map said_table c.args.items.now in
+    let tables = c.args.tables.now in
+    let page = c.args.page.now.bytes in
+    let from = c.args.places.from in
+    trees_to items tables (length-map c.args.items.now said_table ∙ c.requires.many) c.requires.once page page from 0 from (omega arith)
+    (omega (arith, c.requires.changed.order, c.requires.changed.within)) (λ place table low high there. c.requires.changed.before place table high there) (trees_start items tables page)
 
 pub put_tree-requires : goal.put_tree-requires
 put_tree-requires c =
+    let inside : c.loop-place.place < length c.args.tables.now = omega (arith, c.loop-place-test.true, c.requires.changed.within) in
     let below = each_at (λ (table : StoredTable). table.number < TABLES) c.args.items.now c.loop-place.place c.index-items-place.result (omega arith) c.index-items-place.is
     (said_each said_table (λ (table : TableItem). table.number < TABLES) c.args.items.now c.requires.below) in
     omega (arith, below, ap (λ (table : StoredTable). table.number) c.index-items-place.is)
@@ -33,6 +40,7 @@ loop-place-preserved c =
     let k = c.loop-place.place in
     let table = c.index-tables-place.result in
     let long = length-map c.args.items.now said_table in
+    let inside_tables : k < length tables = omega (arith, c.loop-place-test.true, c.requires.changed.within) in
     let here = slice_get_read tables (length tables) k table refl (omega arith) c.index-tables-place.is in
     let old = c.args.page.now.bytes in
     let mid = c.loop-place.page.bytes in
@@ -55,10 +63,5 @@ loop-place-preserved c =
 
 pub returns : goal.returns
 returns c =
-    let items = map said_table c.args.items.now in
-    let tables = c.args.tables.now in
-    let k = c.loop-place.place in
-    let old = c.args.page.now.bytes in
-    let new = c.loop-place.page.bytes in
-    subst (λ (xs : List TableItem). PutsTrees items tables xs tables old new) (take_all k items (omega (arith, length-map c.args.items.now said_table)))
-    (subst (λ (ys : List OpenedTable). PutsTrees items tables (take k items) ys old new) (take_all k tables (omega arith)) c.loop-place.invariant)
+    trees_all (map said_table c.args.items.now) c.args.tables.now (length-map c.args.items.now said_table ∙ c.requires.many) c.requires.once c.args.page.now.bytes c.loop-place.page.bytes c.loop-place.place
+    (λ place table low high there. c.requires.changed.after place table (omega (arith, low, c.loop-place-test.false)) high there) c.loop-place.invariant
