@@ -22,7 +22,7 @@ pub trait Named {
 }
 
 impl Named for StoredRoute {
-    ghost name_of = { λ route. string_bytes route.name };
+    ghost name_of = { λ route. string_bytes route.name.value };
 
     fn name(&self) -> &str {
         self.name.as_str()

@@ -15,7 +15,7 @@ use Rattle.rs_catalog_pages.specs.declared.directory_items.StoredRoot.{StoredRoo
 use Rattle.rs_catalog_pages.specs.declared.directory_items.StoredDirectory.{StoredDirectory}
 
 abbrev pub said_route : StoredRoute → RouteItem
-said_route route = record { name = string_bytes route.name; number = route.number; start = route.start; finish = route.finish; born = route.born }
+said_route route = record { name = string_bytes route.name.value; number = route.number; start = route.start; finish = route.finish; born = route.born }
 
 abbrev pub said_column : StoredColumn → ColumnItem
 said_column column = record { name = string_bytes column.name; type = column.type_code }

@@ -13,12 +13,13 @@ ghost use Rattle.rs_catalog_pages.specs.Said.{said_route, said_column, said_tabl
 use rs_bytes::{Item, LongText, Reader, ShortList};
 use rs_refusal::Refusal;
 use std::alloc::{AllocError, Global};
+use std::rc::Rc;
 
 /// A route: its name and number, where it starts and ends in thousandths, and the version from which on it is seen.
 #[derive(Drop)]
 pub struct StoredRoute {
-    /// Its name.
-    pub name: String,
+    /// Its name, which other lists of definitions may share.
+    pub name: Rc<String>,
     /// Its number.
     pub number: u32,
     /// Where it starts, in thousandths.
@@ -47,7 +48,7 @@ impl Item for StoredRoute {
     fn read(alloc: Global, reader: &mut Reader<'_>) -> Result<StoredRoute, Refusal> {
         let (name, (number, (start, (finish, born)))) = RouteParts::read(alloc, reader)?;
         Ok(StoredRoute {
-            name,
+            name: Rc::new(alloc, name)?,
             number,
             start,
             finish,

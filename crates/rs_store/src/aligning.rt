@@ -131,7 +131,7 @@ fn drop_alignment_from_both<P: Pages>(
     ensures { let next = changes.without_alignment catalog.old name.now.bytes in
         Redefines P.is_tied P.store P.keeps oldest (ChangesDefinitions (listing_of next)) next result pages.old pages.new file.old file.new catalog.old catalog.new }
 {
-    let definitions = definitions_without_alignment(alloc, catalog, name)?;
+    let definitions = definitions_without_alignment(alloc, &file.definitions, catalog, name)?;
     rewrite(alloc, pages, file, oldest, definitions)?;
     catalog.drop_alignment(name);
     Ok(())
@@ -140,12 +140,13 @@ fn drop_alignment_from_both<P: Pages>(
 /// The definitions of the catalogue as a file keeps them, without this alignment. The only refusal is for want of memory.
 fn definitions_without_alignment(
     alloc: Global,
+    former: &StoredCatalogue,
     catalog: &Catalog,
     name: &Name,
 ) -> Result<StoredCatalogue, AllocError>
     ensures { IfOk result (λ stored. said_catalogue stored ≡ listing_of (changes.without_alignment catalog.now name.now.bytes)) }
 {
-    let mut definitions = stored_of(alloc, catalog)?;
+    let mut definitions = stored_of(alloc, former, catalog)?;
     definitions
         .alignments
         .retain(|alignment| !is_name(name, alignment.name.as_str()));

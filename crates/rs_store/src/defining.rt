@@ -137,7 +137,7 @@ fn drop_view_from_both<P: Pages>(
     ensures { let next = changes.without_view catalog.old name.now.bytes in
         Redefines P.is_tied P.store P.keeps oldest (ChangesDefinitions (listing_of next)) next result pages.old pages.new file.old file.new catalog.old catalog.new }
 {
-    let definitions = definitions_without_view(alloc, catalog, name)?;
+    let definitions = definitions_without_view(alloc, &file.definitions, catalog, name)?;
     rewrite(alloc, pages, file, oldest, definitions)?;
     catalog.drop_view(name);
     Ok(())
@@ -146,12 +146,13 @@ fn drop_view_from_both<P: Pages>(
 /// The definitions of the catalogue as a file keeps them, without this view. The only refusal is for want of memory.
 fn definitions_without_view(
     alloc: Global,
+    former: &StoredCatalogue,
     catalog: &Catalog,
     name: &Name,
 ) -> Result<StoredCatalogue, AllocError>
     ensures { IfOk result (λ stored. said_catalogue stored ≡ listing_of (changes.without_view catalog.now name.now.bytes)) }
 {
-    let mut definitions = stored_of(alloc, catalog)?;
+    let mut definitions = stored_of(alloc, former, catalog)?;
     definitions
         .views
         .retain(|view| !is_name(name, view.name.as_str()));

@@ -199,7 +199,7 @@ fn write_index<P: Pages>(
 {
     catalog.stand();
     let index = catalog.index(name).unwrap();
-    let stored = stored_of(alloc, catalog)?;
+    let stored = stored_of(alloc, &file.definitions, catalog)?;
     check_definitions(&stored)?;
     let position = position_of(
         stored.indexes.as_slice(),
@@ -243,7 +243,7 @@ fn erase_index<P: Pages>(
         number,
         index.table_number(),
     );
-    let stored = stored_without_index(alloc, catalog, number)?;
+    let stored = stored_without_index(alloc, &file.definitions, catalog, number)?;
     check_definitions(&stored)?;
     let at = IndexPlace {
         table: place,
@@ -255,12 +255,13 @@ fn erase_index<P: Pages>(
 /// The definitions of the catalogue as a file keeps them, without the index of this number. The only refusal is for want of memory.
 fn stored_without_index(
     alloc: Global,
+    former: &StoredCatalogue,
     catalog: &Catalog,
     number: u32,
 ) -> Result<StoredCatalogue, AllocError>
     ensures { IfOk result (λ stored. said_catalogue stored ≡ without_index_numbered number (listing_of catalog.now)) }
 {
-    let mut stored = stored_of(alloc, catalog)?;
+    let mut stored = stored_of(alloc, former, catalog)?;
     stored.indexes.retain(|index| index.number != number);
     Ok(stored)
 }

@@ -41,7 +41,7 @@ pub(crate) fn write_definitions_of<P: Pages>(
     requires births { AllByRecursion (λ route. route.born ≤ file.old.accepted + 1) (listing_of catalog.now).routes }
     ensures { Rewrites P.is_tied P.store P.keeps oldest (ChangesDefinitions (listing_of catalog.now)) (listing_of catalog.now) result pages.old pages.new file.old file.new }
 {
-    let definitions = stored_of(alloc, catalog)?;
+    let definitions = stored_of(alloc, &file.definitions, catalog)?;
     rewrite(alloc, pages, file, oldest, definitions)
 }
 

@@ -183,7 +183,7 @@ fn drop_route_from_all<P: Pages>(
     one_route_is_listed_more_or_less();
     catalog.stand();
     let number = catalog.route(name).unwrap().number();
-    let definitions = definitions_without_route(alloc, catalog, name)?;
+    let definitions = definitions_without_route(alloc, &file.definitions, catalog, name)?;
     erase_route(alloc, pages, file, oldest, definitions, number)?;
     catalog.drop_route(name);
     referents.drop_route(number);
@@ -217,6 +217,7 @@ fn erase_route<P: Pages>(
 /// memory.
 fn definitions_without_route(
     alloc: Global,
+    former: &StoredCatalogue,
     catalog: &Catalog,
     name: &Name,
 ) -> Result<StoredCatalogue, AllocError>
@@ -225,7 +226,7 @@ fn definitions_without_route(
     ensures { IfOk result (λ stored. said_catalogue stored ≡ listing_of (changes.without_route catalog.now name.now.bytes)) }
 {
     one_route_is_listed_more_or_less();
-    let mut definitions = stored_of(alloc, catalog)?;
+    let mut definitions = stored_of(alloc, former, catalog)?;
     definitions
         .routes
         .retain(|route| !is_name(name, route.name.as_str()));

@@ -193,7 +193,7 @@ fn write_table<P: Pages>(
     ensures { Rewrites P.is_tied P.store P.keeps oldest (PutsNumbered number (listing_of catalog.now)) (listing_of catalog.now) result pages.old pages.new file.old file.new }
 {
     catalog.stand();
-    let stored = stored_of(alloc, catalog)?;
+    let stored = stored_of(alloc, &file.definitions, catalog)?;
     check_definitions(&stored)?;
     let (place, schema) = columns_at(stored.tables.as_slice(), number);
     rs_changes::define_table(alloc, pages, file, oldest, stored, place, schema)
@@ -228,7 +228,7 @@ fn erase_table<P: Pages>(
     one_table_is_listed_more_or_less();
     catalog.stand();
     let number = catalog.table(name).unwrap().number();
-    let stored = stored_without_table(alloc, catalog, number)?;
+    let stored = stored_without_table(alloc, &file.definitions, catalog, number)?;
     check_definitions(&stored)?;
     let place = table_place(file, catalog, name);
     rs_changes::drop_table(alloc, pages, file, oldest, stored, place)
@@ -238,12 +238,13 @@ fn erase_table<P: Pages>(
 /// of memory.
 fn stored_without_table(
     alloc: Global,
+    former: &StoredCatalogue,
     catalog: &Catalog,
     number: u32,
 ) -> Result<StoredCatalogue, AllocError>
     ensures { IfOk result (λ stored. said_catalogue stored ≡ without_number number (listing_of catalog.now)) }
 {
-    let mut stored = stored_of(alloc, catalog)?;
+    let mut stored = stored_of(alloc, former, catalog)?;
     stored.tables.retain(|table| table.number != number);
     stored.indexes.retain(|index| index.table != number);
     Ok(stored)

@@ -38,7 +38,7 @@ pub(crate) fn name_of(text: &str) -> Name
 
 /// A route.
 pub(crate) fn route_entry(route: &StoredRoute) -> RouteEntry
-    requires { IsRoute (string_bytes route.now.name) (ends_of (said_route route.now)) }
+    requires { IsRoute (string_bytes route.now.name.value) (ends_of (said_route route.now)) }
     ensures { result ≡ (named_route (said_route route.now)).1 }
 {
     let start = Measure::from_thousandths(route.start);

@@ -1,8 +1,9 @@
 //! Lists the definitions of the catalogue in memory, as a file keeps them.
 //!
-//! Each list comes in the order of names. A piece of an alignment has its routes by number, and an index its table.
+//! Each list comes in the order of names. A piece of an alignment has its routes by number, and an index its table. The names of
+//! routes are shared with the definitions that the file had before, so that a list of many routes takes memory for new names alone.
 
-ghost use Rattle.std.specs.Prelude.{◌≡◌, IfOk, map, string_bytes};
+ghost use Rattle.std.specs.Prelude.{◌≡◌, IfOk, IfSome, map, string_bytes};
 ghost use Rattle.std.specs.FinMap as names;
 ghost use Rattle.rs_catalog.specs.Definitions.{pieces_of};
 ghost use Rattle.rs_catalog_pages.specs.Said.{said_alignment, said_catalogue, said_column, said_index, said_piece, said_route, said_table, said_view};
@@ -20,12 +21,18 @@ use rs_methods::Name;
 use rs_syntax::{ColumnDefinition, Piece};
 use rs_value::{ColumnType, Kind};
 use std::alloc::{AllocError, Global};
+use std::rc::Rc;
 
-/// The stored definitions of this catalogue, each list in the order of names. The only refusal is for want of memory.
-pub fn stored_of(alloc: Global, catalog: &Catalog) -> Result<StoredCatalogue, AllocError>
+/// The stored definitions of this catalogue, each list in the order of names, with the names of routes that the former definitions
+/// have. The only refusal is for want of memory.
+pub fn stored_of(
+    alloc: Global,
+    former: &StoredCatalogue,
+    catalog: &Catalog,
+) -> Result<StoredCatalogue, AllocError>
     ensures { IfOk result (λ stored. said_catalogue stored ≡ listing_of catalog.now) }
 {
-    let routes = stored_routes(alloc, catalog)?;
+    let routes = stored_routes(alloc, former.routes.as_slice(), catalog)?;
     let tables = stored_tables(alloc, catalog)?;
     let indexes = stored_indexes(alloc, catalog)?;
     let views = stored_views(alloc, catalog)?;
@@ -48,27 +55,67 @@ fn text_of(alloc: Global, name: &Name) -> Result<String, AllocError>
 
 // ---- routes
 
-fn stored_routes(alloc: Global, catalog: &Catalog) -> Result<Vec<StoredRoute>, AllocError>
+fn stored_routes(
+    alloc: Global,
+    former: &[StoredRoute],
+    catalog: &Catalog,
+) -> Result<Vec<StoredRoute>, AllocError>
     ensures { IfOk result (λ stored. map said_route stored.items ≡ map listed_route (names.entries catalog.now.routes)) }
 {
     let mut stored = Vec::with_capacity(alloc, catalog.routes_len())?;
+    let mut place = 0;
     for (name, route) in catalog.routes() {
-        stored.push(stored_route(alloc, name, *route)?)?;
+        let text = shared_text(alloc, former, &mut place, name)?;
+        stored.push(stored_route(text, *route))?;
     }
     Ok(stored)
 }
 
-fn stored_route(alloc: Global, name: &Name, route: RouteEntry) -> Result<StoredRoute, AllocError>
-    ensures { IfOk result (λ stored. said_route stored ≡ listed_route (name.now.bytes, route)) }
+// The text of a name: that of the former route at the place or at the one after it, which comes before the place then, or else a
+// new one. So it is found where at most one route has come or gone.
+fn shared_text(
+    alloc: Global,
+    former: &[StoredRoute],
+    place: &mut usize,
+    name: &Name,
+) -> Result<Rc<String>, AllocError>
+    ensures { IfOk result (λ text. string_bytes text.value ≡ name.now.bytes) }
+{
+    let next = place.saturating_add(1);
+    if let Some(text) = text_at(former, *place, name) {
+        *place = next;
+        return text.clone();
+    }
+    if let Some(text) = text_at(former, next, name) {
+        *place = next.saturating_add(1);
+        return text.clone();
+    }
+    Ok(Rc::new(alloc, text_of(alloc, name)?)?)
+}
+
+// The text of the former route at the place, where it is this name.
+fn text_at<'a>(former: &'a [StoredRoute], place: usize, name: &Name) -> Option<&'a Rc<String>>
+    ensures { IfSome result (λ text. string_bytes text.now.value ≡ name.now.bytes) }
+{
+    let route = former.get(place)?;
+    if route.name.as_str() == name.as_str() {
+        Some(&route.name)
+    } else {
+        None
+    }
+}
+
+fn stored_route(name: Rc<String>, route: RouteEntry) -> StoredRoute
+    ensures { said_route result ≡ listed_route (string_bytes name.value, route) }
 {
     let ends = route.ends();
-    Ok(StoredRoute {
-        name: text_of(alloc, name)?,
+    StoredRoute {
+        name,
         number: route.number(),
         start: ends.start().thousandths(),
         finish: ends.finish().thousandths(),
         born: route.born(),
-    })
+    }
 }
 
 // ---- tables

@@ -20,7 +20,7 @@ abbrev AreSo : List StoredRoute → Type 0
 AreSo routes = AllByRecursion (λ (route : RouteItem). IsRoute route.name (ends_of route)) (map said_route routes)
 
 abbrev order : List StoredRoute → Bool
-order routes = in_order (λ (route : StoredRoute). string_bytes route.name) routes
+order routes = in_order (λ (route : StoredRoute). string_bytes route.name.value) routes
 
 pub returns-then-is_each_route : goal.returns-then-is_each_route
 returns-then-is_each_route c =

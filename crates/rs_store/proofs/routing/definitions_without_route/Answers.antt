@@ -22,8 +22,8 @@ returns c =
     let more = c.one_route_is_listed_more_or_less.ensures.less catalog name one.0 one.1 c.requires.unused in
     let others : List RouteItem → List RouteItem = filter (λ route. not (same_name name route.name)) in
     let left : map said_route c.retain.new.self.items ≡ map listed_route (names.entries (names.remove catalog.routes name)) =
-    ap (map said_route) (filter_same _ (λ (route : StoredRoute). not (same_name name (string_bytes route.name))) _ (λ x b f' k. search rules) _ _ c.retain.ensures.filtered)
-    ∙ seen_passing said_route (λ (route : StoredRoute). not (same_name name (string_bytes route.name))) (λ route. not (same_name name route.name)) was.routes.items (λ route. refl)
+    ap (map said_route) (filter_same _ (λ (route : StoredRoute). not (same_name name (string_bytes route.name.value))) _ (λ x b f' k. search rules) _ _ c.retain.ensures.filtered)
+    ∙ seen_passing said_route (λ (route : StoredRoute). not (same_name name (string_bytes route.name.value))) (λ route. not (same_name name route.name)) was.routes.items (λ route. refl)
     ∙ ap (λ (items : CatalogueItems). others items.routes) c.in_ok-definitions.ensures
     ∙ listed_without catalog.routes name listed_route (λ route. route.name) (λ entry. refl) in
     ap (λ (routes : List RouteItem). record (said_catalogue was) { routes = routes }) left

@@ -1,4 +1,4 @@
-use Rattle.std.proofs.Common.{◌≤◌, length, map, sym, ap, subst, ◌∙◌}
+use Rattle.std.proofs.Common.{◌≤◌, length, map, string_bytes, sym, ap, subst, ◌∙◌}
 use Rattle.rs_catalog_meaning.specs.Meaning.{ends_of}
 use Rattle.rs_catalog_meaning.specs.Stating.{name_with}
 use Rattle.rs_catalog_pages.specs.Items.{RouteItem}
@@ -13,11 +13,11 @@ pub name_of-requires : goal.name_of-requires
 name_of-requires c =
     let there = c.in-Some.ensures.route.0 in
     let is = each_said said_route (λ (r : RouteItem). IsRoute r.name (ends_of r)) c.args.routes.now there.0 c.in-Some.route.now there.1 (sym there.2) c.requires.routes.each in
-    subst (λ text. length text ≤ NAME_BYTES) (sym c.as_str.ensures.value) is.named.short
+    subst (λ text. length text ≤ NAME_BYTES) (sym (c.as_str.ensures.value ∙ ap string_bytes c.deref.ensures)) is.named.short
 
 pub returns-in-Some : goal.returns-in-Some
 returns-in-Some c =
-    c.name_of.ensures ∙ c.as_str.ensures.value
+    c.name_of.ensures ∙ c.as_str.ensures.value ∙ ap string_bytes c.deref.ensures
     ∙ sym (name_with-there (map said_route c.args.routes.now) (said_route c.in-Some.route.now) c.requires.routes (said_there said_route c.args.routes.now c.in-Some.route.now c.in-Some.ensures.route.0))
     ∙ ap (name_with (map said_route c.args.routes.now)) c.in-Some.ensures.route.1
 

@@ -1,4 +1,4 @@
-use Rattle.std.proofs.Common.{◌<◌, ◌≤◌, length, map, refl, sym, ap, subst, ◌∙◌, arith}
+use Rattle.std.proofs.Common.{◌<◌, ◌≤◌, length, map, string_bytes, refl, sym, ap, subst, ◌∙◌, arith}
 use Rattle.std.proofs.lemmas.List.{length-map}
 use Rattle.rs_catalog.specs.Definitions as catalog
 use Rattle.rs_catalog.specs.Definitions.{Definitions, IsColumnOf, IsFree}
@@ -24,7 +24,7 @@ loop-route-init c = ap (λ (items : Names (catalog.RouteItem)). record c.args.ca
 pub name_of-requires : goal.name_of-requires
 name_of-requires c =
     let is = each_said said_route (λ (r : RouteItem). IsRoute r.name (ends_of r)) c.args.routes.now c.loop-route.route-index c.route-item.result c.loop-route-test.true c.route-item.is c.requires.meant.each in
-    subst (λ text. length text ≤ NAME_BYTES) (sym c.as_str.ensures.value) is.named.short
+    subst (λ text. length text ≤ NAME_BYTES) (sym (c.as_str.ensures.value ∙ ap string_bytes c.deref.ensures)) is.named.short
 
 pub route_entry-requires : goal.route_entry-requires
 route_entry-requires c =
@@ -39,7 +39,7 @@ enter_route-requires-clause-new c =
     let i = c.loop-route.route-index in
     let at = said_at said_route c.args.routes.now i c.route-item.result c.loop-route-test.true c.route-item.is in
     ap (λ (d : Definitions). has d.routes c.name_of.result.bytes) c.loop-route.invariant
-    ∙ ap (has (so_far name value items i)) (c.name_of.ensures ∙ c.as_str.ensures.value)
+    ∙ ap (has (so_far name value items i)) (c.name_of.ensures ∙ c.as_str.ensures.value ∙ ap string_bytes c.deref.ensures)
     ∙ next-new name value items i (said_route c.route-item.result) c.requires.meant.in_order at.0 at.1
 
 pub enter_route-requires-clause-free : goal.enter_route-requires-clause-free
@@ -64,7 +64,7 @@ loop-route-preserved c =
     ∙ ap (λ (d : Definitions). with_route d c.name_of.result.bytes c.route_entry.result) c.loop-route.invariant
     ∙ ap (λ (items : Names (catalog.RouteItem)). record c.args.catalog.now { routes = items })
     (step name (λ (x : RouteItem). (named_route x).1) (map said_route c.args.routes.now) c.loop-route.route-index (said_route c.route-item.result) c.requires.meant.in_order at.0 at.1 c.name_of.result.bytes c.route_entry.result
-    (c.name_of.ensures ∙ c.as_str.ensures.value) c.route_entry.ensures)
+    (c.name_of.ensures ∙ c.as_str.ensures.value ∙ ap string_bytes c.deref.ensures) c.route_entry.ensures)
 
 pub returns : goal.returns
 returns c =
