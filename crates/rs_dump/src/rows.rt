@@ -16,7 +16,8 @@ ghost use Rattle.rs_syntax.specs.Tree.{insert};
 use crate::held::{Held, NamedTable};
 use crate::stop::Stop;
 use rs_catalog::NamedRoute;
-use rs_dump_lines::writing::{push_row_front, push_row_line};
+use rs_dump_lines::rows::{ROW_ROOM, push_row_by_room};
+use rs_dump_lines::writing::push_row_front;
 use rs_facts::Span;
 use rs_machine::limits::LINE_BYTES;
 use rs_protocol::put_parts;
@@ -86,7 +87,8 @@ fn add_rows_on<H: Held, W: Write>(
         Ok(spans) => {
             let mut front = Vec::new(alloc);
             push_row_front(&mut front, table.kind, &table.name, &route.name)?;
-            add_rows(table.kind, &front, &spans, piece, output)
+            let mut room = [0; ROW_ROOM];
+            add_rows(table.kind, &front, &spans, &mut room, piece, output)
         }
         Err(refusal) => {
             put_piece(piece, output)?;
@@ -95,11 +97,12 @@ fn add_rows_on<H: Held, W: Write>(
     }
 }
 
-/// Adds the lines of these spans.
+/// Adds the lines of these spans, which are made in a room.
 fn add_rows<W: Write>(
     kind: Kind,
     front: &[u8],
     spans: &[Span],
+    room: &mut [u8],
     piece: &mut Vec<u8>,
     output: &mut W,
 ) -> Result<(), Stop>
@@ -108,16 +111,17 @@ fn add_rows<W: Write>(
     ensures stops { IfErr result StopsWriting }
 {
     for span in spans {
-        add_row(kind, front, span, piece, output)?;
+        add_row(kind, front, span, room, piece, output)?;
     }
     Ok(())
 }
 
-/// Adds the line of a row, and writes the lines so far once there are enough of them.
+/// Adds the line of a row, which is made in a room, and writes the lines so far once there are enough of them.
 fn add_row<W: Write>(
     kind: Kind,
     front: &[u8],
     span: &Span,
+    room: &mut [u8],
     piece: &mut Vec<u8>,
     output: &mut W,
 ) -> Result<(), Stop>
@@ -125,8 +129,7 @@ fn add_row<W: Write>(
         → AddsBytes result (line_bytes (insert table route (location_of kind (seen span.now)) (seen span.now).row)) piece.old.items piece.new.items (W.contents output.old) (W.contents output.new) }
     ensures stops { IfErr result StopsWriting }
 {
-    push_row_line(piece, front, kind, span)?;
-    piece.push(b'\n')?;
+    push_row_by_room(piece, room, front, kind, span)?;
     if piece.len() < PIECE_BYTES {
         return Ok(());
     }

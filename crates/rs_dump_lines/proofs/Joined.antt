@@ -1,5 +1,5 @@
 -- Texts that are appended one after another, and texts with a comma between them.
-use Rattle.std.proofs.Common.{◌≡◌, ◌≤◌, ◌∙◌, ℕ, List, [], ◌∷◌, ◌++◌, ap, append-nil, append_assoc, arith, codes, drop, get_or, length, map, refl, sym}
+use Rattle.std.proofs.Common.{◌≡◌, ◌≤◌, ◌+◌, ◌∙◌, ℕ, zero, suc, List, [], ◌∷◌, ◌++◌, ap, append-nil, append_assoc, arith, codes, drop, get_or, length, map, refl, sym}
 use Rattle.std.specs.List.{join_with_byte}
 use Rattle.rs_dump_laws.specs.Lines.{COMMA, bracketed_texts, dump_line}
 use Rattle.rs_dump_laws.specs.Dump.{location_of}
@@ -48,3 +48,39 @@ pub row_line : (kind : Kind) (table route : List ℕ) (span : Stretch) (row : Ro
     → row_front kind table route ++ (measures_text kind span ++ (codes " VALUES" ++ bracketed_texts (map datum_text row))) ≡ dump_line (insert table route (location_of kind span) row)
 row_line Line table route span row = front_and Line table route _
 row_line Point table route span row = front_and Point table route _
+
+-- ---- what is put before the rest
+
+-- a value, and the others with a comma before each
+pub one_more : (row : Row) (left next : ℕ) (rest : List ℕ) → left + 1 ≡ next → next ≤ length row
+    → COMMA ∷ (datum_text (get_or row left null) ++ (more_texts (map datum_text (drop next row)) ++ rest)) ≡ more_texts (map datum_text (drop left row)) ++ rest
+one_more [] left next rest is few = absurd (omega arith)
+one_more (datum ∷ row) left zero rest is few = absurd (omega arith)
+one_more (datum ∷ row) zero (suc next) rest is few =
+    let none : next ≡ 0 = omega arith in
+    rw none (ap (λ t. COMMA ∷ t) (sym (append_assoc (datum_text datum) (more_texts (map datum_text row)) rest)))
+one_more (datum ∷ row) (suc left) (suc next) rest is few = one_more row left next rest (omega arith) (omega arith)
+
+-- the first value of a row, and the others
+pub first_before : (row : Row) (left : ℕ) (rest : List ℕ) → left ≡ 1 → 1 ≤ length row
+    → datum_text (get_or row 0 null) ++ (more_texts (map datum_text (drop left row)) ++ rest) ≡ join_with_byte COMMA (map datum_text row) ++ rest
+first_before [] left rest is some = absurd (omega arith)
+first_before (datum ∷ row) left rest is some =
+    rw is (sym (append_assoc (datum_text datum) (more_texts (map datum_text row)) rest) ∙ ap (λ t. t ++ rest) (sym (joined_more (datum_text datum) (map datum_text row))))
+
+-- the values in brackets, and the end of the line
+pub in_brackets : (texts : List (List ℕ)) (rest : List ℕ) → 40 ∷ (join_with_byte COMMA texts ++ (codes ")\n" ++ rest)) ≡ bracketed_texts texts ++ (codes "\n" ++ rest)
+in_brackets texts rest = ap (λ t. 40 ∷ t) (sym (append_assoc (join_with_byte COMMA texts) (codes ")") (codes "\n" ++ rest)))
+
+-- the line of a row and its end
+pub row_and_end : (kind : Kind) (table route : List ℕ) (span : Stretch) (row : Row)
+    → row_front kind table route ++ (measures_text kind span ++ (codes " VALUES" ++ (bracketed_texts (map datum_text row) ++ codes "\n")))
+    ≡ dump_line (insert table route (location_of kind span) row) ++ codes "\n"
+row_and_end kind table route span row =
+    let front = row_front kind table route in
+    let measures = measures_text kind span in
+    let values = bracketed_texts (map datum_text row) in
+    sym (ap (λ t. t ++ codes "\n") (sym (row_line kind table route span row))
+    ∙ append_assoc front (measures ++ (codes " VALUES" ++ values)) (codes "\n")
+    ∙ ap (λ t. front ++ t) (append_assoc measures (codes " VALUES" ++ values) (codes "\n")
+    ∙ ap (λ t. measures ++ t) (append_assoc (codes " VALUES") values (codes "\n"))))

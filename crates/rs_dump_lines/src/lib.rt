@@ -7,5 +7,6 @@ pub mod asking;
 pub mod lists;
 pub mod measures;
 mod parts;
+pub mod rows;
 mod values;
 pub mod writing;

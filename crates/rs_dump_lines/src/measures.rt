@@ -1,13 +1,16 @@
 //! The shortest text of a measure says it.
 
-ghost use Rattle.std.specs.Prelude.{◌≡◌, ◌<◌, ◌≤◌, ◌+◌, [], ◌∷◌, ◌++◌, ℕ, OnOk};
+ghost use Rattle.std.specs.Prelude.{◌≡◌, ◌<◌, ◌≤◌, ◌+◌, [], ◌∷◌, ◌++◌, ℕ, OnOk, decimal, drop, length};
 ghost use Rattle.rs_dump_laws.specs.Lines.{decimals_text, point_text, shortest_text};
 ghost use Rattle.rs_measure.specs.Measure.{SaysMeasure};
 ghost use Rattle.rs_measure.specs.declared.measure.TheConstants.{GREATEST_MEASURE};
 
-use crate::parts::push_few;
-use itoa::Buffer;
+use crate::parts::{push_few, put_before};
+use itoa::{Buffer, write_digits};
 use std::alloc::AllocError;
+
+/// The most bytes of the shortest text of a measure: seven digits, a point and three decimals.
+pub(crate) const MEASURE_BYTES: usize = 11;
 
 /// The text of a measure without needless zeros says the measure.
 pub fn shortest_text_says_the_measure()
@@ -57,4 +60,81 @@ fn push_digit(text: &mut Vec<u8>, digit: u32) -> Result<(), AllocError>
 {
     text.push(b'0' + digit as u8)?;
     Ok(())
+}
+
+/// Puts the shortest text of a measure of so many thousandths before the byte at `end`, and says where it begins.
+pub(crate) fn put_measure_before(thousandths: u32, bytes: &mut [u8], end: usize) -> usize
+    requires room { MEASURE_BYTES ≤ end }
+    requires inside { end ≤ length bytes.old }
+    ensures begins { result ≤ end }
+    ensures few { end ≤ result + MEASURE_BYTES }
+    ensures length { length bytes.new ≡ length bytes.old }
+    ensures put { drop result bytes.new ≡ shortest_text thousandths ++ drop end bytes.old }
+{
+    let point = put_point_before(thousandths % 1000, bytes, end);
+    put_whole_before(thousandths / 1000, bytes, point)
+}
+
+/// Puts the digits of the whole part of a measure before the byte at `end`.
+fn put_whole_before(whole: u32, bytes: &mut [u8], end: usize) -> usize
+    requires whole { whole < 10_000_000 }
+    requires room { 7 ≤ end }
+    requires inside { end ≤ length bytes.old }
+    ensures begins { result ≤ end }
+    ensures few { end ≤ result + 7 }
+    ensures length { length bytes.new ≡ length bytes.old }
+    ensures put { drop result bytes.new ≡ decimal whole ++ drop end bytes.old }
+{
+    write_digits(u64::from(whole), bytes, end)
+}
+
+/// Puts what follows the whole part before the byte at `end`: nothing, or a point and decimals.
+fn put_point_before(rest: u32, bytes: &mut [u8], end: usize) -> usize
+    requires rest { rest < 1000 }
+    requires room { 4 ≤ end }
+    requires inside { end ≤ length bytes.old }
+    ensures begins { result ≤ end }
+    ensures few { end ≤ result + 4 }
+    ensures length { length bytes.new ≡ length bytes.old }
+    ensures put { drop result bytes.new ≡ point_text rest ++ drop end bytes.old }
+{
+    if rest == 0 {
+        return end;
+    }
+    let start = put_decimals_before(rest, bytes, end);
+    put_before(b'.', bytes, start)
+}
+
+/// Puts the decimals of so many thousandths, without zeros at their end, before the byte at `end`.
+fn put_decimals_before(rest: u32, bytes: &mut [u8], end: usize) -> usize
+    requires rest { rest < 1000 }
+    requires room { 3 ≤ end }
+    requires inside { end ≤ length bytes.old }
+    ensures begins { result ≤ end }
+    ensures few { end ≤ result + 3 }
+    ensures length { length bytes.new ≡ length bytes.old }
+    ensures put { drop result bytes.new ≡ decimals_text rest ++ drop end bytes.old }
+{
+    if rest % 100 == 0 {
+        return put_digit_before(rest / 100, bytes, end);
+    }
+    if rest % 10 == 0 {
+        let hundredths = put_digit_before(rest / 10 % 10, bytes, end);
+        return put_digit_before(rest / 100, bytes, hundredths);
+    }
+    let thousandths = put_digit_before(rest % 10, bytes, end);
+    let hundredths = put_digit_before(rest / 10 % 10, bytes, thousandths);
+    put_digit_before(rest / 100, bytes, hundredths)
+}
+
+/// Puts a decimal digit before the byte at `end`.
+fn put_digit_before(digit: u32, bytes: &mut [u8], end: usize) -> usize
+    requires digit { digit < 10 }
+    requires room { 0 < end }
+    requires inside { end ≤ length bytes.old }
+    ensures begins { result + 1 ≡ end }
+    ensures length { length bytes.new ≡ length bytes.old }
+    ensures put { drop result bytes.new ≡ (48 + digit) ∷ drop end bytes.old }
+{
+    put_before(b'0' + digit as u8, bytes, end)
 }

@@ -13,7 +13,7 @@ use rs_value::LentValue;
 use std::alloc::AllocError;
 
 /// The byte of a quote.
-const QUOTE: u8 = b'\'';
+pub(crate) const QUOTE: u8 = b'\'';
 
 /// Appends the text of a value. Where memory runs out, a part may have been appended.
 pub(crate) fn push_value(text: &mut Vec<u8>, value: LentValue<'_>) -> Result<(), AllocError>
@@ -47,7 +47,7 @@ fn push_within(text: &mut Vec<u8>, quoted: &[u8]) -> Result<(), AllocError>
 }
 
 /// Whether a quote is among the bytes.
-fn has_quote(bytes: &[u8]) -> bool
+pub(crate) fn has_quote(bytes: &[u8]) -> bool
     ensures { result ≡ false → quotes_doubled bytes.now ≡ bytes.now }
 {
     for byte in bytes {

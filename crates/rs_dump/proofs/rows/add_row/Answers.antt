@@ -1,9 +1,8 @@
 -- The line and its LF are held back, or written with what was.
-use Rattle.std.proofs.Common.{◌∙◌, ◌++◌, ◌∷◌, [], ℕ, List, ap, append_assoc}
+use Rattle.std.proofs.Common.{◌++◌}
 use Rattle.rs_dump.specs.Written.{line_bytes}
 use Rattle.rs_dump.specs.declared.stop.Stop.TheVariants.{Refused}
 use Rattle.rs_dump_laws.specs.Dump.{location_of}
-use Rattle.rs_dump_laws.specs.Lines.{dump_line}
 use Rattle.rs_facts.specs.Spans.{seen}
 use Rattle.rs_refusal.specs.declared.refusal.Refusal.TheVariants.{OutOfMemory}
 use Rattle.rs_syntax.specs.Tree.{insert}
@@ -11,13 +10,9 @@ use Rattle.rs_dump.proofs.Gathered.{held_as, held_back}
 use Rattle.rs_dump.proofs.Stops.{nothing_out, passed_on}
 use Rattle.rs_dump.proofs.rows.add_row.Goals as goal
 
-pub returns-in_err-push_row_line-clause-line : goal.returns-in_err-push_row_line-clause-line
-returns-in_err-push_row_line-clause-line g c = λ table route is.
+pub returns-in_err-push_row_by_room-clause-line : goal.returns-in_err-push_row_by_room-clause-line
+returns-in_err-push_row_by_room-clause-line g c = λ table route is.
     passed_on c.from_residual.result (Refused OutOfMemory) _ _ c.from_residual.ensures.1 (nothing_out OutOfMemory _ (g.W.Write.contents c.args.output.now))
-
-pub returns-in_err-push-clause-line : goal.returns-in_err-push-clause-line
-returns-in_err-push-clause-line g c = λ table route is.
-    passed_on c.from_residual-in_err-push.result (Refused OutOfMemory) _ _ c.from_residual-in_err-push.ensures.1 (nothing_out OutOfMemory _ (g.W.Write.contents c.args.output.now))
 
 pub returns-then-len-lt-PIECE_BYTES-clause-line : goal.returns-then-len-lt-PIECE_BYTES-clause-line
 returns-then-len-lt-PIECE_BYTES-clause-line g c = λ table route is.
@@ -25,6 +20,5 @@ returns-then-len-lt-PIECE_BYTES-clause-line g c = λ table route is.
     let tree = insert table route (location_of c.args.kind span) span.row in
     let piece = c.args.piece.now.items in
     let output = g.W.Write.contents c.args.output.now in
-    held_as c.push.new.self.items (piece ++ line_bytes tree) c.push.new.self.items output output
-    (c.in_ok-push.ensures.items ∙ ap (λ (l : List ℕ). l ++ 10 ∷ []) (c.in_ok-push_row_line.ensures table route is) ∙ append_assoc piece (dump_line tree) (10 ∷ []))
-    (held_back c.push.new.self.items output)
+    let now = c.push_row_by_room.new.text.items in
+    held_as now (piece ++ line_bytes tree) now output output (c.in_ok-push_row_by_room.ensures table route is) (held_back now output)
