@@ -10,6 +10,7 @@ import io
 import os
 import random
 import re
+import string
 import subprocess
 import sys
 import tempfile
@@ -125,7 +126,8 @@ def measure_of(field, rounds):
     """The measure that an office wrote, in the text of a line, and whether it was rounded; or the words for what is wrong."""
     field = field.strip(" ")
     if not re.fullmatch(NUMBER, field):
-        return "is not a position"
+        past = re.fullmatch(r"0*([0-9]+(?:\.[0-9]{1,7})?) *%", field)
+        return "is more than 100%" if past and Decimal(past[1]) > 100 else "is not a position"
     exact = Decimal(field)
     if field.startswith("-"):
         return "is below 0"
@@ -200,7 +202,7 @@ def more_fields(fields, width):
 
 KINDS = [
     "no such field", "not text", "not a name", "not a position", "not a number", "not a whole number", "past 10^12", "too many decimals", "below 0", "past 999999.999",
-    "line past 4096 bytes", "longer than 65536 bytes", "more fields than the header", "one name of two texts", "no measure met on the route",
+    "more than 100%", "line past 4096 bytes", "longer than 65536 bytes", "more fields than the header", "one name of two texts", "no measure met on the route",
 ]
 
 
@@ -346,7 +348,8 @@ def check_numbers():
         ("2.1622", "has four decimals"), ("2.16225", "has five decimals"), ("0.1234567890", "has nine decimals"), (".30000000000000004", "has 17 decimals"),
         ("-1", "is below 0"), ("-0.0", "is below 0"), ("1000000", "is past 999999.999"), ("1000000.00001", "is past 999999.999"), ("1e3", "is not a position"),
         (".", "is not a position"), ("+", "is not a position"), ("1..2", "is not a position"), ("+ 1", "is not a position"), ("1_0", "is not a position"),
-        ("é" * 70, "is not a position"), ("12.12345678%", "has eight decimals"), ("12.500000000 %", "has nine decimals"), ("101%", "is not a position"),
+        ("é" * 70, "is not a position"), ("12.12345678%", "has eight decimals"), ("12.500000000 %", "has nine decimals"), ("101%", "is more than 100%"),
+        ("100.0000001%", "is more than 100%"), (" 0101.5 %", "is more than 100%"), ("1000 %", "is more than 100%"), ("0100%", "is not a position"), ("0050.5%", "is not a position"),
         ("@B+1.2345", "has four decimals"), ("@B - 0.12340", "has five decimals"), ("@B+1000000", "is not a position"), ("@B+.1234", "is not a position"),
     ):
         got = run("csv", DEFINE, "--no-define", data=head + ("SR1,0,%s,a,1\n" % measure).encode())
@@ -960,6 +963,25 @@ def check_nowhere():
     expect("without room for errors", (done.returncode, done.stdout), (1, b"0 ERR 21 no such name\n" * 30))
 
 
+def check_packed(count=12_000):
+    """Lines that wait for routes go out as they were: notes that repeat one another and others, in more texts than are known, and in letters of many kinds."""
+    chance = random.Random(9)
+    alphabets = [string.ascii_letters + string.digits + " ,'-", "абвгдежзик ", "山川道路橋雨雪", "\U0001f6a7\U0001f698é'"]
+    streets = ["%d %s %s" % (chance.randrange(100), chance.choice(["Main", "Élan", "O'Brien's", "Franklin", "山"]), chance.choice(["St", "Ave", "Rd"])) for _ in range(200)]
+    records, wanted = ["route,at,note,nr"], []
+    for number in range(count):
+        letters = alphabets[chance.randrange(4) if number > count // 2 else 0]
+        note = chance.choice(streets) if chance.randrange(3) == 0 else "".join(chance.choice(letters) for _ in range(chance.randrange(1, 30))).strip(" ") or "x"
+        records.append('SR%d,%d.%03d,"%s",%d' % (number % 7, number, number % 1000, note, number))
+        wanted.append("0 INSERT INTO notes ON SR%d AT %d.%03d VALUES ('%s', %d)" % (number % 7, number, number % 1000, note.replace("'", "''"), number))
+    got = run("csv", "DEFINE POINT TABLE notes (note TEXT(120), nr INT)", "--no-define", "--routes", data=("\n".join(records) + "\n").encode())
+    expect("the end of lines that waited", (got[0], got[2]), (0, b""))
+    lines = got[1].decode().split("\n")
+    expect("routes before lines that waited", [line.split(" FROM ")[0] for line in lines[:7]], ["0 DEFINE ROUTE SR%d" % route for route in range(7)])
+    for place, (line, other) in enumerate(zip(lines[7:], [*wanted, ""], strict=True)):
+        expect("line %d that waited" % place, line, other)
+
+
 def check_refused_growths():
     """Whichever growth is refused, a front of the lines is out, and want of memory is told."""
     chance = random.Random(6)
@@ -1000,6 +1022,7 @@ def main():
         check_watched()
         check_reported()
         check_nowhere()
+        check_packed()
         check_refused_growths()
     except Unexpected as fault:
         print("csv_lines: %s" % fault)

@@ -291,7 +291,7 @@ module _ (wanted : Wanted) (table : CommandTree) (before : Option (List ℕ)) wh
   took_last (Err _) progress input remaining after at_end wrote = wrote_last input remaining after at_end wrote
 
 -- nothing was read or made
-pub far_start : (wanted : Wanted) (table : CommandTree) (batch : Batch) (progress : Progress) (output : Option (List ℕ)) → IsBatchOf wanted.separator batch [] [] → progress.planned ≡ None → progress.made.bytes.items ≡ [] → progress.made.number ≡ 0 → progress.held.items ≡ []
+pub far_start : (wanted : Wanted) (table : CommandTree) (batch : Batch) (progress : Progress) (output : Option (List ℕ)) → IsBatchOf wanted.separator batch [] [] → progress.planned ≡ None → progress.made.bytes.items ≡ [] → progress.made.number ≡ 0 → progress.held ≡ []
     → (wanted.defines_routes ≡ true → HaveMet progress.made.extents [])
     → SoFar wanted table output batch progress [] output
 far_start wanted table batch progress output is none no_line no_number no_held none_met = record {

@@ -1,6 +1,7 @@
 -- What became of raw records, by one more step.
 use Rattle.std.proofs.Common.{◌≡◌, ◌∙◌, ℕ, ◌+◌, Bool, true, false, List, [], ◌++◌, Option, None, refl, sym, ap, subst, append_assoc, append-nil}
-use Rattle.std.specs.Prelude.{IsSome, OnErr, OnOk, Result, Ok, Err, flat_map}
+use Rattle.std.specs.Prelude.{IsSome, OnErr, OnOk, Result, Ok, Err}
+use Rattle.std.specs.List.{concat}
 use Rattle.std.specs.Io.KnownBytes.{Appends}
 use Rattle.std.proofs.KnownBytes.{Appends-nil, Appends-trans}
 use Rattle.std.proofs.lemmas.Bool.{false≢true}
@@ -10,7 +11,6 @@ use Rattle.rs_csv.specs.declared.progress.Progress.{Progress}
 use Rattle.rs_csv.specs.declared.filter.Wanted.{Wanted}
 use Rattle.rs_csv.specs.Cutting.{text_of}
 use Rattle.rs_csv.specs.Reading.{ReadsAll, nothing_read, one_more_batch}
-use Rattle.rs_csv.specs.Packing.{packed_text}
 use Rattle.rs_csv.specs.Output.{AreTaken, IsMade, IsOutput, Known, known_of, Makes, TakesMore, WroteFront, WroteOf, held_lines}
 use Rattle.rs_csv.specs.Routes.{DefineRoutes, HaveMet, IsMet, Placed}
 use Rattle.rs_csv.proofs.Outputs.{Grows, Stays, grows_same, grows_told, known_told, made_known, made_long, output_none, output_plain, output_routed, stays_told}
@@ -31,7 +31,7 @@ then_held : (sent held now bytes waiting : List ℕ) → now ≡ held ++ bytes �
 then_held sent held now bytes waiting is none = ap (λ bs. (sent ++ now) ++ bs) none ∙ append-nil (sent ++ now) ∙ ap (λ bs. sent ++ bs) is ∙ sym (append_assoc sent held bytes)
 
 same_held : (old new : Progress) → new.held ≡ old.held → held_lines new ≡ held_lines old
-same_held old new held = ap (λ h. flat_map packed_text h.items) held
+same_held old new held = ap (λ h. concat h) held
 
 module _ (wanted : Wanted) (table : CommandTree) where
   -- ---- a front of what is written
@@ -93,10 +93,10 @@ module _ (wanted : Wanted) (table : CommandTree) where
 
   -- ---- raw records that are taken
 
-  pub taken_none : (progress : Progress) (output : Option (List ℕ)) → progress.planned ≡ None → progress.made.bytes.items ≡ [] → progress.made.number ≡ 0 → progress.held.items ≡ []
+  pub taken_none : (progress : Progress) (output : Option (List ℕ)) → progress.planned ≡ None → progress.made.bytes.items ≡ [] → progress.made.number ≡ 0 → progress.held ≡ []
       → (wanted.defines_routes ≡ true → HaveMet progress.made.extents []) → AreTaken wanted table output progress [] output
   taken_none progress output none no_line no_number no_held none_met =
-      let none_held : held_lines progress ≡ [] = ap (λ held. flat_map packed_text held) no_held in
+      let none_held : held_lines progress ≡ [] = ap (λ held. concat held) no_held in
       record {
         records = [];
         read = nothing_read;

@@ -5,6 +5,7 @@ pub mod Routes
 pub mod Rejects
 pub mod Cutting
 pub mod Reading
+pub mod Words
 pub mod Packing
 pub mod Output
 pub mod Laws

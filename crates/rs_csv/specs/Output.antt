@@ -1,5 +1,5 @@
 -- What is written for a CSV: lines of one session, each of which says what it is written for.
-use Rattle.std.specs.Prelude.{◌≡◌, ◌⊎◌, ℕ, ◌+◌, ◌<◌, List, [], ◌∷◌, ◌++◌, length, map, flat_map, Option, Some, None, IfSome, Result, MatchResult, Bool, true, false, codes, string_bytes}
+use Rattle.std.specs.Prelude.{◌≡◌, ◌⊎◌, ℕ, ◌+◌, ◌<◌, List, [], ◌∷◌, ◌++◌, length, map, Option, Some, None, IfSome, Result, MatchResult, Bool, true, false, codes, string_bytes}
 use Rattle.std.specs.List.{concat}
 use Rattle.std.specs.Io.KnownBytes.{Appends, Consumes, IsAtEnd, Keeps}
 use Rattle.csv.specs.Reading.{strip_bom}
@@ -17,7 +17,6 @@ use Rattle.rs_csv_lines.specs.Inserts.{IsInsertOf}
 use Rattle.rs_csv_lines.specs.Texts.{session_text}
 use Rattle.rs_csv.specs.Header.{AreColumnsOf, AreScales, IsNamed, IsPlaceNamed}
 use Rattle.rs_csv.specs.Cutting.{IsBatchOf, IsCut, kept, kept_of}
-use Rattle.rs_csv.specs.Packing.{packed_text}
 use Rattle.rs_csv.specs.Reading.{AreReadOf}
 use Rattle.rs_csv.specs.Routes.{DefineRoutes, HaveMet, IsMet, MeetsMore, Placed}
 use Rattle.rs_csv.specs.declared.batch.Batch.{Batch}
@@ -156,7 +155,7 @@ IsMade wanted table known number extents (Some planned) records bytes = IsMadeBy
 
 -- the lines that are held until the routes are known
 abbrev pub held_lines : Progress → List ℕ
-held_lines progress = flat_map packed_text progress.held.items
+held_lines progress = concat progress.held
 
 -- these lines were sent so, and after them others are held, or are still to be sent or held
 abbrev pub IsMadeIn : Wanted → CommandTree → Progress → List (List (List ℕ)) → List ℕ → Type 0

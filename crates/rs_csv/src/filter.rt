@@ -409,7 +409,7 @@ impl Filter<'_> {
         requires no_plan { self.old.progress.planned ≡ None }
         requires no_line { self.old.progress.made.bytes.items ≡ [] }
         requires no_number { self.old.progress.made.number ≡ 0 }
-        requires none_held { self.old.progress.held.items ≡ [] }
+        requires none_held { self.old.progress.held ≡ [] }
         requires none_met { self.old.job.wanted.defines_routes ≡ true → HaveMet self.old.progress.made.extents [] }
         ensures stops { IfErr result IsMidway }
         ensures input { TakesInput self.old.job.wanted (table_of self.old.job.definition) result self.new.progress (R.remaining input.old) (R.remaining input.new) (W.contents output.old) (W.contents output.new) }
@@ -452,7 +452,7 @@ impl Filter<'_> {
         requires no_plan { self.old.progress.planned ≡ None }
         requires no_line { self.old.progress.made.bytes.items ≡ [] }
         requires no_number { self.old.progress.made.number ≡ 0 }
-        requires none_held { self.old.progress.held.items ≡ [] }
+        requires none_held { self.old.progress.held ≡ [] }
         requires none_met { self.old.job.wanted.defines_routes ≡ true → HaveMet self.old.progress.made.extents [] }
         ensures stops { IfErr result IsMidway }
         ensures input { TakesInput self.old.job.wanted (table_of self.old.job.definition) result self.new.progress (R.remaining input.old) (R.remaining input.new) (W.contents output.old) (W.contents output.new) }

@@ -1,10 +1,10 @@
 //! The end with routes: the lines that define them, and those of the records, which were held until the routes were known.
 
-ghost use Rattle.std.specs.Prelude.{◌≡◌, OnErr, OnOk, IfErr, IfOk, ℕ, List, Ok, false, flat_map};
+ghost use Rattle.std.specs.Prelude.{◌≡◌, OnErr, OnOk, IfErr, IfOk, ℕ, List, Ok, false};
+ghost use Rattle.std.specs.List.{concat};
 ghost use Rattle.std.specs.Io.KnownBytes.{Appends, Keeps};
 ghost use Rattle.rs_protocol.specs.Puts.{PutsBut};
 ghost use Rattle.rs_csv.specs.Output.{EndsTaken, IsQuiet, table_of};
-ghost use Rattle.rs_csv.specs.Packing.{packed_text};
 ghost use Rattle.rs_csv.specs.Routes.{DefineRoutes, HaveMet, IsMet, Placed, PutsRoute};
 ghost use Rattle.rs_csv.specs.Stops.{IsFailure};
 
@@ -58,15 +58,15 @@ fn route_lines<E: Write>(job: &Job<'_>, made: &mut Made, errors: &mut E) -> Resu
 }
 
 // Writes the lines that were held.
-fn write_held<W: Write>(alloc: Global, held: &[PackedLines], output: &mut W) -> Result<(), Stop>
+fn write_held<W: Write>(alloc: Global, held: &PackedLines, output: &mut W) -> Result<(), Stop>
     ensures stops { IfErr result IsFailure }
-    ensures sent { OnOk result (Appends (W.contents output.old) (W.contents output.new) (flat_map packed_text held.now)) }
-    ensures fault { OnErr result ((lost : List ℕ) × PutsBut (flat_map packed_text held.now) lost (W.contents output.old) (W.contents output.new)) }
+    ensures sent { OnOk result (Appends (W.contents output.old) (W.contents output.new) (concat held.now)) }
+    ensures fault { OnErr result ((lost : List ℕ) × PutsBut (concat held.now) lost (W.contents output.old) (W.contents output.new)) }
 {
     let mut text = Vec::new(alloc);
-    for lines in held {
+    for place in 0..held.len() {
         text.clear();
-        let Ok(()) = lines.unpack(&mut text) else {
+        let Ok(()) = held.unpack(place, &mut text) else {
             return Err(Stop::OutOfMemory);
         };
         if let Err(fault) = put_parts(output, &[text.as_slice()]) {
@@ -98,7 +98,7 @@ pub fn write_rest<W: Write, E: Write>(
     if let Err(fault) = put_parts(output, &[routes.as_slice()]) {
         return Err(Stop::Stream(fault));
     }
-    match write_held(job.alloc, progress.held.as_slice(), output) {
+    match write_held(job.alloc, &progress.held, output) {
         Ok(()) => Ok(progress.made.has_told),
         Err(stop) => Err(stop),
     }

@@ -24,6 +24,8 @@ pub mod spot;
 pub mod tell;
 pub mod texts;
 pub mod told;
+pub mod word;
+pub mod words;
 
 pub use filter::{Stop, Wanted, write_lines};
 pub use names_file::{MadeNames, write_names};

@@ -40,7 +40,7 @@ pub struct Progress {
     /// What is made of the records.
     pub made: Made,
     /// The lines that are held until the routes are known.
-    pub held: Vec<PackedLines>,
+    pub held: PackedLines,
 }
 
 impl Progress {
@@ -50,13 +50,13 @@ impl Progress {
         ensures bytes { result.made.bytes.items ≡ [] }
         ensures told { result.made.has_told ≡ false }
         ensures number { result.made.number ≡ 0 }
-        ensures held { result.held.items ≡ [] }
+        ensures held { result.held ≡ [] }
         ensures routes { defines_routes ≡ true → HaveMet result.made.extents [] }
     {
         Progress {
             planned: None,
             made: Made::new(alloc, defines_routes),
-            held: Vec::new(alloc),
+            held: PackedLines::new(alloc),
         }
     }
 }
@@ -132,17 +132,6 @@ pub fn write_made<W: Write>(made: &mut Made, output: &mut W) -> Result<(), Stop>
     }
 }
 
-// What the INSERTs of a plan have in common, where there is one.
-fn insert_front(alloc: Global, planned: &Option<Planned>) -> Result<Vec<u8>, AllocError> {
-    let mut front = Vec::new(alloc);
-    if let Some(planned) = planned {
-        front.extend_from_slice(b" INSERT INTO ")?;
-        front.extend_from_slice(planned.plan.table.as_str().as_bytes())?;
-        front.extend_from_slice(b" ON ")?;
-    }
-    Ok(front)
-}
-
 /// Holds the lines that were made until the routes are known.
 pub fn hold_made(alloc: Global, progress: &mut Progress) -> Result<(), Stop>
     ensures stops { IfErr result IsFailure }
@@ -153,9 +142,7 @@ pub fn hold_made(alloc: Global, progress: &mut Progress) -> Result<(), Stop>
     ensures texts { progress.new.made.texts ≡ progress.old.made.texts }
     ensures extents { progress.new.made.extents ≡ progress.old.made.extents }
 {
-    let front = insert_front(alloc, &progress.planned)?;
-    let lines = PackedLines::pack(alloc, front.as_slice(), progress.made.bytes.as_slice())?;
-    progress.held.push(lines)?;
+    progress.held.add(alloc, progress.made.bytes.as_slice())?;
     progress.made.bytes.clear();
     Ok(())
 }

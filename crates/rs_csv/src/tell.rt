@@ -42,6 +42,7 @@ fn cause_words(cause: Cause) -> &'static [u8] {
         Cause::Decimals(_) => b" has too many decimals",
         Cause::BelowZero => b" is below 0",
         Cause::PastGreatest => b" is past 999999.999",
+        Cause::PastWhole => b" is more than 100%",
     }
 }
 

@@ -10,7 +10,7 @@ use std::io::Write;
 pub const TOLD: u64 = 20;
 
 /// How many kinds there are.
-const KINDS: usize = 15;
+const KINDS: usize = 16;
 
 /// A kind of fault.
 #[derive(Clone, Copy, PartialEq, Eq, Debug)]
@@ -35,6 +35,8 @@ pub enum Kind {
     BelowZero,
     /// It is past the greatest measure.
     PastGreatest,
+    /// It is above 100%.
+    PastWhole,
     /// The line would be too long.
     LongLine,
     /// The record is too long to be read.
@@ -59,6 +61,7 @@ const ALL: [Kind; KINDS] = [
     Kind::Decimals,
     Kind::BelowZero,
     Kind::PastGreatest,
+    Kind::PastWhole,
     Kind::LongLine,
     Kind::LongRecord,
     Kind::MoreFields,
@@ -80,6 +83,7 @@ impl Kind {
             Cause::Decimals(_) => Kind::Decimals,
             Cause::BelowZero => Kind::BelowZero,
             Cause::PastGreatest => Kind::PastGreatest,
+            Cause::PastWhole => Kind::PastWhole,
         }
     }
 
@@ -114,11 +118,12 @@ impl Kind {
             Kind::Decimals => 7,
             Kind::BelowZero => 8,
             Kind::PastGreatest => 9,
-            Kind::LongLine => 10,
-            Kind::LongRecord => 11,
-            Kind::MoreFields => 12,
-            Kind::TakenName => 13,
-            Kind::NoMeasure => 14,
+            Kind::PastWhole => 10,
+            Kind::LongLine => 11,
+            Kind::LongRecord => 12,
+            Kind::MoreFields => 13,
+            Kind::TakenName => 14,
+            Kind::NoMeasure => 15,
         }
     }
 
@@ -135,6 +140,7 @@ impl Kind {
             Kind::Decimals => b"too many decimals",
             Kind::BelowZero => b"below 0",
             Kind::PastGreatest => b"past 999999.999",
+            Kind::PastWhole => b"more than 100%",
             Kind::LongLine => b"line past 4096 bytes",
             Kind::LongRecord => b"longer than 65536 bytes",
             Kind::MoreFields => b"more fields than the header",

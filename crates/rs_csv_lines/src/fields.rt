@@ -10,7 +10,10 @@ ghost use Rattle.rs_csv_lines.specs.Fields.{content, HasText, SaysName, SpellsPo
 ghost use Rattle.rs_value.specs.Values.{is_text};
 ghost use Rattle.rs_csv_lines.specs.Inserts.{Field};
 
-use crate::numbers::{MEASURE_PLACES, PART_PLACES, count_digits};
+use crate::numbers::{
+    GREATEST_PERCENTAGE, MEASURE_PLACES, PART_DIGITS, PART_PLACES, count_digits, read_units,
+    written_number,
+};
 use crate::plan::{Cause, Misfit};
 use csv::ByteRecord;
 use rs_descent::front::Stop;
@@ -120,23 +123,41 @@ pub fn name_in(alloc: Global, text: &str, place: usize) -> Result<Name, Misfit>
     name_of(text, tokens.as_slice(), place)
 }
 
-// Why a position of the grammar is refused: it has more decimals than its method allows, or another number that it may not have.
-fn position_cause(text: &str, written: WrittenPosition) -> Cause {
-    let most = match written {
-        WrittenPosition::Percentage(_) => PART_PLACES,
-        WrittenPosition::Beyond(..) | WrittenPosition::Before(..) => MEASURE_PLACES,
-        _ => return Cause::NotPosition,
-    };
+// How many decimals a text has after its first point.
+fn decimals_in(text: &str) -> usize {
     match text.split_once('.') {
-        Some((_, behind)) => {
-            let count = count_digits(behind.as_bytes());
-            if count > most {
-                Cause::Decimals(count)
-            } else {
-                Cause::NotPosition
-            }
+        Some((_, behind)) => count_digits(behind.as_bytes()),
+        None => 0,
+    }
+}
+
+// Whether a percentage that is refused, and not for its decimals, is above 100. It may be refused for its digits before the point.
+fn is_past_whole(text: &str) -> bool {
+    let Some((front, _)) = text.split_once('%') else {
+        return false;
+    };
+    let Some(number) = written_number(front.as_bytes()) else {
+        return false;
+    };
+    if number.whole.len() <= PART_DIGITS {
+        return true;
+    }
+    match read_units(&number, 0, GREATEST_PERCENTAGE, false) {
+        Err(Cause::PastGreatest) => true,
+        _ => false,
+    }
+}
+
+// Why a position of the grammar is refused: it has more decimals than its method allows, is above 100%, or has another number that it may not have.
+fn position_cause(text: &str, written: WrittenPosition) -> Cause {
+    let count = decimals_in(text);
+    match written {
+        WrittenPosition::Percentage(_) if count > PART_PLACES => Cause::Decimals(count),
+        WrittenPosition::Percentage(_) if is_past_whole(text) => Cause::PastWhole,
+        WrittenPosition::Beyond(..) | WrittenPosition::Before(..) if count > MEASURE_PLACES => {
+            Cause::Decimals(count)
         }
-        None => Cause::NotPosition,
+        _ => Cause::NotPosition,
     }
 }
 

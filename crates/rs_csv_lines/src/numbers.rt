@@ -16,6 +16,12 @@ pub const MEASURE_PLACES: usize = 3;
 /// How many decimals a percentage has at the most.
 pub const PART_PLACES: usize = 7;
 
+/// How many digits it has before its point at the most.
+pub const PART_DIGITS: usize = 3;
+
+/// The greatest one.
+pub const GREATEST_PERCENTAGE: u64 = 100;
+
 /// A number as it is written.
 #[derive(Clone, Copy)]
 pub struct WrittenNumber<'a> {

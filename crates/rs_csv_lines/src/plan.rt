@@ -160,6 +160,8 @@ pub enum Cause {
     BelowZero,
     /// The measure is past the greatest one.
     PastGreatest,
+    /// The percentage is above 100.
+    PastWhole,
 }
 
 /// Why there is no line for a record.

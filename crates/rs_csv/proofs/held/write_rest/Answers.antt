@@ -1,9 +1,7 @@
 use Rattle.std.proofs.Common.{◌∙◌, append-nil, subst}
-use Rattle.std.specs.Prelude.{flat_map}
 use Rattle.std.specs.Io.KnownBytes.{Appends}
 use Rattle.rs_protocol.specs.Puts.{PutsBut}
 use Rattle.rs_csv.specs.Output.{table_of}
-use Rattle.rs_csv.specs.Packing.{packed_text}
 use Rattle.rs_csv.proofs.Outputs.{stays_quiet}
 use Rattle.rs_csv.proofs.Taking.{lost_held, lost_routes, taken_front, wrote_routed, wrote_sent}
 use Rattle.rs_csv.proofs.held.write_rest.Goals as goal
@@ -29,7 +27,7 @@ returns-in-Ok-write_held-clause-wrote g c = λ before raws taken.
     wrote_routed c.args.job.now.wanted (table_of c.args.job.now.definition) c.args.progress.now raws c.in-Ok.routes.items before (g.W.Write.contents c.args.output.now) (rw (← c.job.view_is) c.if-not-job.false) c.in-Ok.ensures.lines taken
     c.route_lines.new.made.has_told middle after (stays_quiet c.args.progress.now.made.has_told c.route_lines.new.made.has_told _ _ c.in-Ok.ensures.quiet)
     (subst (Appends (g.W.Write.contents c.args.output.now) middle) (append-nil c.as_slice.result.now ∙ c.as_slice.ensures.value) c.in_default.ensures)
-    (subst (λ held. Appends middle after (flat_map packed_text held)) c.as_slice-2.ensures.value c.in-Ok-write_held.ensures.sent)
+    c.in-Ok-write_held.ensures.sent
 
 pub returns-clause-wrote : goal.returns-clause-wrote
 returns-clause-wrote g c = λ before raws taken.
@@ -39,4 +37,4 @@ returns-clause-wrote g c = λ before raws taken.
     lost_held c.args.job.now.wanted (table_of c.args.job.now.definition) c.args.progress.now raws c.in-Ok.routes.items before (g.W.Write.contents c.args.output.now) (rw (← c.job.view_is) c.if-not-job.false) c.in-Ok.ensures.lines taken
     fault.0 middle after
     (subst (Appends (g.W.Write.contents c.args.output.now) middle) (append-nil c.as_slice.result.now ∙ c.as_slice.ensures.value) c.in_default.ensures)
-    (subst (λ held. PutsBut (flat_map packed_text held) fault.0 middle after) c.as_slice-2.ensures.value fault.1)
+    fault.1

@@ -1,11 +1,13 @@
 use Rattle.std.proofs.Common.{length, take, ◌-◌, ◌≤◌, ◌≡◌}
-use Rattle.rs_csv.specs.Packing.{unpacked}
-use Rattle.rs_csv.proofs.packing.pack_plain.Given as goal
+use Rattle.rs_csv.specs.Words.{AreKnown, Grows, unpacked}
+use Rattle.rs_csv.proofs.words.Words.pack.Given as goal
 
 abbrev pub invariant-words : goal.invariant-words
 invariant-words l = record {
   within : l.at ≤ length l.text;
-  so_far : unpacked l.front l.packed.items ≡ take l.at l.text;
+  grows : Grows l.fn.self l.self;
+  known : AreKnown l.self l.packed.items;
+  so_far : unpacked l.self l.packed.items ≡ take l.at l.text;
 }
 
 abbrev pub decreases-words : goal.decreases-words
