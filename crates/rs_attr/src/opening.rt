@@ -38,9 +38,9 @@ use std::alloc::Global;
 /// many.
 const LEAST_WAITING: usize = 0x10_0000;
 
-/// Where that is more, this part of a table's cells waits: so the pages of an index are read so many times at the most, however many
-/// there are.
-const PARTS: u64 = 8;
+/// Into how many full batches the cells of a large table are divided. Where an eighth of them takes more than `LEAST_WAITING` bytes, that
+/// eighth waits: so each index is gone through nine times at the most, however large the table is.
+const FULL_BATCHES: u64 = 8;
 
 /// The table that lies in a file already, beside its indexes; their pages are marked. Ok exactly where it lies there as it was
 /// told, with the indexes of its cells, in pages none of which was reached before, and the version that was accepted last has just
@@ -93,7 +93,7 @@ fn beginning(route: RouteSpan) -> [u8; 4]
 fn most_waiting(told: ToldRecords, width: usize) -> usize
     requires some { 0 < width }
 {
-    let part = told.living.saturating_add(told.garbage) / PARTS;
+    let part = told.living.saturating_add(told.garbage) / FULL_BATCHES;
     usize::max(LEAST_WAITING / width, part as usize)
 }
 

@@ -56,15 +56,15 @@ now_told told false stays is = absurd (false≢true (sym (stays refl) ∙ is))
 -- ---- what is known
 
 -- what was known is known
-pub record Grows (known now : Known) : Type 0 where
+pub record KnowledgeGrows (known now : Known) : Type 0 where
   pub told : Stays known.told now.told
   pub texts : KeepsTexts known.texts now.texts
 
-pub grows_by : (old made : Made) → Stays old.has_told made.has_told → KeepsTexts (text_of_name old.texts) (text_of_name made.texts) → Grows (known_of old) (known_of made)
+pub grows_by : (old made : Made) → Stays old.has_told made.has_told → KeepsTexts (text_of_name old.texts) (text_of_name made.texts) → KnowledgeGrows (known_of old) (known_of made)
 grows_by old made told texts = record { told = told; texts = texts }
 
 -- as long as its texts stay
-pub grows_same : (old made : Made) → Stays old.has_told made.has_told → made.texts ≡ old.texts → Grows (known_of old) (known_of made)
+pub grows_same : (old made : Made) → Stays old.has_told made.has_told → made.texts ≡ old.texts → KnowledgeGrows (known_of old) (known_of made)
 grows_same old made told same = record { told = told; texts = λ name text is. ap (λ texts. text_of_name texts name) same ∙ is }
 
 pub known_same : (old made : Made) → made.has_told ≡ old.has_told → made.texts ≡ old.texts → known_of made ≡ known_of old
@@ -74,7 +74,7 @@ known_same old made told texts = ap₂ (λ t x. record { told = t; texts = text_
 abbrev pub known_told : Known → Known
 known_told known = record { told = true; texts = known.texts }
 
-pub grows_told : (known : Known) → Grows known (known_told known)
+pub grows_told : (known : Known) → KnowledgeGrows known (known_told known)
 grows_told known = record { told = stays_told known.told true refl; texts = λ name text is. is }
 
 -- ---- lines
@@ -93,7 +93,7 @@ module _ (session : ℕ) (table : CommandTree) (plan : Plan) where
   one_text_still : (texts now : List ℕ → Option (List ℕ)) (fields : List (List ℕ)) (name : List ℕ) → KeepsTexts texts now → IsOneText plan texts fields name → IsOneText plan now fields name
   one_text_still texts now fields name keeps one = λ makes. let is = one makes in (is.0, is.1, keeps name _ is.2)
 
-  pub lines_known : (known now : Known) {before after : ℕ} {records : List (List (List ℕ))} {events : List Placed} {bytes : List ℕ} → Grows known now → AreLines session table plan known before records events bytes after
+  pub lines_known : (known now : Known) {before after : ℕ} {records : List (List (List ℕ))} {events : List Placed} {bytes : List ℕ} → KnowledgeGrows known now → AreLines session table plan known before records events bytes after
       → AreLines session table plan now before records events bytes after
   lines_known known now grows nothing = nothing
   lines_known known now grows (definition_line line more asks) = definition_line line (lines_known known now grows more) asks
@@ -159,7 +159,7 @@ module _ (session : ℕ) (table : CommandTree) (plan : Plan) where
 -- ---- what was made
 
 module _ (wanted : Wanted) (table : CommandTree) where
-  pub made_known : (known now : Known) (number : ℕ) (extents : Option (Names Extent)) (planned : Option Planned) (records : List (List (List ℕ))) (bytes : List ℕ) → Grows known now → IsMade wanted table known number extents planned records bytes
+  pub made_known : (known now : Known) (number : ℕ) (extents : Option (Names Extent)) (planned : Option Planned) (records : List (List (List ℕ))) (bytes : List ℕ) → KnowledgeGrows known now → IsMade wanted table known number extents planned records bytes
       → IsMade wanted table now number extents planned records bytes
   made_known known now number extents None records bytes grows made = made
   made_known known now number extents (Some planned) records bytes grows made = record {
@@ -185,7 +185,7 @@ module _ (wanted : Wanted) (table : CommandTree) where
   }
 
   -- by a header, more is made of the records after it
-  made_more : (old new : Made) (planned : Planned) (records more : List (List (List ℕ))) (front : List ℕ) → Grows (known_of old) (known_of new) → MakesLines wanted.session table planned.plan old new more
+  made_more : (old new : Made) (planned : Planned) (records more : List (List (List ℕ))) (front : List ℕ) → KnowledgeGrows (known_of old) (known_of new) → MakesLines wanted.session table planned.plan old new more
       → IsMade wanted table (known_of old) old.number old.extents (Some planned) records (front ++ old.bytes.items) → IsMade wanted table (known_of new) new.number new.extents (Some planned) (records ++ more) (front ++ new.bytes.items)
   made_more old new planned records more front grows makes made = record {
     plans = made.plans;

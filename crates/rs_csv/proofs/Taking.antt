@@ -13,7 +13,7 @@ use Rattle.rs_csv.specs.Cutting.{text_of}
 use Rattle.rs_csv.specs.Reading.{ReadsAll, nothing_read, one_more_batch}
 use Rattle.rs_csv.specs.Output.{AreTaken, IsMade, IsOutput, Known, known_of, Makes, TakesMore, WroteFront, WroteOf, held_lines}
 use Rattle.rs_csv.specs.Routes.{DefineRoutes, HaveMet, IsMet, Placed}
-use Rattle.rs_csv.proofs.Outputs.{Grows, Stays, grows_same, grows_told, known_told, made_known, made_long, output_none, output_plain, output_routed, stays_told}
+use Rattle.rs_csv.proofs.Outputs.{KnowledgeGrows, Stays, grows_same, grows_told, known_told, made_known, made_long, output_none, output_plain, output_routed, stays_told}
 
 -- lines after those that were sent, where none is held
 after_sent : (sent held bytes : List ℕ) → held ≡ [] → (sent ++ held) ++ bytes ≡ sent ++ bytes
@@ -236,7 +236,7 @@ module _ (wanted : Wanted) (table : CommandTree) where
   -- the lines that define the routes are sent, and then those that were held
   module _ (progress : Progress) (raws : List (List ℕ)) (routes : List ℕ) (before output : Option (List ℕ)) (on : wanted.defines_routes ≡ true)
       (define : (events : List Placed) → HaveMet progress.made.extents events → DefineRoutes wanted.session (IsMet events) routes) (taken : AreTaken wanted table before progress raws output) where
-    all_lines : (known : Known) → Grows (known_of progress.made) known → IsOutput wanted table known taken.records (routes ++ held_lines progress)
+    all_lines : (known : Known) → KnowledgeGrows (known_of progress.made) known → IsOutput wanted table known taken.records (routes ++ held_lines progress)
     all_lines known grows =
         output_routed wanted table known progress.made.number progress.made.extents progress.planned taken.records routes (held_lines progress) on define
         (subst (IsMade wanted table known progress.made.number progress.made.extents progress.planned taken.records) (only_held taken.sent (held_lines progress) progress.made.bytes.items (taken.none_sent on) taken.none_waits)

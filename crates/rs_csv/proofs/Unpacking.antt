@@ -1,10 +1,10 @@
 -- What codes stand for, while texts are added.
-use Rattle.std.proofs.Common.{◌≡◌, ◌∙◌, ℕ, suc, ◌+◌, ◌-◌, ◌<◌, Bool, true, false, nat_lt, List, [], ◌∷◌, ◌++◌, All, length, map, arith, ap, append-nil, append_assoc, sym, refl, subst}
+use Rattle.std.proofs.Common.{◌≡◌, ◌∙◌, ℕ, suc, ◌+◌, ◌-◌, ◌<◌, Bool, true, false, nat_lt, List, [], ◌∷◌, ◌++◌, All, length, map, arith, ap, append-nil, append_assoc, refl}
 use Rattle.std.proofs.lemmas.Bool.{ltb-false}
 use Rattle.std.proofs.lemmas.Grind.{flat_map-append}
-use Rattle.std.proofs.lemmas.List.{get_or_append_left, length-append, map-append}
-use Rattle.std.proofs.lemmas.List.Elements.{All-append, All-cons, All-nil, All-weaker}
-use Rattle.rs_csv.specs.Words.{AreKnown, Grows, said, unpacked, word_text}
+use Rattle.std.proofs.lemmas.List.{get_or_append_left, map-append}
+use Rattle.std.proofs.lemmas.List.Elements.{All-append, All-cons, All-nil}
+use Rattle.rs_csv.specs.Words.{AreKnown, TextsGrow, said, unpacked, word_text}
 use Rattle.rs_csv.specs.declared.word.Word.{Word}
 
 -- a word more
@@ -26,28 +26,19 @@ unpacked_more texts more (code ∷ codes) known =
     ap (λ t. t ++ unpacked (texts ++ more) codes) (said_more texts more code (known 0 0 (omega arith)))
     ∙ ap (λ ts. said texts code ++ ts) (unpacked_more texts more codes (λ k d less. known (suc k) d (omega arith)))
 
-pub unpacked_now : (texts now : List (List ℕ)) (codes : List ℕ) → Grows texts now → AreKnown texts codes → unpacked now codes ≡ unpacked texts codes
+pub unpacked_now : (texts now : List (List ℕ)) (codes : List ℕ) → TextsGrow texts now → AreKnown texts codes → unpacked now codes ≡ unpacked texts codes
 unpacked_now texts now codes grows known = ap (λ ts. unpacked ts codes) grows.1 ∙ unpacked_more texts grows.0 codes known
 
--- what is known stays known
-pub still_known : (texts now : List (List ℕ)) (codes : List ℕ) → Grows texts now → AreKnown texts codes → AreKnown now codes
-still_known texts now codes grows known =
-    let more : length now ≡ length texts + length grows.0 = ap (λ (ts : List (List ℕ)). length ts) grows.1 ∙ length-append texts grows.0 in
-    All-weaker (λ code. code < 256 + length texts) (λ code. code < 256 + length now) (λ code less. omega (arith, more)) codes known
-
-pub grows_trans : (a b c : List (List ℕ)) → Grows a b → Grows b c → Grows a c
+pub grows_trans : (a b c : List (List ℕ)) → TextsGrow a b → TextsGrow b c → TextsGrow a c
 grows_trans a b c first second = (first.0 ++ second.0, second.1 ∙ ap (λ ts. ts ++ second.0) first.1 ∙ append_assoc a first.0 second.0)
 
 -- a code more
 pub one_more : (texts : List (List ℕ)) (codes : List ℕ) (code : ℕ) → unpacked texts (codes ++ code ∷ []) ≡ unpacked texts codes ++ said texts code
 one_more texts codes code = flat_map-append (said texts) codes (code ∷ []) ∙ ap (λ t. unpacked texts codes ++ t) (append-nil (said texts code))
 
-module _ (texts now : List (List ℕ)) (codes packed : List ℕ) (code : ℕ) (grows : Grows texts now) (is : packed ≡ codes ++ code ∷ []) (known : AreKnown texts codes) (below : code < 256 + length texts) where
+module _ (texts now : List (List ℕ)) (codes packed : List ℕ) (code : ℕ) (grows : TextsGrow texts now) (is : packed ≡ codes ++ code ∷ []) (known : AreKnown texts codes) (below : code < 256 + length texts) where
   all_known : AreKnown texts (codes ++ code ∷ [])
   all_known = All-append (λ c. c < 256 + length texts) codes (code ∷ []) known (All-cons (λ c. c < 256 + length texts) code [] below (All-nil (λ c. c < 256 + length texts)))
-
-  pub packs_known : AreKnown now packed
-  packs_known = subst (AreKnown now) (sym is) (still_known texts now (codes ++ code ∷ []) grows all_known)
 
   pub packs_text : (text : List ℕ) → said texts code ≡ text → unpacked now packed ≡ unpacked texts codes ++ text
   packs_text text says =
@@ -56,7 +47,7 @@ module _ (texts now : List (List ℕ)) (codes packed : List ℕ) (code : ℕ) (g
 
 -- ---- blocks of codes
 
-module _ {B : Type 0} (codes : B → List ℕ) (words now : List (List ℕ)) (grows : Grows words now) where
+module _ {B : Type 0} (codes : B → List ℕ) (words now : List (List ℕ)) (grows : TextsGrow words now) where
   same_blocks : (blocks : List B) → All (λ block. AreKnown words (codes block)) blocks → map (λ block. unpacked now (codes block)) blocks ≡ map (λ block. unpacked words (codes block)) blocks
   same_blocks [] known = refl
   same_blocks (block ∷ blocks) known =

@@ -7,6 +7,6 @@ use Rattle.rs_csv.specs.declared.packing.PackedLines.TheInside.{Inside}
 abbrev pub packed_texts : Inside → List (List ℕ)
 packed_texts packed = map (λ codes. unpacked packed.words codes.items) packed.blocks.items
 
--- each code in them is one of a word
-abbrev pub AreWords : Inside → Type 0
-AreWords packed = All (λ codes. AreKnown packed.words codes.items) packed.blocks.items
+-- each code in them is known: it stands for a byte or for one of the words
+abbrev pub HasKnownCodes : Inside → Type 0
+HasKnownCodes packed = All (λ codes. AreKnown packed.words codes.items) packed.blocks.items

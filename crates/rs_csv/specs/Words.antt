@@ -19,5 +19,5 @@ abbrev pub AreKnown : List (List ℕ) → List ℕ → Type 0
 AreKnown texts codes = All (λ code. code < 256 + length texts) codes
 
 -- texts to which others were added
-abbrev pub Grows : List (List ℕ) → List (List ℕ) → Type 0
-Grows old new = (more : List (List ℕ)) × (new ≡ old ++ more)
+abbrev pub TextsGrow : List (List ℕ) → List (List ℕ) → Type 0
+TextsGrow old new = (more : List (List ℕ)) × (new ≡ old ++ more)

@@ -1,4 +1,4 @@
-//! Lines in less room: texts that were met before are held by their numbers.
+//! This module keeps lines in less memory: texts in them that were met before are held by their numbers.
 //!
 //! It promises that each text is unpacked as it was.
 
@@ -22,15 +22,15 @@ impl Model for PackedLines {
 
     ghost Value = { List (List ℕ) };
 
-    ghost use Rattle.rs_csv.specs.Packing.{AreWords, packed_texts};
+    ghost use Rattle.rs_csv.specs.Packing.{HasKnownCodes, packed_texts};
 
     ghost view = { packed_texts };
 
-    ghost invariant = { AreWords };
+    ghost invariant = { HasKnownCodes };
 }
 
 impl PackedLines {
-    /// None.
+    /// No texts.
     pub fn new(alloc: Global) -> Self
         ensures { result ≡ [] }
     {

@@ -3,7 +3,7 @@
 //! It promises that a code stands for what it did when it was given, whatever is met later.
 
 ghost use Rattle.std.specs.Prelude.{◌≡◌, ◌+◌, ◌<◌, ◌≤◌, ◌++◌, [], IfOk, IfSome, None, OnOk, length, take};
-ghost use Rattle.rs_csv.specs.Words.{AreKnown, Grows, said, unpacked};
+ghost use Rattle.rs_csv.specs.Words.{AreKnown, TextsGrow, said, unpacked};
 
 use crate::word::Word;
 use std::alloc::{AllocError, Global};
@@ -20,7 +20,8 @@ const SLOTS: usize = 65_536;
 pub struct Words {
     // The texts, by their numbers.
     known: Vec<Word>,
-    // The code of a text, at the place that its beginning and its last byte lead to. It is 0 where there is none.
+    // The codes of the texts, each at the place that `look` had come to when the text was learned. A place without a code has 0. There
+    // are no places before a text is packed.
     slots: Vec<u16>,
 }
 
@@ -54,7 +55,7 @@ fn slot_of(code: u16, byte: u8) -> usize {
 }
 
 impl Words {
-    /// None.
+    /// No texts, as before any is met.
     pub fn new(alloc: Global) -> Self
         ensures { result ≡ [] }
     {
@@ -64,7 +65,7 @@ impl Words {
         }
     }
 
-    // Makes places, where there are none.
+    // Makes the places for codes, each without one, unless they are there already.
     fn make_slots(&mut self) -> Result<(), AllocError>
         ensures { self.new ≡ self.old }
     {
@@ -98,7 +99,8 @@ impl Words {
         }
     }
 
-    // Looks for the longest text that a text begins with. What it finds may be another one.
+    // Looks for the code of the longest text that these bytes begin with, and for the place of the code for one byte more. It compares
+    // lengths and last bytes alone, so the code may stand for another text.
     fn look(&self, first: u8, others: &[u8]) -> Found {
         let mut code = u16::from(first);
         let mut count: usize = 1;
@@ -144,7 +146,8 @@ impl Words {
         }
     }
 
-    // The code of the next word, where its place has none, which it takes.
+    // Puts the code that the next text will have at this place, and answers true. Where the place has a code, is none of the places, or
+    // there are `WORDS` texts already, it puts nothing and answers false.
     fn take_slot(&mut self, slot: usize) -> bool
         ensures { self.new ≡ self.old }
     {
@@ -163,7 +166,7 @@ impl Words {
 
     // Adds a word.
     fn push(&mut self, word: Word) -> Result<(), AllocError>
-        ensures { Grows self.old self.new }
+        ensures { TextsGrow self.old self.new }
     {
         self.known.push(word)?;
         Ok(())
@@ -171,7 +174,7 @@ impl Words {
 
     // Adds a text at a place, where both have room.
     fn learn(&mut self, slot: usize, text: &[u8]) -> Result<(), AllocError>
-        ensures { Grows self.old self.new }
+        ensures { TextsGrow self.old self.new }
     {
         match Word::with(text) {
             Some(word) if self.take_slot(slot) => self.push(word),
@@ -179,13 +182,14 @@ impl Words {
         }
     }
 
-    // Packs the beginning of a text, and gives how long it is. It is met, with a byte more.
+    // Adds the code that `find` gives for the beginning of this text, and answers how many bytes it stands for. These and the byte after
+    // them are learned as a new text, where they can be.
     fn pack_front(&mut self, text: &[u8], packed: &mut Vec<u16>) -> Result<usize, AllocError>
         requires some { 0 < length text.now }
         requires known { AreKnown self.old packed.old.items }
         ensures some { IfOk result (λ count. 0 < count) }
         ensures within { IfOk result (λ count. count ≤ length text.now) }
-        ensures grows { Grows self.old self.new }
+        ensures grows { TextsGrow self.old self.new }
         ensures known { OnOk result (AreKnown self.new packed.new.items) }
         ensures packed { IfOk result (λ count. unpacked self.new packed.new.items ≡ unpacked self.old packed.old.items ++ take count text.now) }
     {
@@ -197,10 +201,10 @@ impl Words {
         Ok(found.count)
     }
 
-    /// Packs a text. Texts of it are met.
+    /// Packs a text: adds codes to `packed`, which has none before, that stand for it. New texts may be learned from it.
     pub fn pack(&mut self, text: &[u8], packed: &mut Vec<u16>) -> Result<(), AllocError>
         requires { packed.old.items ≡ [] }
-        ensures grows { Grows self.old self.new }
+        ensures grows { TextsGrow self.old self.new }
         ensures known { OnOk result (AreKnown self.new packed.new.items) }
         ensures packed { OnOk result (unpacked self.new packed.new.items ≡ text.now) }
     {

@@ -1,5 +1,5 @@
 -- What a source gives for a leaf, and what the leaf makes of it.
-use Rattle.std.proofs.Common.{◌≡◌, ℕ, true, List, [], map, sym, ap, ◌∙◌, subst}
+use Rattle.std.proofs.Common.{◌≡◌, ℕ, true, List, [], map, sym, ap, ◌∙◌}
 use Rattle.std.specs.Prelude.{Vec, IsPermutation}
 use Rattle.std.specs.declared.alloc.Global.{Global}
 use Rattle.rs_value.specs.Row.{Row}
@@ -9,7 +9,6 @@ use Rattle.rs_facts.specs.Condition.{Condition}
 use Rattle.rs_facts.specs.Runs.{Stretch}
 use Rattle.rs_facts.specs.Spans.{seen, places_of, ArePlaced}
 use Rattle.rs_facts.proofs.SpanLaws.{places_of-permutation}
-use Rattle.rs_coalesce.specs.Joined.{AreJoined}
 use Rattle.rs_planning.specs.Conjuncts.{meets_each}
 use Rattle.rs_planning.specs.Plan.{met_by_each}
 use Rattle.rs_plan.specs.PlanView.{conditions_of}

@@ -2,7 +2,7 @@
 use Rattle.std.proofs.Common.{◌≡◌, ℕ, true, false, List, [], ◌∷◌, map, refl, sym, subst}
 use Rattle.std.specs.Prelude.{◌==◌, Vec}
 use Rattle.std.specs.declared.alloc.Global.{Global}
-use Rattle.std.specs.List.{AllZip, AllByRecursion}
+use Rattle.std.specs.List.{AllZip}
 use Rattle.rs_value.specs.declared.column.Kind.{Kind}
 use Rattle.rs_facts.specs.declared.fact.Span.{Span}
 use Rattle.rs_facts.specs.Query.{overlaid_kind}
@@ -18,7 +18,7 @@ use Rattle.rs_exec.specs.declared.changes.Change.{Change}
 use Rattle.rs_exec.specs.declared.pairs.Pairing.{Pairing}
 use Rattle.rs_exec.specs.declared.pairs.Pairing.TheVariants as pairings
 use Rattle.rs_exec.specs.Carried.{IsCarried}
-use Rattle.rs_exec.specs.Changes.{KeepsJoined, IsChanged}
+use Rattle.rs_exec.specs.Changes.{ChangeKeepsJoined, IsChanged}
 use Rattle.rs_exec.specs.Held.{AreHeld, AreLaidOver, IsJoinedIn, AreJoinedIn}
 use Rattle.rs_exec.specs.Joined.{HasRuns}
 use Rattle.rs_exec.specs.Pairs.{paired_kind}
@@ -51,7 +51,7 @@ module _ (stands : Snapshots → Type 0) where
   runs-joined kind old new all = zip-seconds (HasRuns kind) (IsJoinedIn stands kind) old new (λ o n are snapshots there. joined-from_runs kind (places_of (map seen o.items)) (map seen n.items) are.runs) all
 
   -- rows that stay as they are
-  pub changed-joined : (change : Change) (kind : Kind) (old new : List (Vec Span Global)) → KeepsJoined change → AllZip (IsChanged change) old new → AreJoinedIn stands kind old → AreJoinedIn stands kind new
+  pub changed-joined : (change : Change) (kind : Kind) (old new : List (Vec Span Global)) → ChangeKeepsJoined change → AllZip (IsChanged change) old new → AreJoinedIn stands kind old → AreJoinedIn stands kind new
   changed-joined change kind [] [] keeps all joined = tt
   changed-joined change kind [] (n ∷ new) keeps all joined = absurd all
   changed-joined change kind (o ∷ old) [] keeps all joined = tt

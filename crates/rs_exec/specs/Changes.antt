@@ -27,10 +27,10 @@ abbrev pub IsNarrow : Change → Type 0
 IsNarrow (changes.Where conditions) = Unit {0}
 IsNarrow (changes.Dissolve columns) = length columns.now ≤ COLUMNS
 
--- rows that stay as they are stay apart
-abbrev pub KeepsJoined : Change → Type 0
-KeepsJoined (changes.Where conditions) = Unit {0}
-KeepsJoined (changes.Dissolve columns) = ⊥
+-- which operators make no two spans that are one run, of spans without such
+abbrev pub ChangeKeepsJoined : Change → Type 0
+ChangeKeepsJoined (changes.Where conditions) = Unit {0}
+ChangeKeepsJoined (changes.Dissolve columns) = ⊥
 
 -- what the operator makes of the one list of spans is the other
 pub record IsChanged (change : Change) (old new : Vec Span Global) : Type 0 where
@@ -38,7 +38,7 @@ pub record IsChanged (change : Change) (old new : Vec Span Global) : Type 0 wher
   pub sorted : AreSorted (map seen new.items)
   pub placed : (kind : Kind) → ArePlaced kind (map seen old.items) → ArePlaced kind (map seen new.items)
   pub wide : (width : ℕ) → AreWide width (map seen old.items) → AreWide (changed_width change width) (map seen new.items)
-  pub joined : (kind : Kind) → KeepsJoined change → AreJoined kind (map seen old.items) → AreJoined kind (map seen new.items)
+  pub joined : (kind : Kind) → ChangeKeepsJoined change → AreJoined kind (map seen old.items) → AreJoined kind (map seen new.items)
 
 -- these are the numbers from this one on, in their order
 abbrev pub AreFrom : ℕ → List ℕ → Type 0

@@ -73,11 +73,11 @@ abbrev pub AreMaximal : Kinds → List Stretch → List Stretch → Type 0
 AreMaximal kinds left right = AreRunsOf kinds.left (places_of left) left × AreRunsOf kinds.right (places_of right) right
 
 -- which operators make no two spans that are one run, of operands without such
-abbrev pub KeepsJoined : Pairing → Type 0
-KeepsJoined pairings.Overlay = Unit {0}
-KeepsJoined (pairings.Cover m n) = ⊥
-KeepsJoined pairings.Merge = ⊥
-KeepsJoined pairings.Minus = ⊥
+abbrev pub PairingKeepsJoined : Pairing → Type 0
+PairingKeepsJoined pairings.Overlay = Unit {0}
+PairingKeepsJoined (pairings.Cover m n) = ⊥
+PairingKeepsJoined pairings.Merge = ⊥
+PairingKeepsJoined pairings.Minus = ⊥
 
 -- what the operator makes of the two lists of spans, which are of these kinds
 pub record ArePaired (pairing : Pairing) (kinds : Kinds) (operands : List Stretch × List Stretch) (made : List Stretch) : Type 0 where
@@ -85,7 +85,7 @@ pub record ArePaired (pairing : Pairing) (kinds : Kinds) (operands : List Stretc
   pub sorted : AreSorted made
   pub placed : KindsSuit pairing kinds.left kinds.right → ArePlaced kinds.left operands.0 → ArePlaced kinds.right operands.1 → ArePlaced (paired_kind pairing kinds.left kinds.right) made
   pub wide : (m n : ℕ) → WidthsSuit pairing m n → AreWide m operands.0 → AreWide n operands.1 → AreWide (paired_width pairing m n) made
-  pub joined : (m n : ℕ) → KeepsJoined pairing → AreWide m operands.0 → AreWide n operands.1 → AreJoined kinds.left operands.0 → AreJoined kinds.right operands.1 → AreJoined (paired_kind pairing kinds.left kinds.right) made
+  pub joined : (m n : ℕ) → PairingKeepsJoined pairing → AreWide m operands.0 → AreWide n operands.1 → AreJoined kinds.left operands.0 → AreJoined kinds.right operands.1 → AreJoined (paired_kind pairing kinds.left kinds.right) made
 
 abbrev pub IsPaired : Pairing → Kinds → Vec Span Global × Vec Span Global → Vec Span Global → Type 0
 IsPaired pairing kinds operands made = ArePaired pairing kinds (map seen operands.0.items, map seen operands.1.items) (map seen made.items)

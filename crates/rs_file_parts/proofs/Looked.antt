@@ -49,14 +49,6 @@ neither false other unset = (refl, unset)
 
 -- ---- tables
 
-pub changed_none : (tables : List OpenedTable) → HaveChangedWithin 0 0 0 tables
-changed_none tables = record {
-  order = omega arith;
-  within = omega arith;
-  before = λ place table low there. absurd (omega arith);
-  after = λ place table low high there. absurd (omega arith);
-}
-
 -- so many more have not changed
 pub changed_not : (from to at many : ℕ) (tables : List OpenedTable) → HaveChangedWithin from to at tables → AllByRecursion IsTableCommitted (take many (drop at tables)) → HaveChangedWithin from to (at + many) tables
 changed_not from to at many tables changed all = record {

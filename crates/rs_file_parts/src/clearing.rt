@@ -9,7 +9,7 @@ ghost use Rattle.rs_file_parts.specs.Inner.{ClearsAllReferents, ClearsOpened, Cl
 ghost use Rattle.rs_file_parts.specs.Parts.{HaveAllDiedBy, IsReady, KeepsCommitted, KeepsOpened, Makes};
 ghost use Rattle.rs_page_owners.specs.Calls as owners;
 
-use crate::looking::none_is_dead;
+use crate::looking::have_none_dead;
 use rs_attr::vacuum;
 use rs_file::{OpenedFile, OpenedTable};
 use rs_pages::Pages;
@@ -45,7 +45,7 @@ pub fn clear<P: Pages>(
     ensures order { (version : ℕ) → HaveAllDiedBy version file.old → HaveAllDiedBy version file.new }
     ensures room { result ≢ Err Refusal.FileFull }
 {
-    if none_is_dead(file.tables.as_slice()) {
+    if have_none_dead(file.tables.as_slice()) {
         return clear_referents(alloc, pages, file, oldest, most);
     }
     let count = file.tables.len();

@@ -92,7 +92,7 @@ pub(crate) fn has_changed(indexes: &[AttrIndex]) -> bool
 }
 
 /// Whether no record of these tables is dead.
-pub(crate) fn none_is_dead(tables: &[OpenedTable]) -> bool
+pub(crate) fn have_none_dead(tables: &[OpenedTable]) -> bool
     ensures { result ≡ true → AllByRecursion HasNoneDead tables.now }
 {
     let runs = tables.len() / TOGETHER;

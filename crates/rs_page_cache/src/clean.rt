@@ -1,7 +1,8 @@
 //! The clean pages that are held: a bounded number of pages as the disk has them.
 //!
-//! A page is read into a spare one that is always there, so a read wants no memory. The spare page joins the others
-//! before the next read where there is memory for another; else it is dropped.
+//! A page is read into a spare one that is always there, so a read wants no memory. Before the next read the spare page
+//! joins the others, and another takes its place: a new one, or where no more may be held that of the page used longest
+//! ago. Where there is no memory for a new one, the spare page is used again.
 
 ghost use Rattle.std.specs.Prelude.{◌≡◌, ◌≤◌, ◌<◌, ◌⊎◌, ℕ, Some, None, [], length, is_some, IfOk, OnOk, OnErr, IsTrue, IsSome, Err, IsOkUnless, Contains};
 ghost use Rattle.std.specs.Option.{option_map};
@@ -121,15 +122,15 @@ impl CleanPages {
         is_number(self.spare_number, number) || self.kept.promote(&number.number())
     }
 
-    /// Holds the spare page among the others, if there is memory for another. It holds no page of the disk then.
+    /// Holds the spare page among the others, if another can take its place. The spare page holds no page of the disk then.
     fn keep_spare(&mut self)
         ensures pages { (e : _) → Contains self.new e → Contains self.old e }
     {
         let Some(number) = self.spare_number.take() else {
             return;
         };
-        if let Some(room) = room_in(&mut self.kept) {
-            let page = mem::replace(&mut self.spare, room);
+        if let Some(other) = page_for_another(&mut self.kept) {
+            let page = mem::replace(&mut self.spare, other);
             put_page(&mut self.kept, number.number(), page);
         }
     }
@@ -153,9 +154,9 @@ fn is_number(spare: Option<PageNumber>, number: PageNumber) -> bool
     }
 }
 
-/// Memory for another page: that of the page that was used longest ago, which is no longer held, where no more may be; else new
-/// memory, if there is some.
-fn room_in(kept: &mut LruCache<u32, Box<Page>>) -> Option<Box<Page>>
+/// The memory of the page used longest ago, which is no longer held, where no more may be held; else new memory, if there
+/// is some.
+fn page_for_another(kept: &mut LruCache<u32, Box<Page>>) -> Option<Box<Page>>
     ensures pages { (e : _) → Contains (kept_pages kept.new.entries) e → Contains (kept_pages kept.old.entries) e }
     ensures cap { kept.new.cap ≡ kept.old.cap }
 {

@@ -1,8 +1,7 @@
 //! The pager: two maps of pages over a disk.
 //!
 //! The committed pages are what the disk holds, but for those that are changed and held. The working pages
-//! are the committed ones with the changes since `begin`. Clean pages are held too, a bounded number of them, which is
-//! greater while a whole file is read.
+//! are the committed ones with the changes since `begin`. Clean pages are held too, a bounded number of them.
 
 ghost use Rattle.std.specs.Prelude.{◌≡◌, ◌≢◌, ◌⊎◌, ◌<◌, ◌≤◌, ◌^◌, ◌-◌, min, ℕ, true, false, None, IsOk, OnOk, OnErr, IfErr, MatchResult, length, []};
 ghost use Rattle.rs_journal.specs.FilePages.{FilePages};

@@ -71,8 +71,9 @@ fn stored_routes(
     Ok(stored)
 }
 
-// The text of a name: that of the former route at the place or at the one after it, which comes before the place then, or else a
-// new one. So it is found where at most one route has come or gone.
+// The text of a name. Where the former route at `place`, or the one after it, has this name, its text is shared and `place` moves past
+// that route; else a new text is made and `place` stays. Both lists are in the order of names, so where one route has come or gone, the
+// texts of all others are shared.
 fn shared_text(
     alloc: Global,
     former: &[StoredRoute],

@@ -8,7 +8,7 @@ use Rattle.rs_value.specs.declared.column.Kind.TheVariants as kinds
 use Rattle.rs_facts.specs.Query.{overlaid_kind}
 use Rattle.rs_facts.specs.Spans.{seen}
 use Rattle.rs_exec.specs.Carried.{AreSourcesOf}
-use Rattle.rs_exec.specs.Changes.{KeepsJoined}
+use Rattle.rs_exec.specs.Changes.{ChangeKeepsJoined}
 use Rattle.rs_exec.specs.Held.{AreHeld, AreJoinedIn, CanOverlay, AreLaidOver}
 use Rattle.rs_exec.specs.Joined.{HasRuns}
 use Rattle.rs_exec.specs.Meaning.{PlanMeaning, kinds_together, meaning_of, overlay_meaning, gaps_meaning}
@@ -56,7 +56,7 @@ changed_rows-returns-in_ok-joined-in-Dissolve-clause-joined g t c =
 pub changed_rows-returns-in-Where-clause-joined : goal.changed_rows-returns-in-Where-clause-joined
 changed_rows-returns-in-Where-clause-joined g t c =
     subst (λ kind. AreJoinedIn (g.S.Source.is c.args.source.now) kind (list_of c.in_ok-changed.changed)) (sym (changed_kind c.args.change (operand_meaning c.args.operand)))
-    (changed-joined (g.S.Source.is c.args.source.now) c.args.change (operand_meaning c.args.operand).kind (list_of c.in_ok-rows.rows) (list_of c.in_ok-changed.changed) (subst KeepsJoined (sym c.in-Where.is) tt) c.in_ok-changed.ensures c.in_ok-rows.ensures.joined)
+    (changed-joined (g.S.Source.is c.args.source.now) c.args.change (operand_meaning c.args.operand).kind (list_of c.in_ok-rows.rows) (list_of c.in_ok-changed.changed) (subst ChangeKeepsJoined (sym c.in-Where.is) tt) c.in_ok-changed.ensures c.in_ok-rows.ensures.joined)
 
 pub gaps_rows-gaps_on-requires : goal.gaps_rows-gaps_on-requires
 gaps_rows-gaps_on-requires g t c = record {

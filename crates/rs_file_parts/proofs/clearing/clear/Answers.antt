@@ -14,23 +14,23 @@ use Rattle.rs_tree.proofs.Lists.{zip_lengths}
 use Rattle.rs_versioned.proofs.Answering.{if_ok_both}
 use Rattle.rs_file_parts.proofs.clearing.clear.Goals as goal
 
-pub returns-then-none_is_dead-clause-clears : goal.returns-then-none_is_dead-clause-clears
-returns-then-none_is_dead-clause-clears g c = λ tied.
+pub returns-then-have_none_dead-clause-clears : goal.returns-then-have_none_dead-clause-clears
+returns-then-have_none_dead-clause-clears g c = λ tied.
     let oldest = c.args.oldest in
     let most = c.args.most in
     let was = c.args.file.now in
     let is = c.clear_referents.new.file in
     let old = (g.P.Pages.store c.args.pages.now).map in
     let new = (g.P.Pages.store c.clear_referents.new.pages).map in
-    let none = subst (AllByRecursion HasNoneDead) c.as_slice.ensures.value (c.none_is_dead.ensures c.if-none_is_dead.true) in
+    let none = subst (AllByRecursion HasNoneDead) c.as_slice.ensures.value (c.have_none_dead.ensures c.if-have_none_dead.true) in
     if_ok_both c.clear_referents.result (λ gone. gone ≤ most) (λ gone. (accepted : ℕ) → Makes old new was is accepted accepted (ClearsAllReferents oldest most gone))
     (λ gone. (accepted : ℕ) → Makes old new was is accepted accepted (ClearsAsMany oldest most gone))
     (λ gone few clears accepted. makes_weaker (ClearsInTurn oldest most gone 0) (ClearsAsMany oldest most gone) (λ one other turn. turn.as_many) old new was is accepted accepted
     (referents_alone old new was is oldest most gone 0 none few clears accepted))
     c.clear_referents.ensures.few (c.clear_referents.ensures.clears tied)
 
-pub returns-then-none_is_dead-clause-turn : goal.returns-then-none_is_dead-clause-turn
-returns-then-none_is_dead-clause-turn g c = λ tied.
+pub returns-then-have_none_dead-clause-turn : goal.returns-then-have_none_dead-clause-turn
+returns-then-have_none_dead-clause-turn g c = λ tied.
     let oldest = c.args.oldest in
     let most = c.args.most in
     let was = c.args.file.now in
@@ -38,7 +38,7 @@ returns-then-none_is_dead-clause-turn g c = λ tied.
     let old = (g.P.Pages.store c.args.pages.now).map in
     let new = (g.P.Pages.store c.clear_referents.new.pages).map in
     let place = c.args.first % length was.tables.items in
-    let none = subst (AllByRecursion HasNoneDead) c.as_slice.ensures.value (c.none_is_dead.ensures c.if-none_is_dead.true) in
+    let none = subst (AllByRecursion HasNoneDead) c.as_slice.ensures.value (c.have_none_dead.ensures c.if-have_none_dead.true) in
     if_ok_both c.clear_referents.result (λ gone. gone ≤ most) (λ gone. (accepted : ℕ) → Makes old new was is accepted accepted (ClearsAllReferents oldest most gone))
     (λ gone. (accepted : ℕ) → Makes old new was is accepted accepted (ClearsFirst oldest most place))
     (λ gone few clears accepted. makes_weaker (ClearsInTurn oldest most gone place) (ClearsFirst oldest most place) (λ one other turn. turn.first) old new was is accepted accepted

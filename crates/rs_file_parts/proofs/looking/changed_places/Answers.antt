@@ -1,5 +1,5 @@
 -- One run after the other.
-use Rattle.std.proofs.Common.{◌≡◌, ◌≤◌, ◌+◌, ◌-◌, ◌*◌, drop, subst, sym, take, arith}
+use Rattle.std.proofs.Common.{◌≡◌, ◌+◌, ◌-◌, ◌*◌, drop, subst, sym, take, arith}
 use Rattle.std.specs.List.{AllByRecursion}
 use Rattle.rs_file_parts.specs.declared.looking.Places.{Places}
 use Rattle.rs_file_parts.specs.Inner.{HaveChangedWithin}

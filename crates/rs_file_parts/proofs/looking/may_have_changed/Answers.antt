@@ -1,8 +1,7 @@
 -- One table after the other.
-use Rattle.std.proofs.Common.{◌≡◌, ◌+◌, ◌∙◌, false, length, refl, sym, arith}
+use Rattle.std.proofs.Common.{◌≡◌, length, refl, arith}
 use Rattle.std.proofs.lemmas.Nat.{le_or_l, le_or_r}
 use Rattle.std.proofs.lemmas.Option.{slice_get_read}
-use Rattle.std.specs.List.{AllByRecursion}
 use Rattle.rs_attr.specs.Tables.{IndexState}
 use Rattle.rs_file_parts.specs.Parts.{IsTableCommitted}
 use Rattle.rs_file_parts.proofs.Looked.{all_of_none, all_one_more, neither}

@@ -1,5 +1,5 @@
 -- One place after the other.
-use Rattle.std.proofs.Common.{◌≡◌, ◌≤◌, ◌+◌, length, inl, inr, refl, subst, sym, arith}
+use Rattle.std.proofs.Common.{◌+◌, length, inl, inr, refl, subst, sym, arith}
 use Rattle.std.proofs.lemmas.Option.{slice_get_read}
 use Rattle.rs_file_parts.specs.declared.looking.Places.{Places}
 use Rattle.rs_file_parts.specs.Inner.{HaveChangedWithin}

@@ -3,11 +3,9 @@ use Rattle.std.proofs.Common.{◌≡◌, ◌<◌, ◌+◌, ◌∙◌, List, ap, 
 use Rattle.std.proofs.lemmas.List.{length-map}
 use Rattle.std.proofs.lemmas.Option.{slice_get_read}
 use Rattle.rs_attr.specs.Tables.{IndexState}
-use Rattle.rs_catalog_pages.specs.Items.{TableItem}
 use Rattle.rs_catalog_pages.specs.Said.{said_index, said_table}
 use Rattle.rs_catalog_pages.specs.declared.items.StoredTable.{StoredTable}
 use Rattle.rs_file.specs.Slots.{HasAsMany, indexes_on}
-use Rattle.rs_file.specs.declared.opened.OpenedTable.{OpenedTable}
 use Rattle.rs_file.proofs.Numbering.{said_at}
 use Rattle.rs_file_parts.specs.Slots.{PutsRoots, PutsRootsOn}
 use Rattle.rs_file_parts.proofs.Slotted.{roots_all, roots_skip, roots_start, roots_step, roots_to}

@@ -1,5 +1,5 @@
 -- Each table in turn.
-use Rattle.std.proofs.Common.{◌<◌, ◌+◌, ◌∙◌, List, ap, get_or, length, map, refl, sym, subst, take, arith}
+use Rattle.std.proofs.Common.{◌<◌, ◌+◌, ◌∙◌, ap, get_or, length, map, refl, sym, subst, take, arith}
 use Rattle.std.proofs.lemmas.List.{length-map}
 use Rattle.std.proofs.lemmas.Option.{slice_get_read}
 use Rattle.rs_catalog_pages.specs.Directory.{TreeItem}
@@ -8,7 +8,6 @@ use Rattle.rs_catalog_pages.specs.Said.{said_table}
 use Rattle.rs_catalog_pages.specs.declared.directory_items.TheConstants.{TABLES}
 use Rattle.rs_catalog_pages.specs.declared.items.StoredTable.{StoredTable}
 use Rattle.rs_file.specs.Contents.{item_of}
-use Rattle.rs_file.specs.declared.opened.OpenedTable.{OpenedTable}
 use Rattle.rs_file.proofs.Numbering.{each_at, said_at, said_each}
 use Rattle.rs_page.specs.declared.page.Page.{Page}
 use Rattle.rs_tree.proofs.Lists.{inside_has}

@@ -1,11 +1,11 @@
 use Rattle.std.proofs.Common.{length, take, ◌-◌, ◌≤◌, ◌≡◌}
-use Rattle.rs_csv.specs.Words.{AreKnown, Grows, unpacked}
+use Rattle.rs_csv.specs.Words.{AreKnown, TextsGrow, unpacked}
 use Rattle.rs_csv.proofs.words.Words.pack.Given as goal
 
 abbrev pub invariant-words : goal.invariant-words
 invariant-words l = record {
   within : l.at ≤ length l.text;
-  grows : Grows l.fn.self l.self;
+  grows : TextsGrow l.fn.self l.self;
   known : AreKnown l.self l.packed.items;
   so_far : unpacked l.self l.packed.items ≡ take l.at l.text;
 }

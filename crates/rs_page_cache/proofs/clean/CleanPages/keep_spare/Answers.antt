@@ -7,17 +7,17 @@ use Rattle.rs_page_cache.specs.Clean.{Clean, kept_pages, spare_page}
 use Rattle.rs_page_cache.proofs.CleanLists.{kept_spare, in-all}
 use Rattle.rs_page_cache.proofs.clean.CleanPages.keep_spare.Goals as goal
 
-pub returns-in_default-room_in : goal.returns-in_default-room_in
-returns-in_default-room_in c = record {
+pub returns-in_default-page_for_another : goal.returns-in_default-page_for_another
+returns-in_default-page_for_another c = record {
   pages = λ e there.
       let i = c.self.inside in
       let none : c.take.new.self ≡ None = search rules in
-      let left : Contains (kept_pages c.room_in.new.kept.entries) e = subst (λ number. Contains (spare_page number i.spare ++ kept_pages c.room_in.new.kept.entries) e) none there in
-      subst (λ (all : Clean). Contains all e) c.self.view_is (in-all i.spare_number i.spare (kept_pages i.kept.entries) e (c.room_in.ensures.pages e left));
+      let left : Contains (kept_pages c.page_for_another.new.kept.entries) e = subst (λ number. Contains (spare_page number i.spare ++ kept_pages c.page_for_another.new.kept.entries) e) none there in
+      subst (λ (all : Clean). Contains all e) c.self.view_is (in-all i.spare_number i.spare (kept_pages i.kept.entries) e (c.page_for_another.ensures.pages e left));
 }
 
-pub returns-in-Some-room_in : goal.returns-in-Some-room_in
-returns-in-Some-room_in c = record {
+pub returns-in-Some-page_for_another : goal.returns-in-Some-page_for_another
+returns-in-Some-page_for_another c = record {
   pages = λ e there.
       let i = c.self.inside in
       let none : c.take.new.self ≡ None = search rules in
@@ -26,7 +26,7 @@ returns-in-Some-room_in c = record {
       let page : c.replace-page.result ≡ i.spare = search rules in
       let number : c.number.result ≡ c.in-Some.number = search rules in
       let put : Contains (kept_pages i.kept.entries) e ⊎ (e ≡ (c.number.result, c.replace-page.result.value.bytes)) = elim (c.put_page.ensures.pages e kept) [
-        | inl held ↦ inl (c.room_in.ensures.pages e held)
+        | inl held ↦ inl (c.page_for_another.ensures.pages e held)
         | inr now ↦ inr now
       ] in
       kept_spare i.spare_number c.in-Some.number i.spare (kept_pages i.kept.entries) c.args.self.now was c.self.view_is e

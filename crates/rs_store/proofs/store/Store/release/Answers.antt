@@ -1,5 +1,5 @@
 -- Records are cleared in pages that are kept or taken back.
-use Rattle.std.proofs.Common.{◌≤◌, ◌∙◌, ℕ, Err, IfOk, arith, subst}
+use Rattle.std.proofs.Common.{◌≤◌, ℕ, Err, IfOk, arith, subst}
 use Rattle.rs_machine.specs.State.{State}
 use Rattle.rs_store.proofs.Changed.{given_so}
 use Rattle.rs_store.proofs.Keeping.{store_over}

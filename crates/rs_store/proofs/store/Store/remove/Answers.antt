@@ -1,5 +1,5 @@
 -- The rows are taken away by a change of the file, which is kept or taken back.
-use Rattle.std.proofs.Common.{◌≡◌, ◌≤◌, ◌<◌, ◌+◌, ◌∙◌, ℕ, Err, IfOk, Some, refl, subst, sym}
+use Rattle.std.proofs.Common.{◌≡◌, ◌≤◌, ◌<◌, ◌+◌, ℕ, Err, IfOk, Some, refl, subst, sym}
 use Rattle.rs_catalog.specs.Definitions.{IsFree, TableItem}
 use Rattle.rs_catalog.specs.Referents.{referents_on}
 use Rattle.rs_changes.specs.Changing.{ChangesFile}

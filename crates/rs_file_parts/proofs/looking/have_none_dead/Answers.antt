@@ -3,7 +3,7 @@ use Rattle.std.proofs.Common.{◌≡◌, ◌+◌, ◌-◌, ◌*◌, drop, subst,
 use Rattle.std.specs.List.{AllByRecursion}
 use Rattle.rs_file_parts.specs.Inner.{HasNoneDead}
 use Rattle.rs_file_parts.proofs.Looked.{all_more}
-use Rattle.rs_file_parts.proofs.looking.none_is_dead.Goals as goal
+use Rattle.rs_file_parts.proofs.looking.have_none_dead.Goals as goal
 
 pub loop-run-preserved : goal.loop-run-preserved
 loop-run-preserved c =

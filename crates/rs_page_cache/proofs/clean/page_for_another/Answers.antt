@@ -6,7 +6,7 @@ use Rattle.lru.specs.LruCache.{LruCache, lru_cache}
 use Rattle.rs_page.specs.declared.page.Page.{Page}
 use Rattle.rs_page_cache.specs.Clean.{kept_pages}
 use Rattle.rs_page_cache.proofs.CleanLists.{first-stays}
-use Rattle.rs_page_cache.proofs.clean.room_in.Goals as goal
+use Rattle.rs_page_cache.proofs.clean.page_for_another.Goals as goal
 
 after_pop : (was now : LruCache ℕ (Box Page Global)) → now ≡ lru_cache (take (length was.entries - 1) was.entries) was.cap
     → (e : ℕ × List ℕ) → Contains (kept_pages now.entries) e → Contains (kept_pages was.entries) e
