@@ -12,7 +12,7 @@ ghost use Rattle.rs_descent.specs.Forms.{file_form, session_form};
 
 use crate::front::{Stop, mark, need_mark, need_text};
 use crate::positions::wanted_method;
-use crate::queries::query;
+use crate::queries::boxed_query;
 use rs_grammar::kind::TokenKind;
 use rs_lexer::Token;
 use rs_syntax::written::WrittenCommand;
@@ -27,7 +27,7 @@ fn open(alloc: Global, tokens: &[Token]) -> Result<(WrittenCommand, &[Token]), S
 {
     let (cursor, rest) = need_text(tokens, TokenKind::Name)?;
     let rest = need_mark(rest, TokenKind::For)?;
-    let (query, rest) = query(alloc, rest)?;
+    let (query, rest) = boxed_query(alloc, rest)?;
     let (method, rest) = wanted_method(rest)?;
     let command = WrittenCommand::Open {
         cursor,

@@ -14,7 +14,7 @@ use crate::columns::columns;
 use crate::front::{Stop, mark, need_mark, need_text};
 use crate::indexes::define_index;
 use crate::positions::{measure, position};
-use crate::queries::query;
+use crate::queries::boxed_query;
 use rs_grammar::kind::TokenKind;
 use rs_lexer::Token;
 use rs_syntax::written::WrittenCommand;
@@ -69,7 +69,7 @@ fn define_view(alloc: Global, tokens: &[Token]) -> Result<(WrittenCommand, &[Tok
 {
     let (name, rest) = need_text(tokens, TokenKind::Name)?;
     let rest = need_mark(rest, TokenKind::As)?;
-    let (query, rest) = query(alloc, rest)?;
+    let (query, rest) = boxed_query(alloc, rest)?;
     Ok((WrittenCommand::DefineView { name, query }, rest))
 }
 

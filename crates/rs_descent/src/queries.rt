@@ -45,9 +45,12 @@ fn renaming(tokens: &[Token]) -> Result<((Token, Token), &[Token]), Stop<'_>>
     Ok(((from, to), rest))
 }
 
-// query
+/// Reads the syntax of a query from the front into a box, and returns the tokens after it.
 #[cycle(reading)]
-fn boxed_query(alloc: Global, tokens: &[Token]) -> Result<(Box<WrittenQuery>, &[Token]), Stop<'_>>
+pub fn boxed_query(
+    alloc: Global,
+    tokens: &[Token],
+) -> Result<(Box<WrittenQuery>, &[Token]), Stop<'_>>
     ensures runs { RunsTo query_form tokens.now result }
     ensures spelled { IfOk result (λ found.
         lexemes_of tokens.now ≡ query_lexemes (query_syntax found.0.value) ++ lexemes_of found.1.now) }
@@ -170,9 +173,9 @@ fn gaps_query(alloc: Global, tokens: &[Token]) -> Result<(WrittenQuery, &[Token]
     closed(WrittenQuery::Gaps(query), rest)
 }
 
-/// Reads the syntax of a query from the front, and returns the tokens after it.
+// query
 #[cycle(reading)]
-pub fn query(alloc: Global, tokens: &[Token]) -> Result<(WrittenQuery, &[Token]), Stop<'_>>
+fn query(alloc: Global, tokens: &[Token]) -> Result<(WrittenQuery, &[Token]), Stop<'_>>
     ensures runs { RunsTo query_form tokens.now result }
     ensures spelled { IfOk result (λ found.
         lexemes_of tokens.now ≡ query_lexemes (query_syntax found.0) ++ lexemes_of found.1.now) }

@@ -11,7 +11,7 @@ ghost use Rattle.rs_descent.specs.Reading.{RunsTo};
 
 use crate::front::{Stop, mark, need_mark, text};
 use crate::names::bracketed_names;
-use crate::queries::query;
+use crate::queries::boxed_query;
 use rs_grammar::kind::TokenKind;
 use rs_lexer::Token;
 use rs_syntax::written::WrittenCommand;
@@ -38,7 +38,7 @@ pub fn total(alloc: Global, tokens: &[Token]) -> Result<(WrittenCommand, &[Token
         ≡ spelling (written_of found.0) ++ lexemes_of found.1.now) }
     ensures full { IfOk result (λ found. IsFull (written_of found.0)) }
 {
-    let (query, rest) = query(alloc, tokens)?;
+    let (query, rest) = boxed_query(alloc, tokens)?;
     let rest = need_mark(rest, TokenKind::By)?;
     let (by, rest) = bracketed_names(alloc, rest)?;
     let (summed, rest) = summed_column(rest)?;

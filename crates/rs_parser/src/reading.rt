@@ -18,7 +18,7 @@ use rs_descent::events::{insert, remove};
 use rs_descent::front::{Stop, mark};
 use rs_descent::moves::{move_referent, translate};
 use rs_descent::positions::wanted_method;
-use rs_descent::queries::query;
+use rs_descent::queries::boxed_query;
 use rs_descent::totals::total;
 use rs_grammar::kind::TokenKind;
 use rs_lexer::Token;
@@ -32,7 +32,7 @@ fn select(alloc: Global, tokens: &[Token]) -> Result<(WrittenCommand, &[Token]),
         ≡ spelling (written_of found.0) ++ lexemes_of found.1.now) }
     ensures full { IfOk result (λ found. IsFull (written_of found.0)) }
 {
-    let (query, rest) = query(alloc, tokens)?;
+    let (query, rest) = boxed_query(alloc, tokens)?;
     let (method, rest) = wanted_method(rest)?;
     Ok((WrittenCommand::Select { query, method }, rest))
 }
@@ -44,7 +44,7 @@ fn explain(alloc: Global, tokens: &[Token]) -> Result<(WrittenCommand, &[Token])
         ≡ spelling (written_of found.0) ++ lexemes_of found.1.now) }
     ensures full { IfOk result (λ found. IsFull (written_of found.0)) }
 {
-    let (query, rest) = query(alloc, tokens)?;
+    let (query, rest) = boxed_query(alloc, tokens)?;
     Ok((WrittenCommand::Explain { query }, rest))
 }
 

@@ -162,6 +162,8 @@ pub enum WrittenQuery {
 }
 
 /// A command as written.
+///
+/// Its queries are in boxes: the toolchain's own compiler takes no type of more than 8,192 parts.
 #[derive(Drop)]
 pub enum WrittenCommand {
     /// `DEFINE ROUTE`.
@@ -205,7 +207,7 @@ pub enum WrittenCommand {
         /// The view's name.
         name: Token,
         /// Its query.
-        query: WrittenQuery,
+        query: Box<WrittenQuery>,
     },
     /// `DEFINE ALIGNMENT`.
     DefineAlignment {
@@ -287,14 +289,14 @@ pub enum WrittenCommand {
     /// `SELECT`, with the method after `AS` where there is one.
     Select {
         /// What is asked for.
-        query: WrittenQuery,
+        query: Box<WrittenQuery>,
         /// How positions are to be printed, where the line says it.
         method: Option<Method>,
     },
     /// `TOTAL`, with the column after `SUM` where there is one.
     Total {
         /// The query whose rows are grouped.
-        query: WrittenQuery,
+        query: Box<WrittenQuery>,
         /// The columns in brackets after `BY`, perhaps none.
         by: Vec<Token>,
         /// The column that is summed, where the line says it.
@@ -303,14 +305,14 @@ pub enum WrittenCommand {
     /// `EXPLAIN`.
     Explain {
         /// What is asked for.
-        query: WrittenQuery,
+        query: Box<WrittenQuery>,
     },
     /// `OPEN`, with the method after `AS` where there is one.
     Open {
         /// The cursor's name.
         cursor: Token,
         /// What is asked for.
-        query: WrittenQuery,
+        query: Box<WrittenQuery>,
         /// How positions are to be printed, where the line says it.
         method: Option<Method>,
     },

@@ -38,7 +38,7 @@ returns-clause-runs c = through c.in_ok-query.ensures.runs (takes_as c.in_ok-res
 
 pub returns-clause-spelled : goal.returns-clause-spelled
 returns-clause-spelled c =
-    let operand = query_lexemes (query_syntax c.in_ok-query.query) in
+    let operand = query_lexemes (query_syntax c.in_ok-query.query.value) in
     let columns = bracketed_names_lexemes c.in_ok-by.by.items in
     let column = summed_lexemes c.in_ok-summed.summed in
     let end = lexemes_of c.in_ok-summed.rest.now in

@@ -17,16 +17,16 @@ pub returns-in-Translate-clause-err : goal.returns-in-Translate-clause-err
 returns-in-Translate-clause-err c = rw c.in-Translate.is c.translation_said.ensures.err
 
 pub returns-in-Select-clause-err : goal.returns-in-Select-clause-err
-returns-in-Select-clause-err c = rw c.in-Select.is c.selection_said.ensures.err
+returns-in-Select-clause-err c = rw (c.in-Select.is, ← c.deref-in-Select.ensures) c.selection_said.ensures.err
 
 pub returns-in-Total-clause-err : goal.returns-in-Total-clause-err
-returns-in-Total-clause-err c = rw (c.in-Total.is, ← c.deref-in-Total.ensures.value) c.total_said.ensures.err
+returns-in-Total-clause-err c = rw (c.in-Total.is, ← c.deref-in-Total.ensures, ← c.deref-in-Total-2.ensures.value) c.total_said.ensures.err
 
 pub returns-in-Explain-clause-err : goal.returns-in-Explain-clause-err
-returns-in-Explain-clause-err c = rw c.in-Explain.is c.explanation_said.ensures.err
+returns-in-Explain-clause-err c = rw (c.in-Explain.is, ← c.deref-in-Explain.ensures) c.explanation_said.ensures.err
 
 pub returns-in-Open-clause-err : goal.returns-in-Open-clause-err
-returns-in-Open-clause-err c = rw c.in-Open.is c.opening_said.ensures.err
+returns-in-Open-clause-err c = rw (c.in-Open.is, ← c.deref-in-Open.ensures) c.opening_said.ensures.err
 
 pub returns-in-Fetch-clause-err : goal.returns-in-Fetch-clause-err
 returns-in-Fetch-clause-err c = rw c.in-Fetch.is c.fetch_said.ensures.err
@@ -44,16 +44,16 @@ pub returns-in-Translate-clause-ok : goal.returns-in-Translate-clause-ok
 returns-in-Translate-clause-ok c = rw c.in-Translate.is c.translation_said.ensures.ok
 
 pub returns-in-Select-clause-ok : goal.returns-in-Select-clause-ok
-returns-in-Select-clause-ok c = rw c.in-Select.is c.selection_said.ensures.ok
+returns-in-Select-clause-ok c = rw (c.in-Select.is, ← c.deref-in-Select.ensures) c.selection_said.ensures.ok
 
 pub returns-in-Total-clause-ok : goal.returns-in-Total-clause-ok
-returns-in-Total-clause-ok c = rw (c.in-Total.is, ← c.deref-in-Total.ensures.value) c.total_said.ensures.ok
+returns-in-Total-clause-ok c = rw (c.in-Total.is, ← c.deref-in-Total.ensures, ← c.deref-in-Total-2.ensures.value) c.total_said.ensures.ok
 
 pub returns-in-Explain-clause-ok : goal.returns-in-Explain-clause-ok
-returns-in-Explain-clause-ok c = rw c.in-Explain.is c.explanation_said.ensures.ok
+returns-in-Explain-clause-ok c = rw (c.in-Explain.is, ← c.deref-in-Explain.ensures) c.explanation_said.ensures.ok
 
 pub returns-in-Open-clause-ok : goal.returns-in-Open-clause-ok
-returns-in-Open-clause-ok c = rw c.in-Open.is c.opening_said.ensures.ok
+returns-in-Open-clause-ok c = rw (c.in-Open.is, ← c.deref-in-Open.ensures) c.opening_said.ensures.ok
 
 pub returns-in-Fetch-clause-ok : goal.returns-in-Fetch-clause-ok
 returns-in-Fetch-clause-ok c = rw c.in-Fetch.is c.fetch_said.ensures.ok

@@ -14,7 +14,7 @@ pub returns-in-DefineReferent-clause-err : goal.returns-in-DefineReferent-clause
 returns-in-DefineReferent-clause-err c = rw c.in-DefineReferent.is c.referent_said.ensures.err
 
 pub returns-in-DefineView-clause-err : goal.returns-in-DefineView-clause-err
-returns-in-DefineView-clause-err c = rw c.in-DefineView.is c.view_said.ensures.err
+returns-in-DefineView-clause-err c = rw (c.in-DefineView.is, ← c.deref-in-DefineView.ensures) c.view_said.ensures.err
 
 pub returns-in-DefineAlignment-clause-err : goal.returns-in-DefineAlignment-clause-err
 returns-in-DefineAlignment-clause-err c = rw (c.in-DefineAlignment.is, ← c.deref-in-DefineAlignment.ensures.value) c.alignment_said.ensures.err
@@ -29,7 +29,7 @@ pub returns-in-DefineReferent-clause-ok : goal.returns-in-DefineReferent-clause-
 returns-in-DefineReferent-clause-ok c = rw c.in-DefineReferent.is c.referent_said.ensures.ok
 
 pub returns-in-DefineView-clause-ok : goal.returns-in-DefineView-clause-ok
-returns-in-DefineView-clause-ok c = rw c.in-DefineView.is c.view_said.ensures.ok
+returns-in-DefineView-clause-ok c = rw (c.in-DefineView.is, ← c.deref-in-DefineView.ensures) c.view_said.ensures.ok
 
 pub returns-in-DefineAlignment-clause-ok : goal.returns-in-DefineAlignment-clause-ok
 returns-in-DefineAlignment-clause-ok c = rw (c.in-DefineAlignment.is, ← c.deref-in-DefineAlignment.ensures.value) c.alignment_said.ensures.ok
