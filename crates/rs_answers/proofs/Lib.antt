@@ -4,7 +4,7 @@ mod Counting
 mod CanPlan
 mod RouteEnds
 mod PlannedRows
-mod LineTexts
+pub mod LineTexts
 pub mod NamedRoutes
 mod ShownLines
 pub mod Starts

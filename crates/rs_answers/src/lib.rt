@@ -13,6 +13,7 @@ pub mod route_lines;
 pub mod routes;
 mod row_text;
 pub mod rows;
+mod run_text;
 pub mod runs;
 pub mod totals;
 pub mod versions;

@@ -44,7 +44,7 @@ impl PositionPrinter<'_> {
 }
 
 /// The place of the route that is nearest to this one.
-fn place_on(route: RouteEntry, place: u32) -> Measure
+pub(crate) fn place_on(route: RouteEntry, place: u32) -> Measure
     ensures nearest { result ≡ place_on route.ends place }
     ensures after_start { route.ends.start ≤ result }
     ensures before_finish { result ≤ route.ends.finish }

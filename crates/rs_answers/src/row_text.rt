@@ -10,16 +10,17 @@ ghost use Rattle.rs_answers.specs.Portions.{room_of, IsStart};
 ghost use Rattle.rs_answers.specs.Printed.{printed_by};
 
 use crate::printer::PositionPrinter;
+use crate::run_text::line_text;
 use rs_facts::Span;
-use rs_value::{Kind, push_values};
+use rs_value::Kind;
 use std::alloc::{AllocError, Global};
 
 /// How many bytes a line of a list takes beside its text: a pointer, a length and a capacity, twice, since a list that grows has up to
 /// twice the room that it needs.
 pub const LINE_OVERHEAD: usize = 48;
 
-/// The room that a line is given at first, in bytes; it takes more where it needs more.
-const LINE_ROOM: usize = 48;
+/// How many bytes the buffer has in which a line is made. Most lines fit there.
+const LINE_BUFFER_BYTES: usize = 512;
 
 /// Appends the line of each run of one route.
 pub(crate) fn push_lines(
@@ -31,8 +32,9 @@ pub(crate) fn push_lines(
 ) -> Result<(), AllocError>
     ensures { OnOk result (rows_of rows.new.items ≡ rows_of rows.old.items ++ map (line_of (printed_by printer.now) kind printer.now.name.now.bytes) (map seen runs.now)) }
 {
+    let mut buffer = [0; LINE_BUFFER_BYTES];
     for run in runs {
-        rows.push(line_text(alloc, kind, printer, run)?)?;
+        rows.push(line_text(alloc, kind, printer, run, &mut buffer)?)?;
     }
     Ok(())
 }
@@ -48,10 +50,11 @@ pub(crate) fn lines_within(
     ensures lines { IfOk result (λ lines. IsStart (rows_of lines.items) (map (line_of (printed_by printer.now) kind printer.now.name.now.bytes) (map seen runs.now))) }
     ensures room { IfOk result (λ lines. room_of lines.items ≤ room) }
 {
+    let mut buffer = [0; LINE_BUFFER_BYTES];
     let mut lines = Vec::new(alloc);
     let mut left = room;
     for run in runs {
-        let text = line_text(alloc, kind, printer, run)?;
+        let text = line_text(alloc, kind, printer, run, &mut buffer)?;
         let takes = text.capacity() + LINE_OVERHEAD;
         if left < takes {
             break;
@@ -60,24 +63,4 @@ pub(crate) fn lines_within(
         lines.push(text)?;
     }
     Ok(lines)
-}
-
-/// The line of one run: the route, its position or its two positions, and its values.
-fn line_text(
-    alloc: Global,
-    kind: Kind,
-    printer: &PositionPrinter<'_>,
-    run: &Span,
-) -> Result<String, AllocError>
-    ensures { IfOk result (λ text. string_bytes text ≡ line_of (printed_by printer.now) kind printer.now.name.now.bytes (seen run.now)) }
-{
-    let mut text = String::with_capacity(alloc, LINE_ROOM)?;
-    text.push_str(printer.name.as_str())?;
-    printer.push(&mut text, run.lo)?;
-    match kind {
-        Kind::Point => (),
-        Kind::Line => printer.push(&mut text, run.hi)?,
-    }
-    push_values(&mut text, &run.tuple)?;
-    Ok(text)
 }

@@ -1,6 +1,6 @@
 //! One line is written: that of a route, a referent, a table, an alignment, a view or an index.
 //!
-//! Each takes room for a line, in place of what is there.
+//! Each makes its line in a buffer that it is given, in place of what is there.
 
 ghost use Rattle.std.specs.Prelude.{◌≡◌, ◌∷◌, [], ◌++◌, IfErr, IfOk, Ok, false, true};
 ghost use Rattle.std.specs.Io.KnownBytes.{Appends};

@@ -16,7 +16,7 @@ ghost use Rattle.rs_syntax.specs.Tree.{insert};
 use crate::held::{Held, NamedTable};
 use crate::stop::Stop;
 use rs_catalog::NamedRoute;
-use rs_dump_lines::rows::{ROW_ROOM, push_row_by_room};
+use rs_dump_lines::rows::{ROW_BUFFER_BYTES, push_row_backwards};
 use rs_dump_lines::writing::push_row_front;
 use rs_facts::Span;
 use rs_machine::limits::LINE_BYTES;
@@ -28,8 +28,8 @@ use std::io::Write;
 /// From how many bytes of lines on these are written.
 const PIECE_BYTES: usize = 16_384;
 
-/// What room the lines have: those that are not written yet, and one more.
-const ROOM: usize = PIECE_BYTES + LINE_BYTES;
+/// How many bytes the buffer of the lines has: for those that are not written yet, and for one more.
+const PIECE_BUFFER_BYTES: usize = PIECE_BYTES + LINE_BYTES;
 
 /// Writes the lines of the rows of these tables on these routes.
 pub fn write_rows<H: Held, W: Write>(
@@ -61,7 +61,7 @@ pub fn write_rows_of<H: Held, W: Write>(
     ensures lines { (shown : Shown) → H.shows held.old shown → WritesRead result (rows_of_table (table_seen table.now) (map route_seen routes.now) shown) (W.contents output.old) (W.contents output.new) }
     ensures wants { IfErr result (λ stop. StopsReading H.Held stop held.old held.new) }
 {
-    let mut piece = Vec::with_capacity(alloc, ROOM)?;
+    let mut piece = Vec::with_capacity(alloc, PIECE_BUFFER_BYTES)?;
     for route in routes {
         add_rows_on(alloc, held, table, route, &mut piece, output)?;
     }
@@ -87,8 +87,8 @@ fn add_rows_on<H: Held, W: Write>(
         Ok(spans) => {
             let mut front = Vec::new(alloc);
             push_row_front(&mut front, table.kind, &table.name, &route.name)?;
-            let mut room = [0; ROW_ROOM];
-            add_rows(table.kind, &front, &spans, &mut room, piece, output)
+            let mut buffer = [0; ROW_BUFFER_BYTES];
+            add_rows(table.kind, &front, &spans, &mut buffer, piece, output)
         }
         Err(refusal) => {
             put_piece(piece, output)?;
@@ -97,12 +97,12 @@ fn add_rows_on<H: Held, W: Write>(
     }
 }
 
-/// Adds the lines of these spans, which are made in a room.
+/// Adds the lines of these spans, which are made in a buffer.
 fn add_rows<W: Write>(
     kind: Kind,
     front: &[u8],
     spans: &[Span],
-    room: &mut [u8],
+    buffer: &mut [u8],
     piece: &mut Vec<u8>,
     output: &mut W,
 ) -> Result<(), Stop>
@@ -111,17 +111,17 @@ fn add_rows<W: Write>(
     ensures stops { IfErr result StopsWriting }
 {
     for span in spans {
-        add_row(kind, front, span, room, piece, output)?;
+        add_row(kind, front, span, buffer, piece, output)?;
     }
     Ok(())
 }
 
-/// Adds the line of a row, which is made in a room, and writes the lines so far once there are enough of them.
+/// Adds the line of a row, which is made in a buffer, and writes the lines so far once there are enough of them.
 fn add_row<W: Write>(
     kind: Kind,
     front: &[u8],
     span: &Span,
-    room: &mut [u8],
+    buffer: &mut [u8],
     piece: &mut Vec<u8>,
     output: &mut W,
 ) -> Result<(), Stop>
@@ -129,7 +129,7 @@ fn add_row<W: Write>(
         → AddsBytes result (line_bytes (insert table route (location_of kind (seen span.now)) (seen span.now).row)) piece.old.items piece.new.items (W.contents output.old) (W.contents output.new) }
     ensures stops { IfErr result StopsWriting }
 {
-    push_row_by_room(piece, room, front, kind, span)?;
+    push_row_backwards(piece, buffer, front, kind, span)?;
     if piece.len() < PIECE_BYTES {
         return Ok(());
     }

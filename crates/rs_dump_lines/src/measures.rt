@@ -5,12 +5,11 @@ ghost use Rattle.rs_dump_laws.specs.Lines.{decimals_text, point_text, shortest_t
 ghost use Rattle.rs_measure.specs.Measure.{SaysMeasure};
 ghost use Rattle.rs_measure.specs.declared.measure.TheConstants.{GREATEST_MEASURE};
 
-use crate::parts::{push_few, put_before};
-use itoa::{Buffer, write_digits};
+use crate::parts::push_few;
+use itoa::Buffer;
+use rs_backward_text::measures::{MEASURE_BYTES, put_whole_before};
+use rs_backward_text::parts::{put_before, put_digit_before};
 use std::alloc::AllocError;
-
-/// The most bytes of the shortest text of a measure: seven digits, a point and three decimals.
-pub(crate) const MEASURE_BYTES: usize = 11;
 
 /// The text of a measure without needless zeros says the measure.
 pub fn shortest_text_says_the_measure()
@@ -63,7 +62,7 @@ fn push_digit(text: &mut Vec<u8>, digit: u32) -> Result<(), AllocError>
 }
 
 /// Puts the shortest text of a measure of so many thousandths before the byte at `end`, and says where it begins.
-pub(crate) fn put_measure_before(thousandths: u32, bytes: &mut [u8], end: usize) -> usize
+pub(crate) fn put_shortest_before(thousandths: u32, bytes: &mut [u8], end: usize) -> usize
     requires room { MEASURE_BYTES ≤ end }
     requires inside { end ≤ length bytes.old }
     ensures begins { result ≤ end }
@@ -73,19 +72,6 @@ pub(crate) fn put_measure_before(thousandths: u32, bytes: &mut [u8], end: usize)
 {
     let point = put_point_before(thousandths % 1000, bytes, end);
     put_whole_before(thousandths / 1000, bytes, point)
-}
-
-/// Puts the digits of the whole part of a measure before the byte at `end`.
-fn put_whole_before(whole: u32, bytes: &mut [u8], end: usize) -> usize
-    requires whole { whole < 10_000_000 }
-    requires room { 7 ≤ end }
-    requires inside { end ≤ length bytes.old }
-    ensures begins { result ≤ end }
-    ensures few { end ≤ result + 7 }
-    ensures length { length bytes.new ≡ length bytes.old }
-    ensures put { drop result bytes.new ≡ decimal whole ++ drop end bytes.old }
-{
-    write_digits(u64::from(whole), bytes, end)
 }
 
 /// Puts what follows the whole part before the byte at `end`: nothing, or a point and decimals.
@@ -125,16 +111,4 @@ fn put_decimals_before(rest: u32, bytes: &mut [u8], end: usize) -> usize
     let thousandths = put_digit_before(rest % 10, bytes, end);
     let hundredths = put_digit_before(rest / 10 % 10, bytes, thousandths);
     put_digit_before(rest / 100, bytes, hundredths)
-}
-
-/// Puts a decimal digit before the byte at `end`.
-fn put_digit_before(digit: u32, bytes: &mut [u8], end: usize) -> usize
-    requires digit { digit < 10 }
-    requires room { 0 < end }
-    requires inside { end ≤ length bytes.old }
-    ensures begins { result + 1 ≡ end }
-    ensures length { length bytes.new ≡ length bytes.old }
-    ensures put { drop result bytes.new ≡ (48 + digit) ∷ drop end bytes.old }
-{
-    put_before(b'0' + digit as u8, bytes, end)
 }

@@ -1,4 +1,4 @@
-//! The line of a row, with its LF, made from its end in a room. A row that does not fit there is appended part by part.
+//! The line of a row, with its LF, made from its end in a buffer. A row that does not fit there is appended part by part.
 
 ghost use Rattle.std.specs.Prelude.{◌≡◌, ◌≤◌, [], ◌∷◌, ◌++◌, ℕ, List, IfSome, OnOk, codes, drop, length, map};
 ghost use Rattle.std.specs.List.{join_with_byte};
@@ -7,34 +7,29 @@ ghost use Rattle.rs_dump_laws.specs.Lines.{COMMA, bracketed_texts, dump_line};
 ghost use Rattle.rs_dump_lines.specs.Texts.{ends_text, measures_text, row_front};
 ghost use Rattle.rs_facts.specs.Spans.{seen};
 ghost use Rattle.rs_syntax.specs.Tree.{insert};
-ghost use Rattle.rs_value.specs.LentView.{lent_datum};
-ghost use Rattle.rs_value.specs.Row as rows;
 ghost use Rattle.rs_value.specs.Text.{datum_text};
 
-use crate::measures::{MEASURE_BYTES, put_measure_before};
-use crate::parts::{put_before, put_word_before};
-use crate::values::{QUOTE, has_quote};
+use crate::measures::put_shortest_before;
 use crate::writing::push_row_line;
-use itoa::write_digits;
+use rs_backward_text::measures::MEASURE_BYTES;
+use rs_backward_text::parts::put_word_before;
+use rs_backward_text::values::put_value_before;
 use rs_facts::Span;
-use rs_value::{KeptRow, Kind, LentValue};
+use rs_value::{KeptRow, Kind};
 use std::alloc::AllocError;
 
-/// How many bytes a room has in which most rows fit.
-pub const ROW_ROOM: usize = 512;
+/// How many bytes the buffer has in which a row is made. Most rows fit there.
+pub const ROW_BUFFER_BYTES: usize = 512;
 
 /// The most bytes of two measures with ` TO ` between them.
 const ENDS_BYTES: usize = 2 * MEASURE_BYTES + 4;
 
-/// The most bytes of a mark and a number.
-const NUMBER_BYTES: usize = 22;
-
 /// Appends the line that inserts a row of a table of this kind along a span of a route, and its LF. `push_row_front` gives the front. What
-/// is in the room is unspecified before and after. Where memory runs out, a part may have been appended.
+/// is in the buffer is unspecified before and after. Where memory runs out, a part may have been appended.
 #[tactic(auto, using(crate::proofs::Joined::row_and_end))]
-pub fn push_row_by_room(
+pub fn push_row_backwards(
     text: &mut Vec<u8>,
-    room: &mut [u8],
+    buffer: &mut [u8],
     front: &[u8],
     kind: Kind,
     span: &Span,
@@ -42,9 +37,9 @@ pub fn push_row_by_room(
     ensures { (table route : List ℕ) → front.now ≡ row_front kind table route → OnOk result (text.new.items ≡ text.old.items
         ++ (dump_line (insert table route (location_of kind (seen span.now)) (seen span.now).row) ++ 10 ∷ [])) }
 {
-    let end = room.len();
-    if let Some(start) = put_row_before(front, kind, span, room, end) {
-        return text.extend_from_slice(&room[start..]);
+    let end = buffer.len();
+    if let Some(start) = put_row_before(front, kind, span, buffer, end) {
+        return text.extend_from_slice(&buffer[start..]);
     }
     push_row_line(text, front, kind, span)?;
     text.push(b'\n')?;
@@ -107,7 +102,7 @@ fn put_measures_before(kind: Kind, span: &Span, bytes: &mut [u8], end: usize) ->
 {
     match kind {
         Kind::Line => put_ends_before(span.lo, span.hi, bytes, end),
-        Kind::Point => put_measure_before(span.lo, bytes, end),
+        Kind::Point => put_shortest_before(span.lo, bytes, end),
     }
 }
 
@@ -119,9 +114,9 @@ fn put_ends_before(from: u32, to: u32, bytes: &mut [u8], end: usize) -> usize
     ensures length { length bytes.new ≡ length bytes.old }
     ensures put { drop result bytes.new ≡ ends_text from to ++ drop end bytes.old }
 {
-    let second = put_measure_before(to, bytes, end);
+    let second = put_shortest_before(to, bytes, end);
     let word = put_word_before(b" TO ", bytes, second);
-    put_measure_before(from, bytes, word)
+    put_shortest_before(from, bytes, word)
 }
 
 /// Puts a bracket and the values of a row, with a comma between them, before the byte at `end`, and says where they begin, if there are
@@ -143,61 +138,4 @@ fn put_values_before(row: &KeptRow, bytes: &mut [u8], end: usize) -> Option<usiz
         return None;
     }
     put_value_before(b'(', row.value_at(0), bytes, at)
-}
-
-/// Puts a mark and the text of a value before the byte at `end`, and says where the mark is, if they have room.
-fn put_value_before(mark: u8, value: LentValue<'_>, bytes: &mut [u8], end: usize) -> Option<usize>
-    requires inside { end ≤ length bytes.old }
-    ensures begins { IfSome result (λ start. start ≤ end) }
-    ensures length { IfSome result (λ _. length bytes.new ≡ length bytes.old) }
-    ensures put { IfSome result (λ start. drop start bytes.new ≡ mark ∷ (datum_text (lent_datum value.entry) ++ drop end bytes.old)) }
-{
-    if end < NUMBER_BYTES {
-        return None;
-    }
-    match value {
-        LentValue::Null => {
-            let word = put_word_before(b"NULL", bytes, end);
-            Some(put_before(mark, bytes, word))
-        }
-        LentValue::Int(number) => {
-            let digits = put_number_before(number, bytes, end);
-            Some(put_before(mark, bytes, digits))
-        }
-        LentValue::Text(text) => put_text_before(mark, text, bytes, end),
-    }
-}
-
-/// Puts the digits of a number, and its sign, before the byte at `end`.
-fn put_number_before(number: i64, bytes: &mut [u8], end: usize) -> usize
-    requires room { NUMBER_BYTES ≤ end }
-    requires inside { end ≤ length bytes.old }
-    ensures begins { result ≤ end }
-    ensures some { 1 ≤ result }
-    ensures length { length bytes.new ≡ length bytes.old }
-    ensures put { drop result bytes.new ≡ datum_text (rows.number number) ++ drop end bytes.old }
-{
-    let digits = write_digits(number.unsigned_abs(), bytes, end);
-    if number >= 0 {
-        return digits;
-    }
-    put_before(b'-', bytes, digits)
-}
-
-/// Puts a mark and a text between quotes before the byte at `end`, and says where the mark is, if they have room and no quote is in the
-/// text.
-fn put_text_before(mark: u8, text: &[u8], bytes: &mut [u8], end: usize) -> Option<usize>
-    requires room { 3 ≤ end }
-    requires inside { end ≤ length bytes.old }
-    ensures begins { IfSome result (λ start. start ≤ end) }
-    ensures length { IfSome result (λ _. length bytes.new ≡ length bytes.old) }
-    ensures put { IfSome result (λ start. drop start bytes.new ≡ mark ∷ (datum_text (rows.text text.now) ++ drop end bytes.old)) }
-{
-    if text.len() > end - 3 || has_quote(text) {
-        return None;
-    }
-    let after = put_before(QUOTE, bytes, end);
-    let within = put_word_before(text, bytes, after);
-    let quote = put_before(QUOTE, bytes, within);
-    Some(put_before(mark, bytes, quote))
 }

@@ -2,18 +2,16 @@
 //!
 //! It is that of a reply, as bytes: that they are text is not checked again.
 
-ghost use Rattle.std.specs.Prelude.{◌≡◌, ◌++◌, false, OnOk};
+ghost use Rattle.std.specs.Prelude.{◌≡◌, ◌++◌, OnOk};
 ghost use Rattle.rs_value.specs.LentView.{lent_datum};
 ghost use Rattle.rs_value.specs.Row as rows;
 ghost use Rattle.rs_value.specs.Text.{datum_text, quotes_doubled};
 
 use crate::parts::push_few;
 use itoa::Buffer;
+use rs_backward_text::values::{QUOTE, has_quote};
 use rs_value::LentValue;
 use std::alloc::AllocError;
-
-/// The byte of a quote.
-pub(crate) const QUOTE: u8 = b'\'';
 
 /// Appends the text of a value. Where memory runs out, a part may have been appended.
 pub(crate) fn push_value(text: &mut Vec<u8>, value: LentValue<'_>) -> Result<(), AllocError>
@@ -44,18 +42,6 @@ fn push_within(text: &mut Vec<u8>, quoted: &[u8]) -> Result<(), AllocError>
         return push_doubled(text, quoted);
     }
     text.extend_from_slice(quoted)
-}
-
-/// Whether a quote is among the bytes.
-pub(crate) fn has_quote(bytes: &[u8]) -> bool
-    ensures { result ≡ false → quotes_doubled bytes.now ≡ bytes.now }
-{
-    for byte in bytes {
-        if *byte == QUOTE {
-            return true;
-        }
-    }
-    false
 }
 
 /// Appends the bytes one by one, each quote among them twice.

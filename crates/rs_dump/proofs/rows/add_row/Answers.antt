@@ -10,8 +10,8 @@ use Rattle.rs_dump.proofs.Gathered.{held_as, held_back}
 use Rattle.rs_dump.proofs.Stops.{nothing_out, passed_on}
 use Rattle.rs_dump.proofs.rows.add_row.Goals as goal
 
-pub returns-in_err-push_row_by_room-clause-line : goal.returns-in_err-push_row_by_room-clause-line
-returns-in_err-push_row_by_room-clause-line g c = λ table route is.
+pub returns-in_err-push_row_backwards-clause-line : goal.returns-in_err-push_row_backwards-clause-line
+returns-in_err-push_row_backwards-clause-line g c = λ table route is.
     passed_on c.from_residual.result (Refused OutOfMemory) _ _ c.from_residual.ensures.1 (nothing_out OutOfMemory _ (g.W.Write.contents c.args.output.now))
 
 pub returns-then-len-lt-PIECE_BYTES-clause-line : goal.returns-then-len-lt-PIECE_BYTES-clause-line
@@ -20,5 +20,5 @@ returns-then-len-lt-PIECE_BYTES-clause-line g c = λ table route is.
     let tree = insert table route (location_of c.args.kind span) span.row in
     let piece = c.args.piece.now.items in
     let output = g.W.Write.contents c.args.output.now in
-    let now = c.push_row_by_room.new.text.items in
-    held_as now (piece ++ line_bytes tree) now output output (c.in_ok-push_row_by_room.ensures table route is) (held_back now output)
+    let now = c.push_row_backwards.new.text.items in
+    held_as now (piece ++ line_bytes tree) now output output (c.in_ok-push_row_backwards.ensures table route is) (held_back now output)

@@ -1,6 +1,6 @@
 use Rattle.std.proofs.Common.{◌≤◌, ◌<◌, ◌^◌, ℕ, length, decimal, arith}
 use Rattle.std.proofs.lemmas.Fmt.{length-decimal-le}
-use Rattle.rs_dump_lines.proofs.rows.put_number_before.Goals as goal
+use Rattle.rs_backward_text.proofs.values.put_number_before.Goals as goal
 
 -- twenty digits at the most
 few : (n : ℕ) → n < 2 ^ 64 → length (decimal n) ≤ 20

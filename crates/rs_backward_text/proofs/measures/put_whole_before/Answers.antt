@@ -1,6 +1,6 @@
 use Rattle.std.proofs.Common.{arith}
 use Rattle.std.proofs.lemmas.Fmt.{length-decimal-le}
-use Rattle.rs_dump_lines.proofs.measures.put_whole_before.Goals as goal
+use Rattle.rs_backward_text.proofs.measures.put_whole_before.Goals as goal
 
 pub write_digits-requires : goal.write_digits-requires
 write_digits-requires c =

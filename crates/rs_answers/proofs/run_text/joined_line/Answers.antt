@@ -3,8 +3,8 @@ use Rattle.std.specs.Prelude.{string_bytes}
 use Rattle.rs_facts.specs.Spans.{seen}
 use Rattle.rs_answers.specs.Printed.{printed_by}
 use Rattle.rs_answers.proofs.LineTexts.{point_line, line_line}
-use Rattle.rs_answers.proofs.row_text.line_text.Goals as goal
-use Rattle.rs_answers.proofs.row_text.line_text.Goals.{in-Point, in-Line+in_ok-push-in-Line}
+use Rattle.rs_answers.proofs.run_text.joined_line.Goals as goal
+use Rattle.rs_answers.proofs.run_text.joined_line.Goals.{in-Point, in-Line+in_ok-push-in-Line}
 
 pub returns : goal.returns
 returns c =
