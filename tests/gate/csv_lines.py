@@ -65,7 +65,10 @@ def some_position(chance, thousandths):
         return "%s.5%s%%" % (chance.randrange(100), blank)
     if way == 6:
         return "@BRIDGE" + blank
-    return "@Exit_%d%s%s%s%.2f" % (chance.randrange(30), blank, chance.choice("+-"), blank, thousandths / 10**6)
+    number = office_measure(chance, thousandths // 1000)
+    if chance.randrange(4):
+        number = number.replace("+", "").replace("-", "")
+    return "@Exit_%d%s%s%s%s" % (chance.randrange(30), blank, chance.choice("+-"), blank, number)
 
 
 def office_measure(chance, thousandths):
@@ -144,6 +147,10 @@ def position_of(field, rounds):
     """The position that a field says, in the text of a line, and whether it was rounded; or the words for what is wrong."""
     if re.fullmatch(POSITION, field.replace(" ", "")) and not re.search(r"[0-9.] +[0-9.]", field):
         return (field.replace(" ", ""), False)
+    beside = re.fullmatch(BESIDE, field)
+    if beside and re.fullmatch(NUMBER, beside[3].strip(" ")):
+        measure = measure_of(beside[3], rounds)
+        return measure if isinstance(measure, str) else ("@%s%s%s" % (beside[1], beside[2], measure[0]), measure[1])
     return measure_of(field, rounds)
 
 
@@ -286,6 +293,7 @@ def records_of(text, separator=","):
 
 MEASURE = r"[0-9]{1,6}(\.[0-9]{1,3})?"
 POSITION = r"%s|[0-9]{1,2}(\.[0-9]+)? *%%|@[A-Za-z][A-Za-z0-9_]*([+-]%s)?" % (MEASURE, MEASURE)
+BESIDE = r" *@ *([A-Za-z][A-Za-z0-9_]*) *([+-])([^+-]*)"
 NUMBER = r"[+-]?([0-9]+\.?[0-9]*|\.[0-9]+)"
 HEADER = ["road", "beg_mp", "end_mp", "surface", "built"]
 WORDS = ["csv", DEFINE, "--route", "road", "--from", "beg_mp", "--to", "end_mp", "--column", "year=built"]
@@ -341,6 +349,10 @@ def check_numbers():
         ("+1", "1.1000", "+7", "FROM 1.000 TO 1.100 VALUES (NULL, 7)"),
         ("0.0000", "+.75", "-3.", "FROM 0.000 TO 0.750 VALUES (NULL, -3)"),
         ("0", "000000999999.99900", "1000000000000.0", "FROM 0 TO 999999.999 VALUES (NULL, 1000000000000)"),
+        ("@BRIDGE+1.2340", "@BRIDGE-0.50000", "1", "FROM @BRIDGE+1.234 TO @BRIDGE-0.500 VALUES (NULL, 1)"),
+        (" @ BRIDGE + 1.2340 ", "@B -  .5  ", "1", "FROM @BRIDGE+1.234 TO @B-0.500 VALUES (NULL, 1)"),
+        ("@B+1.", "@B-0000000001.50", "1", "FROM @B+1.000 TO @B-1.500 VALUES (NULL, 1)"),
+        ("@B+1.20", "@B - 0.123", "1", "FROM @B+1.20 TO @B-0.123 VALUES (NULL, 1)"),
     ):
         data = head + ("SR1,%s,%s,,%s\n" % (begin, end, year)).encode()
         expect(line, run("csv", DEFINE, "--no-define", data=data), (0, ("0 INSERT INTO pavement ON SR1 %s\n" % line).encode(), b""))
@@ -350,20 +362,31 @@ def check_numbers():
         (".", "is not a position"), ("+", "is not a position"), ("1..2", "is not a position"), ("+ 1", "is not a position"), ("1_0", "is not a position"),
         ("é" * 70, "is not a position"), ("12.12345678%", "has eight decimals"), ("12.500000000 %", "has nine decimals"), ("101%", "is more than 100%"),
         ("100.0000001%", "is more than 100%"), (" 0101.5 %", "is more than 100%"), ("1000 %", "is more than 100%"), ("0100%", "is not a position"), ("0050.5%", "is not a position"),
-        ("@B+1.2345", "has four decimals"), ("@B - 0.12340", "has five decimals"), ("@B+1000000", "is not a position"), ("@B+.1234", "is not a position"),
+        ("0100.5%", "is more than 100%"), ("0099.5%", "is not a position"), ("0100.000%", "is not a position"),
+        ("@B+1.2345", "has four decimals"), ("@B - 0.12340", "has four decimals"), ("@B-1.23456", "has five decimals"), ("@B+.1234", "has four decimals"),
+        ("@B+1000000", "is past 999999.999"), ("@B-1000000.00001", "is past 999999.999"), ("@B++1.2340", "is not a position"), ("@B+-1.2340", "is not a position"), ("@B-+1", "is not a position"),
+        ("@B--1", "is not a position"), ("@B+", "is not a position"), ("@B+1 2", "is not a position"), ("@B+1.2340%", "is not a position"), ("@B+1+050", "is not a position"), ("@B-1+2", "is not a position"),
+        ("@+1.2340", "is not a position"), ("@9+1.2340", "is not a position"), ("@FROM+1.2340", "is not a position"), ("@B@B+1.2340", "is not a position"), ("B@+1.2340", "is not a position"),
     ):
         got = run("csv", DEFINE, "--no-define", data=head + ("SR1,0,%s,a,1\n" % measure).encode())
         expect(measure, got, (1, b"", told_once(2, ("to", "%s %s" % (shown(measure), words)))))
     for measure, rounded, count in (
         ("2.1622", "2.162", 1), ("2.1625", "2.162", 1), ("2.1635", "2.164", 1), ("2.16250000001", "2.163", 1), ("2.1624999", "2.162", 1), ("0.0005", "0.000", 1),
         ("0.00051", "0.001", 1), ("1.9995", "2.000", 1), ("1.1000", "1.100", 0), ("999999.9994", "999999.999", 1), ("2.16", "2.16", 0),
+        ("@B+1.23456", "@B+1.235", 1), ("@B-1.23456", "@B-1.235", 1), (" @ B + 2.1625 ", "@B+2.162", 1), ("@B-2.1635", "@B-2.164", 1), ("@B+0.0005", "@B+0.000", 1), ("@B+.00051", "@B+0.001", 1),
+        ("@B+1.2340", "@B+1.234", 0), ("@B-1.2", "@B-1.2", 0), ("@B", "@B", 0),
     ):
         got = run("csv", POINTS, "--no-define", "--round", data=("route,at,year\nSR1,%s,\n" % measure).encode())
         line = "0 INSERT INTO crash ON SR1 AT %s VALUES (NULL)\n" % rounded
         expect("%s, rounded" % measure, got, (0, line.encode(), b"roadseg: measures rounded: %d\n" % count))
-    got = run("csv", POINTS, "--no-define", "--round", data=b"route,at,year\nSR1,999999.9995,\n")
-    told = told_once(2, ("at", "999999.9995 is past 999999.999")) + b"roadseg: measures rounded: 0\n"
-    expect("rounded past the greatest", got, (1, b"", told))
+    for measure in ("999999.9995", "@B+999999.9995"):
+        got = run("csv", POINTS, "--no-define", "--round", data=("route,at,year\nSR1,%s,\n" % measure).encode())
+        told = told_once(2, ("at", measure + " is past 999999.999")) + b"roadseg: measures rounded: 0\n"
+        expect("%s, rounded past the greatest" % measure, got, (1, b"", told))
+    data = b"route,from,to,surface,year\nSR2,@B-1.00004,@B+2.0006,c,3\nSR2,@B,@B+9.5001,a,1\nSR2,1,@B+9.5000,a,1\n"
+    wanted = [("@B-1.000", "@B+2.001", "'c', 3"), ("@B", "@B+9.500", "'a', 1"), ("1", "@B+9.500", "'a', 1")]
+    lines = "".join("0 INSERT INTO pavement ON SR2 FROM %s TO %s VALUES (%s)\n" % parts for parts in wanted)
+    expect("rounded beside a referent", run("csv", DEFINE, "--no-define", "--round", data=data), (0, lines.encode(), b"roadseg: measures rounded: 3\n"))
     data = b"route,from,to,surface,year\nSR2,1.00004,2.00006,c,3\nSR2,5,9.5001,a,1\n"
     status, out, errors = run("csv", DEFINE, "--routes", "--round", data=data)
     expect("the count with --routes", (status, errors), (0, b"roadseg: measures rounded: 3\n"))
@@ -736,13 +759,14 @@ def check_stations():
     """Measures in stations, one by one."""
     for units, measure, made in (
         (100, "12+50.5", "1250.500"), (1000, "0+000", "0.000"), (100, " 012+5. ", "1205.000"), (1, "7+.5", "7.500"), (100, "12.5", "12.5"), (100, "+3", "3.000"), (30, "2+61.1000", "121.100"),
-        (1_000_000, "0+999999.999", "999999.999"), (100, "@B+2", "@B+2"), (100, "9999+99.999", "999999.999"),
+        (1_000_000, "0+999999.999", "999999.999"), (100, "@B+2", "@B+2"), (100, "9999+99.999", "999999.999"), (100, "@B+2.0500", "@B+2.050"), (100, "@B - .5", "@B-0.500"),
     ):
         got = run("csv", POINTS, "--no-define", "--stations", str(units), data=("route,at,year\nSR1,%s,\n" % measure).encode())
         expect("%s by %d" % (measure, units), got, (0, ("0 INSERT INTO crash ON SR1 AT %s VALUES (NULL)\n" % made).encode(), b""))
     for units, measure, words in (
         (100, "12+1.2345", "has four decimals"), (100, "9999+100", "is past 999999.999"), (100, "-1+5", "is not a position"), (100, "1.5+5", "is not a position"), (100, "1+", "is not a position"),
         (100, "+5+5+5", "is not a position"), (100, "1+-5", "is below 0"), (1000, "4294967296+0", "is not a position"), (None, "12+50.5", "is not a position"),
+        (100, "@B+1+50", "is not a position"), (100, "@B-1+50", "is not a position"), (100, "@B+1.2345", "has four decimals"),
     ):
         got = run("csv", POINTS, "--no-define", *(["--stations", str(units)] if units else []), data=("route,at,year\nSR1,%s,\n" % measure).encode())
         expect("%s by %s" % (measure, units), got, (1, b"", told_once(2, ("at", "%s %s" % (measure, words)))))

@@ -16,7 +16,9 @@ use Rattle.rs_measure.specs.FixedPoint.{AreDigits, three_digits}
 use Rattle.rs_measure.specs.Measure.{measure_text}
 use Rattle.rs_measure.proofs.FixedPoint.{numerals}
 use Rattle.rs_methods.specs.PositionText.{IsWord}
-use Rattle.rs_methods.specs.Position.{PositionExpression}
+use Rattle.rs_methods.specs.Position.{PositionExpression, expression_text, relative_of}
+use Rattle.rs_methods.specs.declared.position.Sign.{Sign}
+use Rattle.rs_methods.specs.declared.position.Sign.TheVariants.{Plus, Minus}
 use Rattle.rs_value.specs.declared.column.ColumnType.{ColumnType}
 use Rattle.rs_value.specs.declared.column.ColumnType.TheVariants as types
 use Rattle.rs_value.specs.Row.{Datum, Row, null}
@@ -29,10 +31,11 @@ use Rattle.rs_csv_lines.specs.declared.plan.Measures.{Measures}
 use Rattle.rs_csv_lines.specs.declared.plan.Column.{Column}
 use Rattle.rs_csv_lines.specs.declared.plan.Place.{Place}
 use Rattle.rs_csv_lines.specs.declared.plan.Place.TheVariants as places
-use Rattle.rs_csv_lines.specs.Fields.{content, SaysName}
+use Rattle.rs_csv_lines.specs.Fields.{content, sign_text, SaysName, WritesBeside}
 use Rattle.rs_csv_lines.specs.declared.plan.Scale.{Scale}
 use Rattle.rs_csv_lines.specs.Texts.{session_text, position_text, signed_text, PutsPosition, PutsNumber, PutsDatum}
 use Rattle.rs_csv_lines.proofs.NumberTexts.{three_are}
+use Rattle.rs_csv_lines.proofs.Spelled.{referent_name}
 use Rattle.rs_csv_lines.proofs.Stations.{measure_in_range}
 use Rattle.rs_csv_lines.specs.Inserts.{PutsPositionAt, PutsPlace, PutsFurther, PutsRow, insert_line}
 
@@ -49,6 +52,9 @@ both_false false b e = (refl, e)
 
 pub clean_append : (a b : List ℕ) → IsClean a → IsClean b → IsClean (a ++ b)
 clean_append a b p q = list_any-append is_control a b ∙ neither _ _ p q
+
+clean_front : (a b : List ℕ) → IsClean (a ++ b) → IsClean a
+clean_front a b p = (both_false (list_any is_control a) (list_any is_control b) (sym (list_any-append is_control a b) ∙ p)).0
 
 clean_take : (n : ℕ) (bytes : List ℕ) → IsClean bytes → IsClean (take n bytes)
 clean_take zero bytes p = refl
@@ -125,6 +131,16 @@ measure_clean n few =
     clean_append (decimal (n / 1000) ++ codes ".") (three_digits (n % 1000)) (clean_append (decimal (n / 1000)) (codes ".") (digits_clean (decimal (n / 1000)) (digits_decimal numerals (n / 1000) (omega arith))) refl)
     (digits_clean (three_digits (n % 1000)) (three_are (n % 1000) (omega arith)))
 
+beside_clean : (rounds : Bool) (field name : List ℕ) (sign : Sign) (n : ℕ) → IsClean field → WritesBeside rounds field name sign n → IsClean (expression_text (relative_of name sign n))
+beside_clean rounds field name sign n p writes =
+    let front : IsClean writes.front = clean_front writes.front (sign_text sign) (clean_front (writes.front ++ sign_text sign) writes.number (subst IsClean writes.cut p)) in
+    let named : IsClean name = subst IsClean (sym (referent_name writes.front name writes.referent writes.named)) (clean_token writes.front writes.referent front) in
+    by_sign sign (clean_append (codes "@") name refl named) (measure_clean n writes.written.0.in_range)
+  where
+    by_sign : (sign : Sign) → IsClean (codes "@" ++ name) → IsClean (measure_text n) → IsClean (expression_text (relative_of name sign n))
+    by_sign Plus a b = clean_append (codes "@" ++ name ++ codes "+") (measure_text n) (clean_append (codes "@" ++ name) (codes "+") a refl) b
+    by_sign Minus a b = clean_append (codes "@" ++ name ++ codes "-") (measure_text n) (clean_append (codes "@" ++ name) (codes "-") a refl) b
+
 signed_clean : (is_negative : Bool) (digits : List ℕ) → IsClean digits → IsClean (signed_text is_negative digits)
 signed_clean true digits p = p
 signed_clean false digits p = p
@@ -148,7 +164,8 @@ module _ (reading : Measures) (number_of : ℕ) (fields : List (List ℕ)) where
     where
       of_field : (field : List ℕ) → IsClean field → PutsPosition reading field position bytes → IsClean bytes
       of_field field p (inl put) = subst IsClean (sym put.2) (position_clean field put.0 p)
-      of_field field p (inr put) = subst IsClean (sym put.3) (measure_clean put.0 (measure_in_range reading field put.0 put.1))
+      of_field field p (inr (inl put)) = subst IsClean (sym put.3) (measure_clean put.0 (measure_in_range reading field put.0 put.1))
+      of_field field p (inr (inr put)) = subst IsClean (sym put.5) (beside_clean reading.rounds field put.0 put.1 put.2 p put.3)
 
   place_clean : (plan : Place) (location : EventLocationTree) (bytes : List ℕ) → PutsPlace reading fields plan location bytes → IsClean bytes
   place_clean (places.Along from to) (along first second) bytes puts =

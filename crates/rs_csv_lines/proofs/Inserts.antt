@@ -75,7 +75,8 @@ route_is_clean true text name plain says = name_clean name says.is_name.word
 -- what is put says what is told
 position_told : (reading : Measures) (field : List ℕ) (position : PositionExpression) (bytes : List ℕ) → PutsPosition reading field position bytes → TellsPosition reading field position
 position_told reading field position bytes (inl puts) = inl (puts.0, puts.1)
-position_told reading field position bytes (inr puts) = inr (puts.0, puts.1, puts.2)
+position_told reading field position bytes (inr (inl puts)) = inr (inl (puts.0, puts.1, puts.2))
+position_told reading field position bytes (inr (inr puts)) = inr (inr (puts.0, puts.1, puts.2, puts.3, puts.4))
 
 number_told : (scale : Scale) (field : List ℕ) (datum : Datum) (bytes : List ℕ) → PutsNumber scale field datum bytes → TellsNumber scale field datum
 number_told scale field datum bytes (inl puts) = inl (puts.0, puts.1, puts.2, puts.3, puts.5)

@@ -9,7 +9,7 @@ use Rattle.rs_grammar.specs.Grammar as grammar
 use Rattle.rs_grammar.specs.Grammar.{rules, Derives, nothing, this, that, part, is_shallow, IsCommand}
 use Rattle.rs_lexer.specs.declared.token.Token.{Token}
 use Rattle.rs_lexer.specs.Lexis.{kinds_of, token_kind, token_text, AreTokensFrom, at_end}
-use Rattle.rs_methods.specs.Position.{PositionExpression, absolute}
+use Rattle.rs_methods.specs.Position.{PositionExpression, absolute, relative_of}
 use Rattle.rs_value.specs.Row.{Row}
 use Rattle.rs_syntax.specs.declared.written.WrittenLocation.{WrittenLocation}
 use Rattle.rs_syntax.specs.declared.written.WrittenLocation.TheVariants as written_locations
@@ -26,7 +26,7 @@ use Rattle.rs_csv_lines.proofs.Stations.{measure_in_range}
 use Rattle.rs_csv_lines.specs.Inserts.{PutsPositionAt, PutsPlace, PutsRow, insert_line}
 use Rattle.rs_csv_lines.proofs.Cuts.{Ends, token_here, after_here, cut_here, blank_here, word_here, after_word, word_text, insert_kind, into_kind, on_kind, from_kind, to_kind, at_word_kind, values_kind, opening_kind, opening_stops, closing_kind, closing_stops, blank}
 use Rattle.rs_csv_lines.proofs.Lexemes.{flat}
-use Rattle.rs_csv_lines.proofs.Positions.{PositionStands, measure_text_stands, position_stands}
+use Rattle.rs_csv_lines.proofs.Positions.{PositionStands, beside_named, beside_text_stands, measure_text_stands, position_stands}
 use Rattle.rs_csv_lines.proofs.Values.{joined_kinds, RowStands, row_stands}
 
 -- from FROM or AT on, up to VALUES
@@ -47,9 +47,13 @@ module _ (line : List ℕ) (reading : Measures) (fields : List (List ℕ)) where
       at_field : (field : List ℕ) → PutsPosition reading field position bytes → PositionStands line place (place + length bytes) position
       at_field field (inl put) =
           subst (λ bs. PositionStands line place (place + length bs) position) (sym put.2) (position_stands line place field rest ends put.0 position put.1 (at ∙ ap (λ bs. bs ++ rest) put.2))
-      at_field field (inr put) =
+      at_field field (inr (inl put)) =
           subst (λ p. PositionStands line place (place + length bytes) p) (sym put.2)
           (subst (λ bs. PositionStands line place (place + length bs) (absolute put.0)) (sym put.3) (measure_text_stands line place rest ends put.0 (measure_in_range reading field put.0 put.1) (at ∙ ap (λ bs. bs ++ rest) put.3)))
+      at_field field (inr (inr put)) =
+          subst (λ p. PositionStands line place (place + length bytes) p) (sym put.4)
+          (subst (λ bs. PositionStands line place (place + length bs) (relative_of put.0 put.1 put.2)) (sym put.5)
+          (beside_text_stands line place rest ends put.0 put.1 put.2 (beside_named reading.rounds field put.0 put.1 put.2 put.3) put.3.written.0.in_range (at ∙ ap (λ bs. bs ++ rest) put.5)))
 
   at_stands : (at : ℕ) (position : PositionExpression) (bytes : List ℕ) (place : ℕ) (rest : List ℕ) → PutsPlace reading fields (places.At at) (at_point position) bytes → drop place line ≡ bytes ++ (32 ∷ rest)
       → LocationStands line place (place + length bytes) (at_point position)

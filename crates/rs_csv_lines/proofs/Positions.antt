@@ -1,5 +1,5 @@
 -- The text that is put for a position says it wherever it stands in a line.
-use Rattle.std.proofs.Common.{◌≡◌, ◌∙◌, ℕ, ◌+◌, true, List, [], ◌∷◌, ◌++◌, length, drop, map, Some, refl, sym, ap, subst, append_assoc, length-append, arith}
+use Rattle.std.proofs.Common.{◌≡◌, ◌∙◌, ℕ, ◌+◌, Bool, true, List, [], ◌∷◌, ◌++◌, length, drop, map, Some, refl, sym, ap, subst, append_assoc, length-append, arith}
 use Rattle.std.specs.Prelude.{codes}
 use Rattle.rs_grammar.specs.declared.kind.TokenKind.{TokenKind}
 use Rattle.rs_grammar.specs.declared.kind.TokenKind.TheVariants as kinds
@@ -11,17 +11,20 @@ use Rattle.rs_lexer.proofs.CutLaws.{cut_inside}
 use Rattle.rs_measure.specs.Measure.{IsMeasure, SaysMeasure, measure_text}
 use Rattle.rs_measure.proofs.MeasureText.{says_measure_text}
 use Rattle.rs_measure.specs.Part.{SaysPart}
-use Rattle.rs_methods.specs.Position.{PositionExpression, absolute, beyond, before}
+use Rattle.rs_methods.specs.Position.{PositionExpression, absolute, beyond, before, expression_text, relative_of}
+use Rattle.rs_methods.specs.declared.position.Sign.{Sign}
+use Rattle.rs_methods.specs.declared.position.Sign.TheVariants.{Plus, Minus}
 use Rattle.rs_syntax.specs.declared.written.WrittenPosition.{WrittenPosition}
 use Rattle.rs_syntax.specs.declared.written.WrittenPosition.TheVariants as written_positions
 use Rattle.rs_syntax.specs.Written.{mark, told, has_text, lexemes_of, position_lexemes, AreToldOf, SaysPosition}
 use Rattle.rs_syntax.proofs.VerdictLaws.{told_of}
-use Rattle.rs_csv_lines.specs.Fields.{SpellsPosition}
+use Rattle.rs_csv_lines.specs.Fields.{SpellsPosition, WritesBeside}
 use Rattle.rs_csv_lines.specs.Texts.{position_text}
 use Rattle.rs_csv_lines.proofs.Cuts.{Stops, Ends, stops, token_here, text_here, after_here, cut_here, at_sign_kind, at_sign_stops, plus_kind, plus_stops, minus_kind, minus_stops, percent_kind, percent_stops, plus, minus, percent}
 use Rattle.rs_csv_lines.proofs.Lexemes.{lexeme_kind, kinds_spelled, have_texts, told_piece, flat, flat_told}
 use Rattle.rs_csv_lines.proofs.NumberTexts.{printed_measure}
 use Rattle.rs_csv_lines.proofs.Readings.{before_others}
+use Rattle.rs_csv_lines.proofs.Spelled.{referent_name}
 
 -- The tokens of a line from one place up to another are a position: however the line is cut from there on, its cut has
 -- them before.
@@ -38,6 +41,24 @@ pub record PositionStands (line : List ℕ) (first last : ℕ) (position : Posit
 pub told_in : (field : List ℕ) (written : WrittenPosition) (position : PositionExpression) → SpellsPosition field written position → AreToldOf field (position_lexemes written)
 told_in field written position spells = subst (AreToldOf field) spells.spelled (told_of field spells.tokens (cut_inside field spells.cut))
 
+-- a text that is a referent is one of its name
+pub referent_token : (text : List ℕ) (written : WrittenPosition) (referent : Token) (position : PositionExpression) → SpellsPosition text written position → written ≡ written_positions.Referent referent
+    → IsTokenOf text referent × (referent.kind ≡ kinds.Name)
+referent_token text written referent position spells is =
+    (told_in text (written_positions.Referent referent) position (subst (λ w. SpellsPosition text w position) is spells)).1.0
+
+pub spells_referent : (text name : List ℕ) (written : WrittenPosition) (referent : Token) (position : PositionExpression) → SpellsPosition text written position → written ≡ written_positions.Referent referent
+    → name ≡ token_text text referent → SpellsPosition text (written_positions.Referent referent) (beyond name 0)
+spells_referent text name written referent position spells is named =
+    let whole = subst (λ w. SpellsPosition text w position) is spells in
+    subst (SpellsPosition text (written_positions.Referent referent)) (whole.says ∙ ap (λ n. beyond n 0) (sym named)) whole
+
+-- the name of the referent that a field begins with is one token
+pub beside_named : (rounds : Bool) (field name : List ℕ) (sign : Sign) (n : ℕ) → WritesBeside rounds field name sign n → token_kind name ≡ Some kinds.Name
+beside_named rounds field name sign n writes =
+    let told_name = (told_in writes.front (written_positions.Referent writes.referent) (beyond name 0) writes.named).1.0 in
+    ap token_kind (referent_name writes.front name writes.referent writes.named) ∙ told_name.0.kind ∙ ap (λ k. Some k) told_name.1
+
 -- the printed text of a measure says it
 module _ (line : List ℕ) (place : ℕ) (rest : List ℕ) (ends : Ends rest) where
   pub measure_text_stands : (n : ℕ) → IsMeasure n → drop place line ≡ measure_text n ++ rest → PositionStands line place (place + length (measure_text n)) (absolute n)
@@ -53,6 +74,86 @@ module _ (line : List ℕ) (place : ℕ) (rest : List ℕ) (ends : Ends rest) wh
         written = written_positions.Measure here;
         spelled = refl;
         says = (n, subst (λ t. SaysMeasure t n) (sym (text_here line place (measure_text n) rest kinds.Decimal at)) (says_measure_text n few), refl);
+      }
+
+-- ---- `@`, a name, a sign and a measure
+
+abbrev name_token : ℕ → List ℕ → Token
+name_token place name = token_here (place + 1) name kinds.Name
+
+abbrev sign_token : ℕ → ℕ → TokenKind → List ℕ → Token
+sign_token place sign sign_kind name = token_here (place + 1 + length name) (sign ∷ []) sign_kind
+
+abbrev measure_token : ℕ → List ℕ → List ℕ → TokenKind → Token
+measure_token place name number kind = token_here (place + 1 + length name + 1) number kind
+
+abbrev signed_tokens : ℕ → ℕ → TokenKind → List ℕ → List ℕ → TokenKind → List Token
+signed_tokens place sign sign_kind name number kind =
+    token_here place (codes "@") kinds.AtSign ∷ name_token place name ∷ sign_token place sign sign_kind name ∷ measure_token place name number kind ∷ []
+
+signed_shallow : (sign_kind kind : TokenKind) (others : List TokenKind) → ((more : List TokenKind) → is_shallow 0 more ≡ true → is_shallow 0 (sign_kind ∷ more) ≡ true)
+    → has_text kind ≡ true → is_shallow 0 others ≡ true → is_shallow 0 (kinds.AtSign ∷ kinds.Name ∷ sign_kind ∷ kind ∷ others) ≡ true
+signed_shallow sign_kind kind others signs has shallow =
+    flat kinds.AtSign 0 (kinds.Name ∷ sign_kind ∷ kind ∷ others) refl (omega arith)
+    (flat kinds.Name 0 (sign_kind ∷ kind ∷ others) refl (omega arith)
+    (signs (kind ∷ others) (flat_told kind 0 others has (omega arith) shallow)))
+
+module _ (line : List ℕ) (place : ℕ) (rest : List ℕ) (ends : Ends rest) where
+  record SignedStands (sign : ℕ) (sign_kind : TokenKind) (name number : List ℕ) (kind : TokenKind) : Type 0 where
+    cut : (tokens : List Token) → AreTokensFrom line (place + length (codes "@" ++ name ++ (sign ∷ []) ++ number)) tokens → AreTokensFrom line place (signed_tokens place sign sign_kind name number kind ++ tokens)
+    named : token_text line (name_token place name) ≡ name
+    measured : token_text line (measure_token place name number kind) ≡ number
+
+  signed_stands : (sign : ℕ) (sign_kind : TokenKind) (name number : List ℕ) (kind : TokenKind) → token_kind name ≡ Some kinds.Name → token_kind number ≡ Some kind
+      → token_kind (sign ∷ []) ≡ Some sign_kind → ((more : List ℕ) → Stops (sign ∷ []) more) → Ends (sign ∷ [])
+      → drop place line ≡ (codes "@" ++ name ++ (sign ∷ []) ++ number) ++ rest → SignedStands sign sign_kind name number kind
+  signed_stands sign sign_kind name number kind named is sign_is sign_stops separates at =
+      let whole : drop place line ≡ codes "@" ++ (name ++ (sign ∷ (number ++ rest))) =
+      at ∙ append_assoc (codes "@" ++ name ++ (sign ∷ [])) number rest ∙ append_assoc (codes "@" ++ name) (sign ∷ []) (number ++ rest) in
+      let second : drop (place + 1) line ≡ name ++ (sign ∷ (number ++ rest)) = after_here line place (codes "@") (name ++ (sign ∷ (number ++ rest))) whole in
+      let third : drop (place + 1 + length name) line ≡ (sign ∷ []) ++ (number ++ rest) = after_here line (place + 1) name (sign ∷ (number ++ rest)) second in
+      let fourth : drop (place + 1 + length name + 1) line ≡ number ++ rest = after_here line (place + 1 + length name) (sign ∷ []) (number ++ rest) third in
+      let bytes = codes "@" ++ name ++ (sign ∷ []) ++ number in
+      let end : place + 1 + length name + 1 + length number ≡ place + length bytes =
+      omega (arith, length-append (codes "@" ++ name ++ (sign ∷ [])) number, length-append (codes "@" ++ name) (sign ∷ [])) in
+      record {
+        cut = λ tokens cut.
+            cut_here line place (codes "@") (name ++ (sign ∷ (number ++ rest))) kinds.AtSign whole at_sign_kind (at_sign_stops (name ++ (sign ∷ (number ++ rest)))) _
+            (cut_here line (place + 1) name (sign ∷ (number ++ rest)) kinds.Name second named (stops name (sign ∷ (number ++ rest)) kinds.Name named separates) _
+            (cut_here line (place + 1 + length name) (sign ∷ []) (number ++ rest) sign_kind third sign_is (sign_stops (number ++ rest)) _
+            (cut_here line (place + 1 + length name + 1) number rest kind fourth is (stops number rest kind is ends) tokens
+            (subst (λ n. AreTokensFrom line n tokens) (sym end) cut))));
+        named = text_here line (place + 1) name (sign ∷ (number ++ rest)) kinds.Name second;
+        measured = text_here line (place + 1 + length name + 1) number rest kind fourth;
+      }
+
+  -- the printed text of a measure beyond a referent or before it says it
+  pub beside_text_stands : (name : List ℕ) (sign : Sign) (n : ℕ) → token_kind name ≡ Some kinds.Name → IsMeasure n → drop place line ≡ expression_text (relative_of name sign n) ++ rest
+      → PositionStands line place (place + length (expression_text (relative_of name sign n))) (relative_of name sign n)
+  unfolding rules
+  beside_text_stands name Plus n named few at =
+      let number = measure_text n in
+      let parts = signed_stands 43 kinds.PlusSign name number kinds.Decimal named (printed_measure n few) plus_kind plus_stops plus at in
+      record {
+        tokens = signed_tokens place 43 kinds.PlusSign name number kinds.Decimal;
+        cut = parts.cut;
+        derived = λ others. this (this (this (part (that (this nothing)) nothing)));
+        shallow = λ others shallow. signed_shallow kinds.PlusSign kinds.Decimal others (λ more s. flat kinds.PlusSign 0 more refl (omega arith) s) refl shallow;
+        written = written_positions.Beyond (name_token place name) (measure_token place name number kinds.Decimal);
+        spelled = refl;
+        says = (n, subst (λ t. SaysMeasure t n) (sym parts.measured) (says_measure_text n few), ap (λ t. beyond t n) (sym parts.named));
+      }
+  beside_text_stands name Minus n named few at =
+      let number = measure_text n in
+      let parts = signed_stands 45 kinds.MinusSign name number kinds.Decimal named (printed_measure n few) minus_kind minus_stops minus at in
+      record {
+        tokens = signed_tokens place 45 kinds.MinusSign name number kinds.Decimal;
+        cut = parts.cut;
+        derived = λ others. this (this (that (this (part (that (this nothing)) nothing))));
+        shallow = λ others shallow. signed_shallow kinds.MinusSign kinds.Decimal others (λ more s. flat kinds.MinusSign 0 more refl (omega arith) s) refl shallow;
+        written = written_positions.Before (name_token place name) (measure_token place name number kinds.Decimal);
+        spelled = refl;
+        says = (n, subst (λ t. SaysMeasure t n) (sym parts.measured) (says_measure_text n few), ap (λ t. before t n) (sym parts.named));
       }
 
 module _ (line : List ℕ) (place : ℕ) (field rest : List ℕ) (ends : Ends rest) where
@@ -125,73 +226,24 @@ module _ (line : List ℕ) (place : ℕ) (field rest : List ℕ) (ends : Ends re
         says = spells.says ∙ ap (λ n. beyond n 0) (sym same);
       }
 
-  -- `@`, a name, a sign and a measure
-  abbrev name_token : Token → Token
-  name_token name = token_here (place + 1) (token_text field name) kinds.Name
-
-  abbrev sign_token : ℕ → TokenKind → Token → Token
-  sign_token sign sign_kind name = token_here (place + 1 + length (token_text field name)) (sign ∷ []) sign_kind
-
-  abbrev measure_token : Token → Token → Token
-  measure_token name measure = token_here (place + 1 + length (token_text field name) + 1) (token_text field measure) measure.kind
-
-  abbrev signed_tokens : ℕ → TokenKind → Token → Token → List Token
-  signed_tokens sign sign_kind name measure = token_here place (codes "@") kinds.AtSign ∷ name_token name ∷ sign_token sign sign_kind name ∷ measure_token name measure ∷ []
-
-  record SignedStands (sign : ℕ) (sign_kind : TokenKind) (name measure : Token) : Type 0 where
-    cut : (tokens : List Token) → AreTokensFrom line (place + length (codes "@" ++ token_text field name ++ (sign ∷ []) ++ token_text field measure)) tokens
-        → AreTokensFrom line place (signed_tokens sign sign_kind name measure ++ tokens)
-    named : token_text line (name_token name) ≡ token_text field name
-    measured : token_text line (measure_token name measure) ≡ token_text field measure
-
-  signed_stands : (sign : ℕ) (sign_kind : TokenKind) (name measure : Token) → IsTokenOf field name × (name.kind ≡ kinds.Name) → IsTokenOf field measure
-      → token_kind (sign ∷ []) ≡ Some sign_kind → ((more : List ℕ) → Stops (sign ∷ []) more) → Ends (sign ∷ [])
-      → drop place line ≡ (codes "@" ++ token_text field name ++ (sign ∷ []) ++ token_text field measure) ++ rest → SignedStands sign sign_kind name measure
-  signed_stands sign sign_kind name measure told_name is sign_is sign_stops separates at =
-      let text = token_text field name in
-      let number = token_text field measure in
-      let named : token_kind text ≡ Some kinds.Name = told_name.0.kind ∙ ap (λ k. Some k) told_name.1 in
-      let whole : drop place line ≡ codes "@" ++ (text ++ (sign ∷ (number ++ rest))) =
-      at ∙ append_assoc (codes "@" ++ text ++ (sign ∷ [])) number rest ∙ append_assoc (codes "@" ++ text) (sign ∷ []) (number ++ rest) in
-      let second : drop (place + 1) line ≡ text ++ (sign ∷ (number ++ rest)) = after_here line place (codes "@") (text ++ (sign ∷ (number ++ rest))) whole in
-      let third : drop (place + 1 + length text) line ≡ (sign ∷ []) ++ (number ++ rest) = after_here line (place + 1) text (sign ∷ (number ++ rest)) second in
-      let fourth : drop (place + 1 + length text + 1) line ≡ number ++ rest = after_here line (place + 1 + length text) (sign ∷ []) (number ++ rest) third in
-      let bytes = codes "@" ++ text ++ (sign ∷ []) ++ number in
-      let end : place + 1 + length text + 1 + length number ≡ place + length bytes =
-      omega (arith, length-append (codes "@" ++ text ++ (sign ∷ [])) number, length-append (codes "@" ++ text) (sign ∷ [])) in
-      record {
-        cut = λ tokens cut.
-            cut_here line place (codes "@") (text ++ (sign ∷ (number ++ rest))) kinds.AtSign whole at_sign_kind (at_sign_stops (text ++ (sign ∷ (number ++ rest)))) _
-            (cut_here line (place + 1) text (sign ∷ (number ++ rest)) kinds.Name second named (stops text (sign ∷ (number ++ rest)) kinds.Name named separates) _
-            (cut_here line (place + 1 + length text) (sign ∷ []) (number ++ rest) sign_kind third sign_is (sign_stops (number ++ rest)) _
-            (cut_here line (place + 1 + length text + 1) number rest measure.kind fourth is.kind (stops number rest measure.kind is.kind ends) tokens
-            (subst (λ n. AreTokensFrom line n tokens) (sym end) cut))));
-        named = text_here line (place + 1) text (sign ∷ (number ++ rest)) kinds.Name second;
-        measured = text_here line (place + 1 + length text + 1) number rest measure.kind fourth;
-      }
-
-  signed_shallow : (sign_kind : TokenKind) (measure : Token) (others : List TokenKind) → ((more : List TokenKind) → is_shallow 0 more ≡ true → is_shallow 0 (sign_kind ∷ more) ≡ true)
-      → has_text measure.kind ≡ true → is_shallow 0 others ≡ true → is_shallow 0 (kinds.AtSign ∷ kinds.Name ∷ sign_kind ∷ measure.kind ∷ others) ≡ true
-  signed_shallow sign_kind measure others signs has shallow =
-      flat kinds.AtSign 0 (kinds.Name ∷ sign_kind ∷ measure.kind ∷ others) refl (omega arith)
-      (flat kinds.Name 0 (sign_kind ∷ measure.kind ∷ others) refl (omega arith)
-      (signs (measure.kind ∷ others) (flat_told measure.kind 0 others has (omega arith) shallow)))
-
   beyond_stands : (name measure : Token) (position : PositionExpression) → SpellsPosition field (written_positions.Beyond name measure) position
       → drop place line ≡ position_text field (written_positions.Beyond name measure) ++ rest
       → PositionStands line place (place + length (position_text field (written_positions.Beyond name measure))) position
   beyond_stands name measure position spells at =
       let told_all = told_in field (written_positions.Beyond name measure) position spells in
       let has : has_text measure.kind ≡ true = (have_texts spells.tokens (position_lexemes (written_positions.Beyond name measure)) spells.spelled).1.0 in
-      let parts = signed_stands 43 kinds.PlusSign name measure told_all.1.0 told_all.1.1.1.0.0 plus_kind plus_stops plus at in
+      let named : token_kind (token_text field name) ≡ Some kinds.Name = told_all.1.0.0.kind ∙ ap (λ k. Some k) told_all.1.0.1 in
+      let parts = signed_stands line place rest ends 43 kinds.PlusSign (token_text field name) (token_text field measure) measure.kind named told_all.1.1.1.0.0.kind plus_kind plus_stops plus at in
+      let name_here = name_token place (token_text field name) in
+      let measure_here = measure_token place (token_text field name) (token_text field measure) measure.kind in
       let says = spells.says in
       record {
-        tokens = signed_tokens 43 kinds.PlusSign name measure;
+        tokens = signed_tokens place 43 kinds.PlusSign (token_text field name) (token_text field measure) measure.kind;
         cut = parts.cut;
         derived = derived_as (written_positions.Beyond name measure) position (kinds.AtSign ∷ kinds.Name ∷ kinds.PlusSign ∷ measure.kind ∷ []) spells refl;
-        shallow = λ others shallow. signed_shallow kinds.PlusSign measure others (λ more s. flat kinds.PlusSign 0 more refl (omega arith) s) has shallow;
-        written = written_positions.Beyond (name_token name) (measure_token name measure);
-        spelled = ap (λ lexeme. mark kinds.AtSign ∷ told kinds.Name (name_token name) ∷ mark kinds.PlusSign ∷ lexeme ∷ []) (told_piece (measure_token name measure) has);
+        shallow = λ others shallow. signed_shallow kinds.PlusSign measure.kind others (λ more s. flat kinds.PlusSign 0 more refl (omega arith) s) has shallow;
+        written = written_positions.Beyond name_here measure_here;
+        spelled = ap (λ lexeme. mark kinds.AtSign ∷ told kinds.Name name_here ∷ mark kinds.PlusSign ∷ lexeme ∷ []) (told_piece measure_here has);
         says = (says.0, subst (λ t. SaysMeasure t says.0) (sym parts.measured) says.1, says.2 ∙ ap (λ n. beyond n says.0) (sym parts.named));
       }
 
@@ -201,15 +253,18 @@ module _ (line : List ℕ) (place : ℕ) (field rest : List ℕ) (ends : Ends re
   before_stands name measure position spells at =
       let told_all = told_in field (written_positions.Before name measure) position spells in
       let has : has_text measure.kind ≡ true = (have_texts spells.tokens (position_lexemes (written_positions.Before name measure)) spells.spelled).1.0 in
-      let parts = signed_stands 45 kinds.MinusSign name measure told_all.1.0 told_all.1.1.1.0.0 minus_kind minus_stops minus at in
+      let named : token_kind (token_text field name) ≡ Some kinds.Name = told_all.1.0.0.kind ∙ ap (λ k. Some k) told_all.1.0.1 in
+      let parts = signed_stands line place rest ends 45 kinds.MinusSign (token_text field name) (token_text field measure) measure.kind named told_all.1.1.1.0.0.kind minus_kind minus_stops minus at in
+      let name_here = name_token place (token_text field name) in
+      let measure_here = measure_token place (token_text field name) (token_text field measure) measure.kind in
       let says = spells.says in
       record {
-        tokens = signed_tokens 45 kinds.MinusSign name measure;
+        tokens = signed_tokens place 45 kinds.MinusSign (token_text field name) (token_text field measure) measure.kind;
         cut = parts.cut;
         derived = derived_as (written_positions.Before name measure) position (kinds.AtSign ∷ kinds.Name ∷ kinds.MinusSign ∷ measure.kind ∷ []) spells refl;
-        shallow = λ others shallow. signed_shallow kinds.MinusSign measure others (λ more s. flat kinds.MinusSign 0 more refl (omega arith) s) has shallow;
-        written = written_positions.Before (name_token name) (measure_token name measure);
-        spelled = ap (λ lexeme. mark kinds.AtSign ∷ told kinds.Name (name_token name) ∷ mark kinds.MinusSign ∷ lexeme ∷ []) (told_piece (measure_token name measure) has);
+        shallow = λ others shallow. signed_shallow kinds.MinusSign measure.kind others (λ more s. flat kinds.MinusSign 0 more refl (omega arith) s) has shallow;
+        written = written_positions.Before name_here measure_here;
+        spelled = ap (λ lexeme. mark kinds.AtSign ∷ told kinds.Name name_here ∷ mark kinds.MinusSign ∷ lexeme ∷ []) (told_piece measure_here has);
         says = (says.0, subst (λ t. SaysMeasure t says.0) (sym parts.measured) says.1, says.2 ∙ ap (λ n. before n says.0) (sym parts.named));
       }
 

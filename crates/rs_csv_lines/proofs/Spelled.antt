@@ -9,9 +9,10 @@ use Rattle.rs_grammar.specs.Reading.{Runs}
 use Rattle.rs_lexer.specs.declared.token.Token.{Token}
 use Rattle.rs_lexer.specs.Lexis.{kinds_of, token_text, IsTokenOf, AreTokensFrom}
 use Rattle.rs_lexer.proofs.CutLaws.{cut_inside}
-use Rattle.rs_methods.specs.Position.{PositionExpression}
+use Rattle.rs_methods.specs.Position.{PositionExpression, beyond}
 use Rattle.rs_syntax.specs.declared.written.WrittenValue.TheVariants as written_values
 use Rattle.rs_syntax.specs.declared.written.WrittenPosition.{WrittenPosition}
+use Rattle.rs_syntax.specs.declared.written.WrittenPosition.TheVariants as written_positions
 use Rattle.rs_syntax.specs.Written.{Lexeme, lexemes_of, position_lexemes, value_lexemes, AreToldOf, SaysPosition}
 use Rattle.rs_syntax.proofs.VerdictLaws.{told_of}
 use Rattle.rs_csv_lines.specs.Fields.{SaysName, SpellsPosition}
@@ -48,6 +49,10 @@ no_kinds (token ∷ rest) none = absurd (omega arith)
 
 pub told_spelling : (text : List ℕ) (items : List Token) (lexemes : List Lexeme) → AreTokensFrom text 0 items → lexemes_of items ≡ lexemes → AreToldOf text lexemes
 told_spelling text items lexemes cut e = subst (AreToldOf text) e (told_of text items (cut_inside text cut))
+
+-- the name of a referent is that of its token
+pub referent_name : (text name : List ℕ) (referent : Token) → SpellsPosition text (written_positions.Referent referent) (beyond name 0) → name ≡ token_text text referent
+referent_name text name referent spells = let says : beyond name 0 ≡ beyond (token_text text referent) 0 = spells.says in cc
 
 pub number_token : (text : List ℕ) (is_negative : Bool) (digits : Token) → AreToldOf text (value_lexemes (written_values.Whole is_negative digits)) → IsTokenOf text digits
 number_token text true digits all = all.1.0.0

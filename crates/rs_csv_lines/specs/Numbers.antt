@@ -1,5 +1,6 @@
 -- Numbers as offices write them: `.5`, `1.`, `+1` and `1.1000` beside `1.1`.
-use Rattle.std.specs.Prelude.{◌≡◌, ℕ, ◌+◌, ◌*◌, ◌%◌, ◌^◌, ◌<◌, ◌≤◌, ◌⊎◌, Bool, true, false, List, [], ◌∷◌, ◌++◌, length, codes, Some}
+use Rattle.std.specs.Prelude.{◌≡◌, ℕ, ◌+◌, ◌*◌, ◌%◌, ◌^◌, ◌<◌, ◌≤◌, ◌==◌, ◌⊎◌, Bool, true, false, List, [], ◌∷◌, ◌++◌, length, codes, Some}
+use Rattle.std.specs.List.{list_any}
 use Rattle.rs_measure.specs.FixedPoint.{number_of_digits, AreDigits}
 use Rattle.rs_measure.specs.Measure.{IsMeasure}
 use Rattle.rs_csv_lines.specs.declared.numbers.Rest.{Rest}
@@ -76,6 +77,14 @@ pub record WritesPlain (rounds : Bool) (text : List ℕ) (thousandths : ℕ) : T
   pub written : WritesNumber text false whole decimals
   pub read : AreReadUnits rounds 3 whole decimals thousandths
   pub in_range : IsMeasure thousandths
+
+-- no byte of the text is a sign
+abbrev pub HasNoSign : List ℕ → Type 0
+HasNoSign text = (list_any (λ byte. byte == 43) text ≡ false) × (list_any (λ byte. byte == 45) text ≡ false)
+
+-- The same of a number that has no sign of its own.
+abbrev pub WritesUnsigned : Bool → List ℕ → ℕ → Type 0
+WritesUnsigned rounds text thousandths = WritesPlain rounds text thousandths × HasNoSign text
 
 -- The text is a number of stations, a plus sign, and what is beyond them, where a station has so many units.
 pub record WritesStations (rounds : Bool) (units : ℕ) (text : List ℕ) (thousandths : ℕ) : Type 0 where

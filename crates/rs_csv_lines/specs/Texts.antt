@@ -4,7 +4,8 @@ use Rattle.rs_lexer.specs.declared.token.Token.{Token}
 use Rattle.rs_lexer.specs.Lexis.{token_text}
 use Rattle.rs_measure.specs.FixedPoint.{number_of_digits}
 use Rattle.rs_measure.specs.Measure.{measure_text}
-use Rattle.rs_methods.specs.Position.{PositionExpression, absolute}
+use Rattle.rs_methods.specs.Position.{PositionExpression, absolute, relative_of, expression_text}
+use Rattle.rs_methods.specs.declared.position.Sign.{Sign}
 use Rattle.rs_value.specs.declared.column.ColumnType.{ColumnType}
 use Rattle.rs_value.specs.declared.column.ColumnType.TheVariants as types
 use Rattle.rs_value.specs.Row.{Datum, null, number, text}
@@ -15,7 +16,7 @@ use Rattle.rs_syntax.specs.Written.{signed}
 use Rattle.rs_csv_lines.specs.declared.plan.Measures.{Measures}
 use Rattle.rs_csv_lines.specs.declared.plan.Scale.{Scale}
 use Rattle.rs_csv_lines.specs.declared.plan.Scale.TheVariants as scales
-use Rattle.rs_csv_lines.specs.Fields.{content, SpellsPosition, SpellsNumber}
+use Rattle.rs_csv_lines.specs.Fields.{content, SpellsPosition, SpellsNumber, WritesBeside}
 use Rattle.rs_csv_lines.specs.Numbers.{WritesMeasure, WritesWhole}
 
 -- the digits of a session, one or two
@@ -30,10 +31,12 @@ position_text field (written_positions.Referent name) = codes "@" ++ token_text 
 position_text field (written_positions.Beyond name measure) = codes "@" ++ token_text field name ++ codes "+" ++ token_text field measure
 position_text field (written_positions.Before name measure) = codes "@" ++ token_text field name ++ codes "-" ++ token_text field measure
 
--- the text is put for a field that says the position: the tokens that spell it, or its measure with three decimals
+-- the text is put for a field that says the position: the tokens that spell it, or the position as it is printed, its measure with three decimals
 abbrev pub PutsPosition : Measures → List ℕ → PositionExpression → List ℕ → Type 0
 PutsPosition reading field position bytes = ((written : WrittenPosition) × SpellsPosition field written position × (bytes ≡ position_text field written))
-    ⊎ ((thousandths : ℕ) × WritesMeasure reading field thousandths × (position ≡ absolute thousandths) × (bytes ≡ measure_text thousandths))
+    ⊎ (((thousandths : ℕ) × WritesMeasure reading field thousandths × (position ≡ absolute thousandths) × (bytes ≡ measure_text thousandths))
+    ⊎ ((name : List ℕ) × (sign : Sign) × (thousandths : ℕ) × WritesBeside reading.rounds field name sign thousandths
+    × (position ≡ relative_of name sign thousandths) × (bytes ≡ expression_text (relative_of name sign thousandths))))
 
 -- the sign and the digits of a number
 abbrev pub signed_text : Bool → List ℕ → List ℕ

@@ -2,16 +2,16 @@
 //!
 //! Names, positions and numbers are read by the grammar that reads lines, so blanks may stand around them.
 
-ghost use Rattle.std.specs.Prelude.{◌≡◌, ◌∷◌, [], IfOk, IfSome, IsTrue};
+ghost use Rattle.std.specs.Prelude.{◌≡◌, ◌++◌, ◌∷◌, [], IfOk, IfSome, IsTrue};
 ghost use Rattle.csv.specs.Records.{fields_of};
 ghost use Rattle.rs_lexer.specs.Lexis.{AreTokensFrom};
-ghost use Rattle.rs_methods.specs.Position.{expression_of};
-ghost use Rattle.rs_csv_lines.specs.Fields.{content, HasText, SaysName, SpellsPosition, SpellsNumber};
+ghost use Rattle.rs_methods.specs.Position.{beyond, expression_of};
+ghost use Rattle.rs_csv_lines.specs.Fields.{content, sign_text, HasText, SaysName, SpellsPosition, SpellsNumber};
 ghost use Rattle.rs_value.specs.Values.{is_text};
 ghost use Rattle.rs_csv_lines.specs.Inserts.{Field};
 
 use crate::numbers::{
-    GREATEST_PERCENTAGE, MEASURE_PLACES, PART_DIGITS, PART_PLACES, count_digits, read_units,
+    GREATEST_PERCENTAGE, PART_DIGITS, PART_PLACES, are_zeros, count_digits, read_units,
     written_number,
 };
 use crate::plan::{Cause, Misfit};
@@ -20,7 +20,7 @@ use rs_descent::front::Stop;
 use rs_grammar::kind::TokenKind;
 use rs_lexer::{Token, front_token, tokens};
 use rs_meaning::meaning::{self, GREATEST_NUMBER};
-use rs_methods::{Name, Position};
+use rs_methods::{Name, Position, Sign};
 use rs_refusal::Refusal;
 use rs_syntax::written::{WrittenPosition, WrittenValue};
 use rs_value::as_text;
@@ -142,21 +142,23 @@ fn is_past_whole(text: &str) -> bool {
     if number.whole.len() <= PART_DIGITS {
         return true;
     }
-    match read_units(&number, 0, GREATEST_PERCENTAGE, false) {
+    let greatest = if are_zeros(number.decimals) {
+        GREATEST_PERCENTAGE
+    } else {
+        GREATEST_PERCENTAGE - 1
+    };
+    match read_units(&number, 0, greatest, false) {
         Err(Cause::PastGreatest) => true,
         _ => false,
     }
 }
 
-// Why a position of the grammar is refused: it has more decimals than its method allows, is above 100%, or has another number that it may not have.
+// Why a position of the grammar is refused: a percentage has too many decimals or is above 100, or it has another number that it may not have.
 fn position_cause(text: &str, written: WrittenPosition) -> Cause {
     let count = decimals_in(text);
     match written {
         WrittenPosition::Percentage(_) if count > PART_PLACES => Cause::Decimals(count),
         WrittenPosition::Percentage(_) if is_past_whole(text) => Cause::PastWhole,
-        WrittenPosition::Beyond(..) | WrittenPosition::Before(..) if count > MEASURE_PLACES => {
-            Cause::Decimals(count)
-        }
         _ => Cause::NotPosition,
     }
 }
@@ -193,6 +195,48 @@ pub fn position_in(
     }
     let tokens = field_tokens(alloc, text, place, Cause::NotPosition)?;
     position_of(text, tokens.as_slice(), place)
+}
+
+/// A text with a sign in it.
+#[derive(Clone, Copy)]
+pub struct SignedText<'a> {
+    /// What is before the sign.
+    pub front: &'a str,
+    /// The sign.
+    pub sign: Sign,
+    /// What is after it.
+    pub number: &'a str,
+}
+
+/// The text cut at its first plus sign, or at its first minus sign where it has none.
+pub fn cut_at_sign(text: &str) -> Option<SignedText<'_>>
+    ensures { IfSome result (λ cut. text.now ≡ cut.front.now ++ sign_text cut.sign ++ cut.number.now) }
+{
+    match text.split_once('+') {
+        Some((front, number)) => Some(SignedText {
+            front,
+            sign: Sign::Plus,
+            number,
+        }),
+        None => {
+            let (front, number) = text.split_once('-')?;
+            Some(SignedText {
+                front,
+                sign: Sign::Minus,
+                number,
+            })
+        }
+    }
+}
+
+/// The name of the referent that a text is.
+pub fn referent_in(alloc: Global, text: &str, place: usize) -> Result<Name, Misfit>
+    ensures { IfOk result (λ name. (referent : Token) × SpellsPosition text.now (WrittenPosition.Referent referent) (beyond name.bytes 0)) }
+{
+    match position_in(alloc, text, place)? {
+        (WrittenPosition::Referent(referent), _) => Ok(meaning::name(text, referent)),
+        _ => Err(Misfit::Field(place, Cause::NotPosition)),
+    }
 }
 
 // The number that tokens are: whether a minus sign stands before it, and its digits.

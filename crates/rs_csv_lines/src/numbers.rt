@@ -2,7 +2,7 @@
 
 ghost use Rattle.std.specs.Prelude.{◌≡◌, ◌↔◌, ◌⊎◌, ◌+◌, ◌*◌, ◌-◌, ◌^◌, ◌<◌, ◌≤◌, ◌++◌, ◌∷◌, [], ℕ, List, IfOk, IfSome, length, take, codes, true, false};
 ghost use Rattle.rs_measure.specs.FixedPoint.{number_from, number_of_digits, AreDigits};
-ghost use Rattle.rs_csv_lines.specs.Numbers.{AreBlanks, AreReadUnits, AreUnits, IsRest, IsRounded, IsSign, WritesMeasure, WritesNumber, WritesPlain, WritesStations, WritesWhole};
+ghost use Rattle.rs_csv_lines.specs.Numbers.{AreBlanks, AreReadUnits, AreUnits, IsRest, IsRounded, IsSign, WritesMeasure, WritesNumber, WritesPlain, WritesStations, WritesUnsigned, WritesWhole};
 
 use crate::plan::{Cause, Measures, Scale};
 use rs_measure::{GREATEST_MEASURE, Measure};
@@ -139,8 +139,8 @@ fn read_more(number: u64, digits: &[u8], greatest: u64) -> Option<u64>
     Some(more)
 }
 
-// Whether all digits are zeros.
-fn are_zeros(digits: &[u8]) -> bool
+/// Whether all digits are zeros.
+pub fn are_zeros(digits: &[u8]) -> bool
     requires { AreDigits digits.now }
     ensures { result ≡ true ↔ (number_of_digits digits.now ≡ 0) }
 {
@@ -284,6 +284,16 @@ fn plain_measure(text: &[u8], rounds: bool) -> Result<(Measure, bool), Cause>
     let units = read_units(&number, MEASURE_PLACES, u64::from(GREATEST_MEASURE), rounds)?;
     let measure = Measure::from_thousandths(units.count as u32);
     Ok((measure, units.is_rounded))
+}
+
+/// The measure that a text is written as in a number without a sign, and whether it was rounded.
+pub fn unsigned_measure(text: &[u8], rounds: bool) -> Result<(Measure, bool), Cause>
+    ensures { IfOk result (λ found. WritesUnsigned rounds text.now found.0) }
+{
+    if text.contains(&b'+') || text.contains(&b'-') {
+        return Err(Cause::NotPosition);
+    }
+    plain_measure(text, rounds)
 }
 
 // How many stations a text says.

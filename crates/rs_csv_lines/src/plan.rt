@@ -154,7 +154,7 @@ pub enum Cause {
     Decimal,
     /// The number is past 10^12.
     LargeNumber,
-    /// The measure has so many decimals, the last of which is no zero, or a position by another method has so many.
+    /// The measure has so many decimals, the last of which is no zero, or a percentage has so many.
     Decimals(usize),
     /// The measure is below 0.
     BelowZero,

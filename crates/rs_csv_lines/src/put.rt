@@ -7,25 +7,28 @@
 ghost use Rattle.std.specs.Prelude.{◌≡◌, ◌++◌, ◌<◌, OnOk, IfOk, ℕ, Bool, List, string_bytes, decimal, false, true};
 ghost use Rattle.csv.specs.Records.{fields_of};
 ghost use Rattle.rs_measure.specs.Measure.{measure_text};
-ghost use Rattle.rs_methods.specs.Position.{absolute, expression_of};
+ghost use Rattle.rs_methods.specs.Position.{absolute, expression_of, expression_text, relative_of};
 ghost use Rattle.rs_value.specs.Row.{Datum};
 ghost use Rattle.rs_value.specs.Row as rows;
 ghost use Rattle.rs_value.specs.Text.{datum_text};
 ghost use Rattle.rs_syntax.specs.Written.{position_lexemes, AreToldOf};
-ghost use Rattle.rs_csv_lines.specs.Fields.{HasText};
+ghost use Rattle.rs_csv_lines.specs.Fields.{sign_text, HasText, WritesBeside};
 ghost use Rattle.rs_csv_lines.specs.Numbers.{WritesMeasure, WritesWhole};
 ghost use Rattle.rs_csv_lines.specs.Texts.{session_text, position_text, signed_text, PutsNumber, PutsDatum};
 ghost use Rattle.rs_csv_lines.specs.Inserts.{Given, TellsRoute, PutsPositionAt};
 
-use crate::fields::{FieldText, content, field_text, name_in, number_in, position_in, text_in};
+use crate::fields::{
+    FieldText, SignedText, content, cut_at_sign, field_text, name_in, number_in, position_in,
+    referent_in, text_in,
+};
 use crate::names::made_name;
-use crate::numbers::{written_measure, written_whole};
+use crate::numbers::{unsigned_measure, written_measure, written_whole};
 use crate::plan::{Cause, Column, Measures, Misfit, Scale, Source};
 use csv::ByteRecord;
 use itoa::Buffer;
 use rs_meaning::meaning::text;
-use rs_measure::write_measure;
-use rs_methods::{Name, Position};
+use rs_measure::{Measure, write_measure};
+use rs_methods::{Name, Position, Sign};
 use rs_syntax::written::WrittenPosition;
 use rs_value::{ColumnType, push_doubled};
 use std::alloc::{AllocError, Global};
@@ -78,6 +81,31 @@ fn put_written(line: &mut String, field: &str, written: WrittenPosition) -> Resu
             line.push_str(text(field, measure))
         }
     }
+}
+
+// A sign as a line has it.
+fn sign_text(sign: Sign) -> &'static str
+    ensures { result.now ≡ sign_text sign }
+{
+    match sign {
+        Sign::Plus => "+",
+        Sign::Minus => "-",
+    }
+}
+
+// Puts a measure beyond a referent or before it.
+fn put_relative(
+    line: &mut String,
+    name: Name,
+    sign: Sign,
+    measure: Measure,
+) -> Result<(), AllocError>
+    ensures { OnOk result (string_bytes line.new ≡ string_bytes line.old ++ expression_text (relative_of name.bytes sign measure)) }
+{
+    line.push_str("@")?;
+    line.push_str(name.as_str())?;
+    line.push_str(sign_text(sign))?;
+    line.push_str(write_measure(measure).as_str())
 }
 
 // Puts the sign and the digits of a number.
@@ -164,6 +192,29 @@ fn put_measure(
     }
 }
 
+// Puts a measure beyond a referent or before it as an office wrote it, and gives it, and whether it was rounded.
+fn put_beside(
+    alloc: Global,
+    cut: SignedText<'_>,
+    place: usize,
+    rounds: bool,
+    line: &mut String,
+) -> Result<(Position, bool), Misfit>
+    ensures { IfOk result (λ found. (name : List ℕ) × (thousandths : ℕ)
+        × WritesBeside rounds (cut.entry.front.now ++ sign_text cut.entry.sign ++ cut.entry.number.now) name cut.entry.sign thousandths
+        × (expression_of found.0 ≡ relative_of name cut.entry.sign thousandths)
+        × (string_bytes line.new ≡ string_bytes line.old ++ expression_text (relative_of name cut.entry.sign thousandths))) }
+{
+    let name = referent_in(alloc, cut.front, place)?;
+    match unsigned_measure(cut.number.as_bytes(), rounds) {
+        Ok((measure, is_rounded)) => {
+            put_relative(line, name, cut.sign, measure)?;
+            Ok((Position::Relative(name, cut.sign, measure), is_rounded))
+        }
+        Err(cause) => Err(Misfit::Field(place, cause)),
+    }
+}
+
 /// Puts the position that a field says, and gives it, and whether it was rounded.
 pub fn put_position(
     alloc: Global,
@@ -182,7 +233,16 @@ pub fn put_position(
             Ok((position, false))
         }
         Err(Misfit::OutOfMemory) => Err(Misfit::OutOfMemory),
-        Err(refused) => put_measure(field.text, place, refused, measures, line),
+        Err(refused) => match cut_at_sign(field.text) {
+            Some(cut) if cut.front.contains('@') => put_beside(
+                alloc,
+                cut,
+                place,
+                measures.rounds,
+                line,
+            ),
+            _ => put_measure(field.text, place, refused, measures, line),
+        },
     }
 }
 
