@@ -210,6 +210,7 @@ def more_fields(fields, width):
 KINDS = [
     "no such field", "not text", "not a name", "not a position", "not a number", "not a whole number", "past 10^12", "too many decimals", "below 0", "past 999999.999",
     "more than 100%", "line past 4096 bytes", "longer than 65536 bytes", "more fields than the header", "one name of two texts", "no measure met on the route",
+    "quote not closed",
 ]
 
 
@@ -242,6 +243,11 @@ class Told:
         self.records += 1
         for name, words in faults:
             self.meet(words, "roadseg: record %d, line %d%s: %s\n" % (number, line, ", " + name if name else "", words))
+
+    def leave_open(self, line):
+        """Tells of a quote that opens on this line and is not closed, where there is one. It is told after all records."""
+        if line:
+            self.meet("quote not closed", "roadseg: line %d: quote not closed\n" % line)
 
     def text(self):
         """All that is told."""
@@ -289,6 +295,19 @@ def records_of(text, separator=","):
         if fields:
             yield number, line, fields
             number += 1
+
+
+def open_quote(text, separator=","):
+    """The line on which a quote opens that is not closed, if there is one."""
+    line, opened, place = 1, None, "start"
+    for before, byte in zip("\0" + text, text):
+        if byte == '"' and place in ("start", "inside", "behind"):
+            opened = line if place == "start" else opened
+            place = "behind" if place == "inside" else "inside"
+        elif place != "inside":
+            place = "start" if byte in separator + "\n\r" else "plain"
+        line += byte == "\r" or byte == "\n" and before != "\r"
+    return opened if place == "inside" else None
 
 
 MEASURE = r"[0-9]{1,6}(\.[0-9]{1,3})?"
@@ -442,6 +461,14 @@ def check_fields():
         for end in (b"\n", b"\r", b"\r\n"):
             status, out, errors = run("csv", DEFINE, "--no-define", *words, data=long.replace(b"\n", end))
             expect("a long record with %r" % end, (status, out[-len(after):], errors), (1, after, told.text().encode()))
+    for data, line, record in (
+        (b'SR1,0,1,"a,1\n', 2, "year: no such field"), (b'SR1,0,1,"a","1', 2, None), (b'SR1,0,1,"a\nb",1\nSR1,0,1,c,"2', 4, "surface: a?b is not text"),
+        (b'SR1,0,1,a,1\r\nSR1,0,1,"a""b\r,""', 3, "surface: a\"b?,\" is not text"), (b'SR1,0,1,a,1\n"', 3, "route: an empty field is not a name"),
+    ):
+        status, _, errors = run("csv", DEFINE, "--no-define", data=head + data)
+        expect("the status with %r" % data, status, 1)
+        expect("an open quote in %r" % data, b"roadseg: line %d: quote not closed\n" % line in errors, True)
+        expect("its record in %r" % data, record is None or record.encode() in errors, True)
     mixed = head + b'SR1,0,1,"a\r\r\nb\n\r",1\r\r\n\n\r-,1,2,a,1\r-,1,2,a,1\r\n-,1,2,a,1\n'
     told = Told()
     told.leave_out(1, 2, [("surface", "a???b?? is not text")])
@@ -485,6 +512,7 @@ def check_quotes(rounds=3_000):
                 lines += made
             else:
                 told.leave_out(number, begins, made)
+        told.leave_open(open_quote(text, separator))
         told = told.text()
         words = [] if separator == "," else ["--separator", separator]
         status, out, errors = run("csv", NOTES, "--no-define", *words, data=text.encode())

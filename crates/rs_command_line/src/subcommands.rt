@@ -275,7 +275,7 @@ pub(crate) fn roadseg_command<'a>(alloc: Global) -> Result<Command<'a>, AllocErr
         .about(
             "Answers queries on routes and events by linear reference. A line is a session from 0 to 63 and a command, as: 0 DEFINE ROUTE SR12 FROM 0 TO 18.5, or: 0 SELECT WHERE(pavement, surface = 'gravel'). The page docs/LANGUAGE.md has them all",
         )
-        .version("0.10.0 (for rattle-kit-13f logic dac8208d650f15bf)")
+        .version("0.11.0 (for rattle-kit-13f logic dac8208d650f15bf)")
         .subcommand_required(true);
     with_subcommands(alloc, program, &SUBCOMMANDS)
 }

@@ -15,7 +15,7 @@ use Rattle.rs_csv.specs.declared.progress.Progress.{Progress}
 use Rattle.rs_csv.specs.declared.filter.Wanted.{Wanted}
 use Rattle.rs_csv.specs.declared.made.Made.{Made}
 use Rattle.rs_csv.specs.declared.routes.Extent.{Extent}
-use Rattle.rs_csv.specs.Output.{IsPlanOf, IsPlanned, Known, known_of, AreLines, nothing, definition_line, insert_line, left_out, too_long, GoesOn, Makes, MakesLines, IsMade, IsMadeIn, IsOutput, IsQuiet, held_lines}
+use Rattle.rs_csv.specs.Output.{AreRouted, IsPlanOf, IsPlanned, Known, known_of, AreLines, nothing, definition_line, insert_line, left_out, too_long, GoesOn, Makes, MakesLines, IsMade, IsMadeIn, IsOutput, IsQuiet, held_lines}
 use Rattle.rs_csv.specs.Routes.{DefineRoutes, HaveMet, IsMet, MeetsMore, Placed, no_route}
 use Rattle.rs_csv.specs.Texts.{IsOneText, KeepsTexts, text_of_name}
 
@@ -305,3 +305,19 @@ module _ (wanted : Wanted) (table : CommandTree) where
           lines = made.lines;
         },
       )
+
+  routed_known : (plan : Plan) (known now : Known) (records : List (List (List ℕ))) (bytes : List ℕ) (last : ℕ) → KnowledgeGrows known now → AreRouted wanted table plan known records bytes last → AreRouted wanted table plan now records bytes last
+  routed_known plan known now records bytes last grows routed = record {
+    events = routed.events;
+    routes = routed.routes;
+    others = routed.others;
+    whole = routed.whole;
+    defined = routed.defined;
+    none_defined = routed.none_defined;
+    lines = lines_known wanted.session table plan known now grows routed.lines;
+  }
+
+  -- the same output, whatever more is known
+  pub output_known : (known now : Known) (records : List (List (List ℕ))) (bytes : List ℕ) → KnowledgeGrows known now → IsOutput wanted table known records bytes → IsOutput wanted table now records bytes
+  output_known known now [] bytes grows output = λ plan. routed_known plan known now [] bytes 0 grows (output plan)
+  output_known known now (header ∷ records) bytes grows output = (output.0, output.1, output.2, routed_known output.0 known now records bytes output.1 grows output.3)

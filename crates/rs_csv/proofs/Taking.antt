@@ -13,7 +13,7 @@ use Rattle.rs_csv.specs.Cutting.{text_of}
 use Rattle.rs_csv.specs.Reading.{ReadsAll, nothing_read, one_more_batch}
 use Rattle.rs_csv.specs.Output.{AreTaken, IsMade, IsOutput, Known, known_of, Makes, TakesMore, WroteFront, WroteOf, held_lines}
 use Rattle.rs_csv.specs.Routes.{DefineRoutes, HaveMet, IsMet, Placed}
-use Rattle.rs_csv.proofs.Outputs.{KnowledgeGrows, Stays, grows_same, grows_told, known_told, made_known, made_long, output_none, output_plain, output_routed, stays_told}
+use Rattle.rs_csv.proofs.Outputs.{KnowledgeGrows, Stays, grows_same, grows_told, known_told, made_known, made_long, output_known, output_none, output_plain, output_routed, stays_told}
 
 -- lines after those that were sent, where none is held
 after_sent : (sent held bytes : List ℕ) → held ≡ [] → (sent ++ held) ++ bytes ≡ sent ++ bytes
@@ -231,6 +231,19 @@ module _ (wanted : Wanted) (table : CommandTree) where
     lines =
         subst (IsOutput wanted table (known_of progress.made) taken.records) (only_sent taken.sent (held_lines progress) progress.made.bytes.items (taken.none_held off) taken.none_waits)
         (output_plain wanted table (known_of progress.made) progress.made.number progress.made.extents progress.planned taken.records _ off taken.made);
+  }
+
+  -- something more was told
+  pub wrote_told : (told now : Bool) (raws : List (List ℕ)) (before after : Option (List ℕ)) → Stays told now → WroteOf wanted table told raws before after → WroteOf wanted table now raws before after
+  wrote_told told now raws before after stays wrote = record {
+    records = wrote.records;
+    read = wrote.read;
+    sent = wrote.sent;
+    put = wrote.put;
+    texts = wrote.texts;
+    lines =
+        output_known wanted table (record { told = told; texts = wrote.texts }) (record { told = now; texts = wrote.texts }) wrote.records wrote.sent
+        (record { told = stays; texts = λ name text is. is }) wrote.lines;
   }
 
   -- the lines that define the routes are sent, and then those that were held

@@ -47,6 +47,8 @@ pub struct Batch {
     lines: Lines,
     // Those that had ended where that record begins.
     begun_lines: Lines,
+    // The line on which the last field begins that has a quote before it.
+    quote_line: u64,
 }
 
 impl Batch {
@@ -64,6 +66,7 @@ impl Batch {
             is_long: false,
             lines: Lines::new(),
             begun_lines: Lines::new(),
+            quote_line: 1,
         })
     }
 
@@ -96,6 +99,23 @@ impl Batch {
         self.begun_lines
     }
 
+    /// The line on which a quote opens that is not closed so far, where there is one.
+    pub fn open_quote(&self) -> Option<u64> {
+        match self.place {
+            Place::Inside => Some(self.quote_line),
+            Place::Start | Place::Plain | Place::Behind => None,
+        }
+    }
+
+    // The line of the last quote that opens a field, with this byte.
+    fn quote_line_with(&self, byte: u8) -> u64 {
+        if self.place == Place::Start && byte == b'"' {
+            self.lines.next_line()
+        } else {
+            self.quote_line
+        }
+    }
+
     /// Takes the records away.
     pub fn clear(&mut self)
         ensures { (separator : ℕ) (whole : List ℕ) (begun : List ℕ) → IsBatchOf separator self.old whole begun → IsBetween self.old begun → IsBatchOf separator self.new [] begun }
@@ -112,6 +132,7 @@ impl Batch {
             push_marked(&mut self.text, self.place, byte)?;
         }
         self.length = self.length.saturating_add(1);
+        self.quote_line = self.quote_line_with(byte);
         self.place = self.place.after(self.separator, byte);
         self.lines = self.lines.after(byte);
         Ok(())

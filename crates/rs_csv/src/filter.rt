@@ -17,7 +17,7 @@ use crate::definition::{Definition, are_scales, is_number_column, read_definitio
 use crate::head::{is_mark, read_head};
 use crate::header::column_scales;
 use crate::held::write_rest;
-use crate::made::take_record;
+use crate::made::{Made, take_record};
 use crate::names_file::MadeNames;
 use crate::progress::{Progress, header_of, hold_made, leave_out_long, take_header, write_made};
 use crate::rejects::Rejecting;
@@ -463,12 +463,38 @@ impl Filter<'_> {
             return Err(Stop::OutOfMemory);
         };
         let result = self.read_pieces(&mut batch, input, output, errors, rejects);
+        self.progress.made.told.end_input(batch.open_quote());
         drop(batch);
         result
     }
 }
 
-// Writes what is held, and tells how many measures were rounded, where they are.
+// Tells of a quote that is not closed, and where something was told how much that was. Says whether something was told.
+fn tell_faults<E: Write>(told: bool, made: &mut Made, errors: &mut E) -> bool
+    ensures told { result ≡ false → told ≡ false }
+    ensures quiet { result ≡ false → Keeps (E.contents errors.old) (E.contents errors.new) }
+{
+    let is_open = made.told.tell_open_quote(errors);
+    if told || is_open {
+        made.told.summarize(errors);
+        return true;
+    }
+    false
+}
+
+// The same, and how many measures were rounded, where they are.
+fn tell_end<E: Write>(rounds: bool, told: bool, made: &mut Made, errors: &mut E) -> bool
+    ensures told { result ≡ false → told ≡ false }
+    ensures quiet { result ≡ false → rounds ≡ false → Keeps (E.contents errors.old) (E.contents errors.new) }
+{
+    let has_told = tell_faults(told, made, errors);
+    if rounds {
+        tell_rounded(errors, made.rounded);
+    }
+    has_told
+}
+
+// Writes what is held, and tells at the end what is to be told then.
 fn end_lines<W: Write, E: Write>(
     job: &Job<'_>,
     progress: &mut Progress,
@@ -480,16 +506,10 @@ fn end_lines<W: Write, E: Write>(
     ensures told { IfOk result (λ told. told ≡ false → progress.old.made.has_told ≡ false) }
     ensures quiet { result ≡ Ok false → job.now.wanted.rounds ≡ false → Keeps (E.contents errors.old) (E.contents errors.new) }
 {
-    let result = write_rest(job, progress, output, errors);
-    if let Ok(told) = result
-        && told
-    {
-        progress.made.told.summarize(errors);
+    match write_rest(job, progress, output, errors) {
+        Ok(told) => Ok(tell_end(job.wanted.rounds, told, &mut progress.made, errors)),
+        Err(stop) => Err(stop),
     }
-    if job.wanted.rounds && result.is_ok() {
-        tell_rounded(errors, progress.made.rounded);
-    }
-    result
 }
 
 // Whether the words name columns of numbers where these are wanted.

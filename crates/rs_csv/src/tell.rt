@@ -230,6 +230,13 @@ pub fn tell_record<E: Write>(errors: &mut E, spot: Spot, words: &[u8]) {
     let _ = put_parts(errors, &[b": ", words, b"\n"]);
 }
 
+/// Tells of a line of the input by words alone.
+pub fn tell_line<E: Write>(errors: &mut E, line: u64, words: &[u8]) {
+    let mut number = Buffer::new();
+    let digits = number.format(line).as_bytes();
+    let _ = put_parts(errors, &[b"roadseg: line ", digits, b": ", words, b"\n"]);
+}
+
 /// Tells how many there were of something, and where not all were told how many of them were.
 pub fn tell_count<E: Write>(errors: &mut E, words: &[u8], count: u64, told: u64) {
     let mut digits = Buffer::new();

@@ -1,8 +1,9 @@
 //! How many faults were met of each kind: the first ones are told, and the others counted.
 
-ghost use Rattle.std.specs.Prelude.{◌<◌};
+ghost use Rattle.std.specs.Prelude.{◌≡◌, ◌<◌, false};
+ghost use Rattle.std.specs.Io.KnownBytes.{Keeps};
 
-use crate::tell::{tell_count, tell_route};
+use crate::tell::{tell_count, tell_line, tell_route};
 use rs_csv_lines::{Cause, Misfit};
 use std::io::Write;
 
@@ -10,7 +11,7 @@ use std::io::Write;
 pub const TOLD: u64 = 20;
 
 /// How many kinds there are.
-const KINDS: usize = 16;
+const KINDS: usize = 17;
 
 /// A kind of fault.
 #[derive(Clone, Copy, PartialEq, Eq, Debug)]
@@ -47,6 +48,8 @@ pub enum Kind {
     TakenName,
     /// No measure was met on a route.
     NoMeasure,
+    /// The input ends within quotes.
+    OpenQuote,
 }
 
 /// Each kind, in the order of their counts.
@@ -67,6 +70,7 @@ const ALL: [Kind; KINDS] = [
     Kind::MoreFields,
     Kind::TakenName,
     Kind::NoMeasure,
+    Kind::OpenQuote,
 ];
 
 impl Kind {
@@ -98,7 +102,11 @@ impl Kind {
     /// Whether it is told with the name of a column.
     pub fn is_of_field(self) -> bool {
         match self {
-            Kind::LongLine | Kind::LongRecord | Kind::MoreFields | Kind::NoMeasure => false,
+            Kind::LongLine
+            | Kind::LongRecord
+            | Kind::MoreFields
+            | Kind::NoMeasure
+            | Kind::OpenQuote => false,
             _ => true,
         }
     }
@@ -124,6 +132,7 @@ impl Kind {
             Kind::MoreFields => 13,
             Kind::TakenName => 14,
             Kind::NoMeasure => 15,
+            Kind::OpenQuote => 16,
         }
     }
 
@@ -146,6 +155,7 @@ impl Kind {
             Kind::MoreFields => b"more fields than the header",
             Kind::TakenName => b"one name of two texts",
             Kind::NoMeasure => b"no measure met on the route",
+            Kind::OpenQuote => b"quote not closed",
         }
     }
 }
@@ -159,6 +169,8 @@ pub struct Told {
     counts: [u64; KINDS],
     // Whether the header of records that are left out was written.
     has_header: bool,
+    // The line on which a quote opens that is not closed, where the input ends so.
+    open_quote: Option<u64>,
 }
 
 impl Told {
@@ -168,6 +180,7 @@ impl Told {
             records: 0,
             counts: [0; KINDS],
             has_header: false,
+            open_quote: None,
         }
     }
 
@@ -196,6 +209,23 @@ impl Told {
         if self.meet(Kind::NoMeasure) {
             tell_route(errors, name);
         }
+    }
+
+    /// Keeps the line on which a quote opens that is not closed at the end of the input, where there is one.
+    pub fn end_input(&mut self, open_quote: Option<u64>) {
+        self.open_quote = open_quote;
+    }
+
+    /// Tells of a quote that is not closed, and says whether there is one.
+    pub fn tell_open_quote<E: Write>(&mut self, errors: &mut E) -> bool
+        ensures { result ≡ false → Keeps (E.contents errors.old) (E.contents errors.new) }
+    {
+        let Some(line) = self.open_quote else {
+            return false;
+        };
+        self.meet(Kind::OpenQuote);
+        tell_line(errors, line, Kind::OpenQuote.words());
+        true
     }
 
     /// Tells how many records were left out, and how many faults there were of each kind.
