@@ -2,7 +2,7 @@
 //!
 //! It promises to append the machine's line of each run, in the order of the runs.
 
-ghost use Rattle.std.specs.Prelude.{◌≡◌, ◌≤◌, ◌++◌, map, IfOk, OnOk, string_bytes};
+ghost use Rattle.std.specs.Prelude.{◌≡◌, ◌≤◌, ◌++◌, map, IfOk, OnOk};
 ghost use Rattle.rs_facts.specs.LineText.{line_of};
 ghost use Rattle.rs_facts.specs.Spans.{seen};
 ghost use Rattle.rs_serve.specs.ReplyView.{rows_of};

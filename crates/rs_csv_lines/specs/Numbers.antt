@@ -82,7 +82,7 @@ pub record WritesPlain (rounds : Bool) (text : List ℕ) (thousandths : ℕ) : T
 abbrev pub HasNoSign : List ℕ → Type 0
 HasNoSign text = (list_any (λ byte. byte == 43) text ≡ false) × (list_any (λ byte. byte == 45) text ≡ false)
 
--- The same of a number that has no sign of its own.
+-- The text is such a number, which has no sign of its own.
 abbrev pub WritesUnsigned : Bool → List ℕ → ℕ → Type 0
 WritesUnsigned rounds text thousandths = WritesPlain rounds text thousandths × HasNoSign text
 

@@ -3,7 +3,7 @@
 //! Each function takes tokens from the front and returns the others, or those at which it stopped.
 //! Calls nest only with the brackets of a line.
 
-ghost use Rattle.std.specs.Prelude.{◌≡◌, ◌<◌, ◌∷◌, ◌++◌, length, IfOk, MatchResult};
+ghost use Rattle.std.specs.Prelude.{◌≡◌, ◌<◌, ◌∷◌, ◌++◌, length, IfOk};
 ghost use Rattle.rs_grammar.specs.declared.kind.TokenKind.TheVariants as kinds;
 ghost use Rattle.rs_grammar.specs.Grammar.{query_form, operand_query_form, where_form, dissolve_form, rename_form, pair_form, window_query_form, transform_form, gaps_form};
 ghost use Rattle.rs_syntax.specs.Written.{mark, told, pair_kind, query_lexemes, lexemes_of};
