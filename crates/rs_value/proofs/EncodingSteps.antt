@@ -1,18 +1,19 @@
 -- What each step of writing and of reading a row does.
-use Rattle.std.proofs.Common.{◌≡◌, ℕ, zero, suc, ◌+◌, ◌-◌, ◌<◌, ◌≤◌, List, [], ◌∷◌, ◌++◌, length, get_or, take, drop, map, replicate, slice_set, Option, Some, None, IfSome, IfNone, Result, Ok, Err, IfOk, true, false, ◌&&◌, ◌==◌, IsTrue, refl, sym, ap, subst, ◌∙◌, arith, rules, tests, not, append_assoc, append-nil, length-append, IsUtf8}
-use Rattle.std.specs.List.{position_or_len, list_any}
+use Rattle.std.proofs.Common.{◌≡◌, ℕ, zero, suc, ◌+◌, ◌-◌, ◌<◌, ◌≤◌, List, [], ◌∷◌, ◌++◌, length, get_or, take, drop, map, replicate, slice_set, Option, Some, None, IfSome, IfNone, Result, Ok, Err, IfOk, true, false, ◌&&◌, ◌==◌, nat_lt, IsTrue, refl, sym, ap, subst, ◌∙◌, arith, rules, tests, not, append_assoc, append-nil, length-append, IsUtf8}
+use Rattle.std.specs.List.{position_or_len, list_all, list_any}
 use Rattle.std.proofs.lemmas.List.{map-append, take_all, drop_all, drop_more, take_at, drop_at, length-replicate}
 use Rattle.std.specs.Result.{result_ok}
-use Rattle.std.specs.Str.{is_utf8}
-use Rattle.std.proofs.lemmas.Str.{IsUtf8-from_is_utf8, is_utf8-from_IsUtf8}
-use Rattle.std.proofs.lemmas.Bool.{and_parts, ne_eqb}
+use Rattle.std.specs.Str.{IsAscii, is_utf8}
+use Rattle.std.proofs.lemmas.Str.{IsUtf8-from_ascii, IsUtf8-from_is_utf8, is_utf8-from_IsUtf8}
+use Rattle.std.proofs.lemmas.Str.Ascii.{IsAscii-cons, IsAscii-nil}
+use Rattle.std.proofs.lemmas.Bool.{and_parts, ltb-true, ne_eqb, not-true}
 use Rattle.std.proofs.lemmas.List.Sums.{sum_by-cons}
 use borrow.Rule.Slice.PartMut.{put_mid}
 use Rattle.std.proofs.lemmas.Slice.{take-put_mid}
 use Rattle.rs_value.specs.declared.column.ColumnType.{ColumnType}
 use Rattle.rs_value.specs.declared.value.Value.{Value}
 use Rattle.rs_value.specs.Row.{Datum, text, Row}
-use Rattle.rs_value.specs.Values.{is_control, is_text, IsValue, IsOfType, IsRowOf}
+use Rattle.rs_value.specs.Values.{is_control, is_plain, is_text, IsValue, IsOfType, IsRowOf}
 use Rattle.rs_value.specs.View.{datum_of}
 use Rattle.rs_value.specs.Encoding.{width, row_width, SaysText, SaysDatum, SaysRow}
 use Rattle.rs_value.proofs.EncodingOrder.{false_parts, above_zeros, not_control, datum_wide}
@@ -46,6 +47,27 @@ text_end (b ∷ said) n clean =
 -- UTF-8 without a control byte is text, and nothing else
 pub text_true : (bytes : List ℕ) → IsUtf8 bytes → list_any is_control bytes ≡ false → IsTrue (is_text bytes)
 text_true bytes utf8 plain = rw (is_utf8-from_IsUtf8 bytes utf8, plain) refl
+
+-- a byte of printable ASCII
+plain_byte : (byte : ℕ) → is_plain byte ≡ true → (byte < 128) × (is_control byte ≡ false)
+plain_byte byte h =
+    let parts = and_parts (not (nat_lt byte 32)) (nat_lt byte 127) h in
+    let below : byte < 127 = ltb-true byte 127 parts.1 in
+    let other : (byte == 127) ≡ false = ne_eqb byte 127 (λ e. absurd (omega (arith, e, below))) in
+    let wide : byte < 128 = omega (arith, below) in
+    (wide, rw (not-true (nat_lt byte 32) parts.0, other) refl)
+
+-- Printable ASCII is text.
+plain_all : (bytes : List ℕ) → list_all is_plain bytes ≡ true → IsAscii bytes × (list_any is_control bytes ≡ false)
+plain_all [] h = (IsAscii-nil, refl)
+plain_all (b ∷ bytes) h =
+    let parts = and_parts (is_plain b) (list_all is_plain bytes) h in
+    let first = plain_byte b parts.0 in
+    let rest = plain_all bytes parts.1 in
+    (IsAscii-cons b bytes first.0 rest.0, rw (first.1, rest.1) refl)
+
+pub plain_text : (bytes : List ℕ) → list_all is_plain bytes ≡ true → IsTrue (is_text bytes)
+plain_text bytes h = let parts = plain_all bytes h in text_true bytes (IsUtf8-from_ascii bytes parts.0) parts.1
 
 pub no_utf8_text : (bytes : List ℕ) → (IsUtf8 bytes → ⊥) → is_text bytes ≡ false
 no_utf8_text bytes none =

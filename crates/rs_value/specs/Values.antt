@@ -10,6 +10,10 @@ use Rattle.rs_value.specs.Row.{Datum, null, number, text, Row}
 abbrev pub is_control : ℕ → Bool
 is_control byte = nat_lt byte 32 || byte == 127
 
+-- printable ASCII: from the space to the tilde
+abbrev pub is_plain : ℕ → Bool
+is_plain byte = not (nat_lt byte 32) && nat_lt byte 127
+
 -- UTF-8 without control bytes
 abbrev pub is_text : List ℕ → Bool
 is_text bytes = is_utf8 bytes && not (list_any is_control bytes)

@@ -39,8 +39,9 @@ pub(crate) fn push_kept(bytes: &mut RowBytes, value: LentValue<'_>) -> Result<()
 fn push_number(bytes: &mut RowBytes, number: i64) -> Result<(), AllocError>
     ensures { OnOk result (bytes.new.items ≡ bytes.old.items ++ 1 ∷ to_be_bytes w64 (above_least number)) }
 {
-    let [a, b, c, d, e, f, g, h] = above_least(number).to_be_bytes();
-    bytes.extend_from_slice(&[NUMBER, a, b, c, d, e, f, g, h])
+    let mut kept = [NUMBER; 9];
+    kept[1..].copy_from_slice(&above_least(number).to_be_bytes());
+    bytes.extend_from_slice(&kept)
 }
 
 // Puts a text after the bytes.

@@ -10,12 +10,13 @@ ghost use Rattle.rs_value.specs.Values.{IsValue, IsOfType, IsRowOf};
 
 use crate::column::{ColumnType, Schema, TEXT_BYTES};
 use crate::encoding::{
-    PRESENT, above_least, are_zeros, column_width, decode_number, length_before_zero,
+    PRESENT, above_least, are_zeros, column_width, decode_number, eight_bytes, length_before_zero,
+    number_above,
 };
 use crate::kept_bytes::{first_value, push_kept, split_first, text_width};
 use crate::lent::LentValue;
 use crate::row_bytes::{INLINE_BYTES, RowBytes};
-use crate::text::as_text;
+use crate::text::{are_plain, as_text};
 use std::alloc::{AllocError, Global};
 
 /// Whether bytes say a row of these columns. It takes no memory.
@@ -91,6 +92,27 @@ fn room_for_value(column: ColumnType, bytes: &[u8]) -> usize {
     }
 }
 
+/// The value that the bytes of a column say, which say one: it is not checked again.
+pub fn read_value(column: ColumnType, bytes: &[u8]) -> LentValue<'_>
+    requires { (datum : Datum) × SaysDatum column bytes.now datum }
+    ensures { (datum : Datum) → SaysDatum column bytes.now datum → lent_datum result ≡ datum }
+{
+    if bytes[0] != PRESENT {
+        return LentValue::Null;
+    }
+    match column {
+        ColumnType::Int => LentValue::Int(number_above(eight_bytes(&bytes[1..]))),
+        ColumnType::Text(_) => LentValue::Text(text_before_zeros(&bytes[1..])),
+    }
+}
+
+// The bytes before the first zero.
+fn text_before_zeros(bytes: &[u8]) -> &[u8]
+    ensures { (said : List ℕ) → IsValue (rows.text said) → SaysText (length bytes.now) (1 ∷ bytes.now) said → result.now ≡ said }
+{
+    &bytes[..length_before_zero(bytes)]
+}
+
 // The value that the bytes of a column say.
 fn said_value(column: ColumnType, bytes: &[u8]) -> Option<LentValue<'_>>
     requires { length bytes.now ≡ width column }
@@ -126,7 +148,7 @@ fn said_text(bytes: &[u8]) -> Option<&[u8]>
 fn is_kept_text(bytes: &[u8]) -> bool
     ensures { IsTrue result ↔ (IsValue (rows.text bytes.now) × IsShort (rows.text bytes.now)) }
 {
-    bytes.len() <= TEXT_BYTES && as_text(bytes).is_some()
+    bytes.len() <= TEXT_BYTES && (are_plain(bytes) || as_text(bytes).is_some())
 }
 
 /// Puts a row that these bytes keep after others, as `encode` writes it. The only refusal is for want of memory.

@@ -34,7 +34,7 @@ pub use encoding_laws::{
 };
 pub use fitting::{check_fit, fits};
 pub use kept::{KeptRow, compare_rows, push_values, same_row};
-pub use kept_encoding::says_row;
+pub use kept_encoding::{read_value, says_row};
 pub use kept_laws::{
     each_row_is_kept, kept_bytes_compare_as_rows, kept_bytes_keep_one_row,
     kept_bytes_keep_rows_together, row_is_kept_one_way,

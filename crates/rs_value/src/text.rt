@@ -3,8 +3,8 @@
 //! It promises to say exactly when bytes are one.
 
 ghost use Rattle.std.specs.Prelude.{◌≡◌, MatchOption, false, true};
-ghost use Rattle.std.specs.List.{list_any};
-ghost use Rattle.rs_value.specs.Values.{is_control, is_text};
+ghost use Rattle.std.specs.List.{list_all, list_any};
+ghost use Rattle.rs_value.specs.Values.{is_control, is_plain, is_text};
 
 use std::str;
 
@@ -13,6 +13,13 @@ pub fn has_control(bytes: &[u8]) -> bool
     ensures { result ≡ list_any is_control bytes.now }
 {
     bytes.iter().any(|byte| *byte < b' ' || *byte == 127)
+}
+
+/// Whether each byte is printable ASCII. Such bytes are a text.
+pub(crate) fn are_plain(bytes: &[u8]) -> bool
+    ensures { result ≡ list_all is_plain bytes.now }
+{
+    bytes.iter().all(|byte| *byte >= b' ' && *byte < 127)
 }
 
 /// The bytes as text, where they are UTF-8 without a control character.
