@@ -2,7 +2,7 @@
 //!
 //! It holds their bytes one after another, so that a record takes no allocation of its own.
 
-ghost use Rattle.std.specs.Prelude.{◌≡◌, ◌<◌, ◌*◌, ◌++◌, [], ◌∷◌, Some, OnOk, OnErr, length, slice_get, vec_len};
+ghost use Rattle.std.specs.Prelude.{◌≡◌, ◌≤◌, ◌<◌, ◌*◌, ◌++◌, [], ◌∷◌, Some, IfOk, OnOk, OnErr, length, slice_get, vec_len};
 
 use crate::records::record_at;
 use std::alloc::{AllocError, Global};
@@ -19,6 +19,7 @@ pub struct Cells {
 
 impl Cells {
     ghost use Rattle.rs_records.specs.Listed.{listed, record_width};
+    ghost use Rattle.rs_records.specs.Records.{records};
 
     /// No records of this width. Takes no memory.
     pub fn new(alloc: Global, width: usize) -> Cells
@@ -31,6 +32,28 @@ impl Cells {
             count: 0,
             bytes: Vec::new(alloc),
         }
+    }
+
+    /// The records of this width that the bytes begin with, so many, copied at once. The only refusal is for want of memory.
+    pub fn copied(
+        alloc: Global,
+        bytes: &[u8],
+        width: usize,
+        count: usize,
+    ) -> Result<Cells, AllocError>
+        requires some { 0 < width }
+        requires inside { count * width ≤ length bytes.now }
+        ensures width { IfOk result (λ cells. record_width cells ≡ width) }
+        ensures records { IfOk result (λ cells. listed cells ≡ records count width bytes.now) }
+    {
+        let front = &bytes[..count * width];
+        let mut copy = Vec::with_capacity(alloc, front.len())?;
+        copy.extend_from_slice(front)?;
+        Ok(Cells {
+            width,
+            count,
+            bytes: copy,
+        })
     }
 
     /// How many bytes each record has.

@@ -6,26 +6,38 @@ use Rattle.std.specs.Vec.{vec_len}
 use Rattle.rs_pages.specs.PageMap.{PageMap, SamePages}
 use Rattle.rs_records.specs.declared.cells.Cells.{Cells}
 use Rattle.rs_records.specs.Listed.{listed, record_width}
-use Rattle.rs_records.specs.Records.{records}
-use Rattle.rs_records.proofs.RecordLists.{length-records, length-keys, records-at, times_upto}
+use Rattle.rs_records.specs.Records.{keys, records}
+use Rattle.rs_records.proofs.RecordLists.{drop-records, length-keys, length-records, records-at, take-records, times_upto}
 use Rattle.rs_tree.specs.Content.{content}
 use Rattle.rs_tree.specs.Form.{Form, least_from}
 use Rattle.rs_tree.specs.Layouts.{form_with, entry_bytes}
 use Rattle.rs_tree.specs.Looking.{HoldsEntries}
-use Rattle.rs_tree.specs.Walking.{WalksEntry, WalksEntries, ReadsEntryOnce, ReadsEntriesOnce, HasNoPartOfEntry, HasNoPartsOfEntries}
+use Rattle.rs_tree.specs.Walking.{IsRange, WalksEntry, WalksEntries, ReadsEntryOnce, ReadsEntriesOnce, HasNoPartOfEntry, HasNoPartsOfEntries}
 use Rattle.rs_tree.specs.declared.layout.Layout.{Layout}
 use Rattle.rs_tree.proofs.Entries.{WalksSome, ReadsSome, walks_next, walks_all, reads_next, reads_all, no_entry-no_parts}
-use Rattle.rs_tree.proofs.Lists.{drop_at_place, take_next}
+use Rattle.rs_tree.proofs.Lists.{drop_at_place}
 
--- one more of those between the places
-pub taken_next : (xs : List (List ℕ)) (from index : ℕ) (x : List ℕ) (now next : List (List ℕ)) → from ≤ index → slice_get xs index ≡ Some x
-    → now ≡ take (index - from) (drop from xs) → next ≡ now ++ x ∷ [] → next ≡ take (index + 1 - from) (drop from xs)
-taken_next xs from index x now next h there was is =
-    let k : ℕ = index - from in
-    let place : from + k ≡ index = omega arith in
-    let at : slice_get (drop from xs) k ≡ Some x = drop_at_place xs from k ∙ ap (slice_get xs) place ∙ there in
-    let more : suc k ≡ index + 1 - from = omega arith in
-    is ∙ ap (λ ys. ys ++ x ∷ []) was ∙ sym (take_next (drop from xs) k x at) ∙ ap (λ i. take i (drop from xs)) more
+-- both places are among the entries
+pub ends_within : (layout : Layout) (count : ℕ) (bytes low high : List ℕ) (from to : ℕ)
+    → IsRange (keys (least_from layout.summary) (records count (entry_bytes layout) bytes)) low high from to → (from ≤ count) × (to ≤ count)
+ends_within layout count bytes low high from to range =
+    let many = length-keys (least_from layout.summary) count (entry_bytes layout) bytes in
+    (omega (arith, range.before, range.first.within, many), omega (arith, range.last.within, many))
+
+-- the records from one place up to another, among the bytes from the first of them on
+pub copied_between : (count width from to : ℕ) (bytes : List ℕ) → from ≤ count → to ≤ count
+    → records (to - from) width (drop (from * width) bytes) ≡ take (to - from) (drop from (records count width bytes))
+copied_between count width from to bytes first last =
+    sym (take-records (to - from) (count - from) width (drop (from * width) bytes) (omega arith)) ∙ ap (take (to - from)) (sym (drop-records from count width bytes first))
+
+-- they have room there
+pub room_between : (count width from to : ℕ) (bytes : List ℕ) → from ≤ count → to ≤ count → count * width ≤ length bytes
+    → (to - from) * width ≤ length (drop (from * width) bytes)
+room_between count width from to bytes first last fit =
+    let left = times_upto (to - from) (count - from) width (omega arith) in
+    let whole : from + (count - from) ≡ count = omega arith in
+    let parts : (from + (count - from)) * width ≡ count * width = ap (λ n. n * width) whole in
+    omega (arith, left, parts, fit, length-drop (from * width) bytes)
 
 -- each of the records in memory is of their width
 pub entry_wide : (cells : Cells) (index : ℕ) (cell : List ℕ) → slice_get (listed cells) index ≡ Some cell → length cell ≡ record_width cells

@@ -22,7 +22,7 @@ use crate::wanted::Wanted;
 use crate::{Layout, Node, Summary, content, read_node};
 use rs_page::{Page, PageNumber};
 use rs_pages::Pages;
-use rs_records::{Cells, place, record_at};
+use rs_records::{Cells, place};
 use rs_refusal::Refusal;
 use std::alloc::Global;
 
@@ -122,11 +122,12 @@ fn take_entries(
     let bytes = content(page);
     let width = layout.entry_width();
     let (from, to) = entries_within(bytes, layout, count, low, high);
-    let mut entries = Cells::new(alloc, width);
-    for index in from..to {
-        let entry = record_at(bytes, width, index);
-        entries.push(entry).map_err(|_| Refusal::OutOfMemory)?;
-    }
+    let entries = Cells::copied(
+        alloc,
+        &bytes[from * width..],
+        width,
+        to.saturating_sub(from),
+    )?;
     Ok(entries)
 }
 
