@@ -20,6 +20,11 @@ use Rattle.rs_page_cache.specs.Clean.{Clean, clean_at, spare_page, kept_pages, h
 pub kept-at : (entries : List (ℕ × Box Page Global)) (n : ℕ) → clean_at (kept_pages entries) n ≡ option_map (λ (page : Box Page Global). page.value.bytes) (lookup (nat_eq n) entries)
 kept-at entries n = lookup-map_values (λ (page : Box Page Global). page.value.bytes) (nat_eq n) entries
 
+-- where one of them was looked for
+pub kept-found : (entries : List (ℕ × Box Page Global)) (n : ℕ) (found : Option (Box Page Global)) → lookup (nat_eq n) entries ≡ found
+    → clean_at (kept_pages entries) n ≡ option_map (λ (page : Box Page Global). page.value.bytes) found
+kept-found entries n found is = kept-at entries n ∙ ap (option_map (λ (page : Box Page Global). page.value.bytes)) is
+
 -- the spare page comes first
 pub spare-at : (number : Option ℕ) (spare : Box Page Global) (rest : Clean) (n : ℕ)
     → clean_at (spare_page number spare ++ rest) n ≡ (if has_number number n then Some spare.value.bytes else clean_at rest n)
@@ -27,10 +32,9 @@ spare-at None spare rest n = refl
 spare-at (Some m) spare rest n = refl
 
 -- a page that isn't the spare one is among the others
-pub get-kept : (number : Option ℕ) (spare : Box Page Global) (entries : List (ℕ × Box Page Global)) (n : ℕ) (found : Option (Box Page Global))
-    → has_number number n ≡ false → lookup (nat_eq n) entries ≡ found
-    → clean_at (spare_page number spare ++ kept_pages entries) n ≡ option_map (λ (page : Box Page Global). page.value.bytes) found
-get-kept number spare entries n found other is = spare-at number spare (kept_pages entries) n ∙ rw other (kept-at entries n ∙ ap (option_map (λ (page : Box Page Global). page.value.bytes)) is)
+pub others-at : (number : Option ℕ) (spare : Box Page Global) (rest : Clean) (n : ℕ) → has_number number n ≡ false
+    → clean_at (spare_page number spare ++ rest) n ≡ clean_at rest n
+others-at number spare rest n other = spare-at number spare rest n ∙ rw other refl
 
 -- what is in a list of one
 only : (e f : ℕ × List ℕ) → Contains (f ∷ []) e → e ≡ f
@@ -111,7 +115,7 @@ is_some_map (Some page) = refl
 pub held-kept : (number : Option ℕ) (spare : Box Page Global) (entries : List (ℕ × Box Page Global)) (n : ℕ) → has_number number n ≡ false
     → is_some (lookup (nat_eq n) entries) ≡ is_some (clean_at (spare_page number spare ++ kept_pages entries) n)
 held-kept number spare entries n other =
-    sym (is_some_map (lookup (nat_eq n) entries)) ∙ ap (is_some {T = List ℕ}) (sym (get-kept number spare entries n (lookup (nat_eq n) entries) other refl))
+    sym (is_some_map (lookup (nat_eq n) entries)) ∙ ap (is_some {T = List ℕ}) (sym (others-at number spare (kept_pages entries) n other ∙ kept-at entries n))
 
 still_found : (test : ℕ → Bool) (es : List (ℕ × Box Page Global)) (o : Option (ℕ × Box Page Global)) → lookup_entry test es ≡ o → is_some (lookup test es) ≡ true
     → is_some (lookup test (option_map_or (λ f. f ∷ remove_entry test es) o es)) ≡ true

@@ -1,4 +1,5 @@
 pub mod Changed
+pub mod CleanCounts
 pub mod CleanLists
 pub mod DiskPages
 pub mod Numbers

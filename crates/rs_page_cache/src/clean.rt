@@ -1,10 +1,10 @@
 //! The clean pages that are held: a bounded number of pages as the disk has them.
 //!
 //! A page is read into a spare one that is always there, so a read wants no memory. Before the next read the spare page
-//! joins the others, and another takes its place: a new one, or where no more may be held that of the page used longest
-//! ago. Where there is no memory for a new one, the spare page is used again.
+//! joins the others, and another takes its place: one that is no longer held, else a new one, or where no more may be held
+//! the one used longest ago. Where there is no memory for a new one, the spare page is used again.
 
-ghost use Rattle.std.specs.Prelude.{◌≡◌, ◌≤◌, ◌<◌, ◌⊎◌, ℕ, Some, None, [], length, is_some, IfOk, OnOk, OnErr, IsTrue, IsSome, Err, IsOkUnless, Contains};
+ghost use Rattle.std.specs.Prelude.{◌≡◌, ◌≤◌, ◌<◌, ◌+◌, ◌⊎◌, ℕ, Some, None, [], length, is_some, IfOk, IfSome, OnOk, OnErr, IsTrue, IsSome, Err, IsOkUnless, Contains};
 ghost use Rattle.std.specs.Option.{option_map};
 ghost use Rattle.rs_disk.specs.Counts.{Counts};
 ghost use Rattle.rs_disk.specs.Crash.{Same, Passes};
@@ -21,13 +21,15 @@ use std::marker::Model;
 use std::mem;
 use std::num::NonZeroUsize;
 
-/// The greatest number of clean pages that are held, the spare one among them.
+/// The greatest number of clean pages that are held or whose memory is unused, the spare one among them.
 pub const MOST_CLEAN: usize = 256;
 
 /// The clean pages.
 #[derive(Drop)]
 pub struct CleanPages {
     kept: LruCache<u32, Box<Page>>,
+    /// Memory of pages that are no longer held.
+    unused: Vec<Box<Page>>,
     spare: Box<Page>,
     /// The number of the page in the spare one, where it is one of the disk's.
     spare_number: Option<PageNumber>,
@@ -39,24 +41,26 @@ impl Model for CleanPages {
 
     ghost Value = { Clean };
 
-    ghost use Rattle.std.specs.Prelude.{◌++◌, ◌<◌};
+    ghost use Rattle.std.specs.Prelude.{◌++◌, ◌+◌, ◌<◌, ◌≤◌, length};
     ghost use Rattle.rs_page_cache.specs.declared.clean.TheConstants.{MOST_CLEAN};
 
     ghost view = { λ c. spare_page c.spare_number c.spare ++ kept_pages c.kept.entries };
 
-    ghost invariant = { λ c. c.kept.cap < MOST_CLEAN };
+    ghost invariant = { λ c. (c.kept.cap < MOST_CLEAN) × (length c.kept.entries + length c.unused.items ≤ c.kept.cap) };
 }
 
 impl CleanPages {
-    /// No page is held, and the spare one is allocated.
+    /// No page is held. The spare one is allocated, and room for the list of unused ones.
     pub fn new(alloc: Global) -> Result<CleanPages, AllocError>
         ensures { IfOk result (λ clean. clean ≡ []) }
     {
         let most = NonZeroUsize::new(MOST_CLEAN - 1).unwrap();
         let kept = LruCache::new(alloc, most)?;
+        let unused = Vec::with_capacity(alloc, MOST_CLEAN - 1)?;
         let spare = Box::new(alloc, Page::new()).map_err(|_| AllocError)?;
         Ok(CleanPages {
             kept,
+            unused,
             spare,
             spare_number: None,
         })
@@ -80,10 +84,7 @@ impl CleanPages {
         if is_number(self.spare_number, number) {
             return Some(&self.spare);
         }
-        match self.kept.peek(&number.number()) {
-            Some(page) => Some(page),
-            None => None,
-        }
+        kept_page(&self.kept, number.number())
     }
 
     /// Holds the page with this number, and reads it where it isn't held.
@@ -129,17 +130,17 @@ impl CleanPages {
         let Some(number) = self.spare_number.take() else {
             return;
         };
-        if let Some(other) = page_for_another(&mut self.kept) {
+        if let Some(other) = page_for_another(&mut self.kept, &mut self.unused) {
             let page = mem::replace(&mut self.spare, other);
             put_page(&mut self.kept, number.number(), page);
         }
     }
 
-    /// No page is held any more.
+    /// No page is held any more. Their memory is kept for others. It takes no memory.
     pub fn clear(&mut self)
         ensures { self.new ≡ [] }
     {
-        self.kept.clear();
+        keep_memory(&mut self.kept, &mut self.unused);
         self.spare_number = None;
     }
 }
@@ -154,12 +155,35 @@ fn is_number(spare: Option<PageNumber>, number: PageNumber) -> bool
     }
 }
 
-/// The memory of the page used longest ago, which is no longer held, where no more may be held; else new memory, if there
-/// is some.
-fn page_for_another(kept: &mut LruCache<u32, Box<Page>>) -> Option<Box<Page>>
+/// The page with this number among the others. The most recently used one is asked first, since a page is loaded before
+/// it is got.
+fn kept_page(kept: &LruCache<u32, Box<Page>>, number: u32) -> Option<&Page>
+    ensures { option_map (λ page. page.now.bytes) result ≡ clean_at (kept_pages kept.now.entries) number }
+{
+    match kept.peek_mru() {
+        Some((first, page)) if *first == number => Some(page),
+        _ => match kept.peek(&number) {
+            Some(page) => Some(page),
+            None => None,
+        },
+    }
+}
+
+/// The memory of a page that is no longer held: an unused one, or where no more may be held that of the page used longest
+/// ago; else new memory, if there is some.
+fn page_for_another(
+    kept: &mut LruCache<u32, Box<Page>>,
+    unused: &mut Vec<Box<Page>>,
+) -> Option<Box<Page>>
+    requires { length kept.old.entries + length unused.old.items ≤ kept.old.cap }
     ensures pages { (e : _) → Contains (kept_pages kept.new.entries) e → Contains (kept_pages kept.old.entries) e }
+    ensures room { IfSome result (λ _. length kept.new.entries + length unused.new.items < kept.new.cap) }
+    ensures bound { length kept.new.entries + length unused.new.items ≤ kept.new.cap }
     ensures cap { kept.new.cap ≡ kept.old.cap }
 {
+    if let Some(page) = unused.pop() {
+        return Some(page);
+    }
     if kept.len() < kept.cap().get() {
         return Box::new(*kept.allocator(), Page::new()).ok();
     }
@@ -173,7 +197,19 @@ fn page_for_another(kept: &mut LruCache<u32, Box<Page>>) -> Option<Box<Page>>
 fn put_page(kept: &mut LruCache<u32, Box<Page>>, number: u32, page: Box<Page>)
     ensures pages { (e : _) → Contains (kept_pages kept.new.entries) e
         → Contains (kept_pages kept.old.entries) e ⊎ (e ≡ (number, page.value.bytes)) }
+    ensures count { length kept.new.entries ≤ length kept.old.entries + 1 }
     ensures cap { kept.new.cap ≡ kept.old.cap }
 {
     let _ = kept.put(number, page);
+}
+
+/// Moves the pages that are held to the unused ones, which have room for them. No page is held then.
+fn keep_memory(kept: &mut LruCache<u32, Box<Page>>, unused: &mut Vec<Box<Page>>)
+    ensures entries { kept.new.entries ≡ [] }
+    ensures bound { length unused.new.items ≤ length kept.old.entries + length unused.old.items }
+    ensures cap { kept.new.cap ≡ kept.old.cap }
+{
+    while let Some((_, page)) = kept.pop_lru() {
+        let _ = unused.push(page);
+    }
 }

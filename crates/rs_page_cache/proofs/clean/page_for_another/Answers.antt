@@ -13,8 +13,8 @@ after_pop : (was now : LruCache ℕ (Box Page Global)) → now ≡ lru_cache (ta
 after_pop was now is e there = first-stays was.entries (length was.entries - 1) e
     (subst (λ (kept : LruCache ℕ (Box Page Global)). Contains (kept_pages kept.entries) e) is there)
 
-pub returns-in-Some-clause-pages : goal.returns-in-Some-clause-pages
-returns-in-Some-clause-pages c = after_pop c.args.kept.now c.pop_lru.new.self c.pop_lru.ensures.entries
+pub returns-in-Some-pop_lru-clause-pages : goal.returns-in-Some-pop_lru-clause-pages
+returns-in-Some-pop_lru-clause-pages c = after_pop c.args.kept.now c.pop_lru.new.self c.pop_lru.ensures.entries
 
 pub returns-in-None-clause-pages : goal.returns-in-None-clause-pages
 returns-in-None-clause-pages c = after_pop c.args.kept.now c.pop_lru.new.self c.pop_lru.ensures.entries

@@ -1,14 +1,24 @@
 -- A page that isn't the spare one is looked for among the others.
-use Rattle.std.proofs.Common.{◌≡◌, ◌∙◌, ℕ, nat_eq, true, false, Contains, ◌++◌, ap, sym, subst, rules}
+use Rattle.std.proofs.Common.{◌≡◌, ◌∙◌, ℕ, nat_eq, true, false, Contains, ◌++◌, ◌<◌, ◌≤◌, ◌+◌, length, ap, sym, subst, arith, rules}
 use Rattle.std.specs.Prelude.{is_some}
 use Rattle.std.specs.Map.{lookup}
 use Rattle.std.specs.declared.alloc.Global.{Global}
 use Rattle.std.specs.declared.boxed.Box.{Box}
 use Rattle.lru.specs.LruCache.{LruCache, lru_cache, promoted}
 use Rattle.rs_page.specs.declared.page.Page.{Page}
+use Rattle.rs_page_cache.specs.declared.clean.TheConstants.{MOST_CLEAN}
 use Rattle.rs_page_cache.specs.Clean.{Clean, clean_at, has_number, kept_pages, spare_page}
+use Rattle.rs_page_cache.proofs.CleanCounts.{count-promoted}
 use Rattle.rs_page_cache.proofs.CleanLists.{held-kept, found-promoted, promoted-stays}
 use Rattle.rs_page_cache.proofs.clean.CleanPages.promote.Goals as goal
+
+pub invariant_of-self : goal.invariant_of-self
+invariant_of-self c =
+    let i = c.self.inside in
+    let now : c.promote.new.self ≡ lru_cache (promoted (nat_eq c.args.number) i.kept.entries) i.kept.cap = search rules in
+    let count : length (promoted (nat_eq c.args.number) i.kept.entries) ≡ length i.kept.entries = count-promoted (nat_eq c.args.number) i.kept.entries in
+    subst (λ (kept : LruCache ℕ (Box Page Global)). (kept.cap < MOST_CLEAN) × (length kept.entries + length i.unused.items ≤ kept.cap)) (sym now)
+    (c.self.invariant.0, omega (arith, count, c.self.invariant.1))
 
 pub returns-else-is_number-clause-held : goal.returns-else-is_number-clause-held
 returns-else-is_number-clause-held c =
