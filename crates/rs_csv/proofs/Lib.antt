@@ -2,6 +2,7 @@ mod Outputs
 mod Headers
 mod Readers
 mod Cuts
+mod Places
 mod Batches
 mod Runs
 mod Taking

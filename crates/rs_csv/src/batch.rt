@@ -2,7 +2,7 @@
 //!
 //! A record that is longer than records may be is not kept, and its end is told.
 
-ghost use Rattle.std.specs.Prelude.{◌≡◌, ◌≤◌, ◌+◌, [], ◌∷◌, ◌++◌, ℕ, List, IfOk, OnOk, length, take};
+ghost use Rattle.std.specs.Prelude.{◌≡◌, ◌≤◌, ◌↔◌, ◌+◌, [], ◌∷◌, ◌++◌, ℕ, List, IfOk, IsSome, OnOk, length, take};
 ghost use Rattle.rs_csv.specs.Cutting.{EndsRecord, GoesOn, IsBatchOf, IsBatchWithin, IsBetween, Runs, Takes, after_all};
 
 use crate::quoting::{Place, count_run, push_marked};
@@ -100,7 +100,9 @@ impl Batch {
     }
 
     /// The line on which a quote opens that is not closed so far, where there is one.
-    pub fn open_quote(&self) -> Option<u64> {
+    pub fn open_quote(&self) -> Option<u64>
+        ensures { IsSome result ↔ (self.now.place ≡ Place.Inside) }
+    {
         match self.place {
             Place::Inside => Some(self.quote_line),
             Place::Start | Place::Plain | Place::Behind => None,

@@ -8,7 +8,7 @@ ghost use Rattle.rs_protocol.specs.Puts.{PutsBut};
 ghost use Rattle.rs_syntax.specs.Tree.{CommandTree};
 ghost use Rattle.rs_csv.specs.Cutting.{IsBatchOf, IsBetween, text_of};
 ghost use Rattle.rs_csv.specs.Output.{Defines, Ends, EndsTaken, GoesFar, IsAsked, IsPlanOf, IsQuiet, Makes, SoFar, TakesHead, TakesInput, TakesMore, TakesRest, held_lines, table_of};
-ghost use Rattle.rs_csv.specs.Reading.{ReadsAll};
+ghost use Rattle.rs_csv.specs.Reading.{EndsClosed, IsPlaceAfter, ReadsAll};
 ghost use Rattle.rs_csv.specs.Routes.{HaveMet};
 ghost use Rattle.rs_csv.specs.Stops.{IsFailure, IsMidway, IsOfWords};
 
@@ -387,6 +387,7 @@ impl Filter<'_> {
         ensures job { self.new.job ≡ self.old.job }
         ensures far { TakesRest self.old.job.wanted (table_of self.old.job.definition) result batch.old self.old.progress self.new.progress (W.contents output.old) (W.contents output.new) }
         ensures quiet { OnOk result (IsQuiet self.old.progress.made.has_told self.new.progress.made.has_told (E.contents errors.old) (E.contents errors.new)) }
+        ensures place { batch.new.place ≡ batch.old.place }
     {
         if batch.is_within_long() {
             if let Err(stop) = leave_out_long(&mut self.progress, batch.lines(), errors) {
@@ -414,6 +415,7 @@ impl Filter<'_> {
         ensures stops { IfErr result IsMidway }
         ensures input { TakesInput self.old.job.wanted (table_of self.old.job.definition) result self.new.progress (R.remaining input.old) (R.remaining input.new) (W.contents output.old) (W.contents output.new) }
         ensures quiet { OnOk result (IsQuiet self.old.progress.made.has_told self.new.progress.made.has_told (E.contents errors.old) (E.contents errors.new)) }
+        ensures place { OnOk result (IsPlaceAfter self.old.job.wanted.separator batch.new.place (R.remaining input.old) (R.remaining input.new)) }
     {
         match self.take_head(batch, input, output, errors, rejects) {
             Ok(true) => return self.take_end(batch, output, errors, rejects),
@@ -457,6 +459,7 @@ impl Filter<'_> {
         ensures stops { IfErr result IsMidway }
         ensures input { TakesInput self.old.job.wanted (table_of self.old.job.definition) result self.new.progress (R.remaining input.old) (R.remaining input.new) (W.contents output.old) (W.contents output.new) }
         ensures quiet { OnOk result (IsQuiet self.old.progress.made.has_told self.new.progress.made.has_told (E.contents errors.old) (E.contents errors.new)) }
+        ensures closed { OnOk result (self.new.progress.made.told.open_quote ≡ None → EndsClosed self.old.job.wanted.separator (R.remaining input.old) (R.remaining input.new)) }
     {
         let job = self.job;
         let Ok(mut batch) = Batch::new(job.alloc, job.wanted.separator) else {
@@ -472,6 +475,7 @@ impl Filter<'_> {
 // Tells of a quote that is not closed, and where something was told how much that was. Says whether something was told.
 fn tell_faults<E: Write>(told: bool, made: &mut Made, errors: &mut E) -> bool
     ensures told { result ≡ false → told ≡ false }
+    ensures closed { result ≡ false → made.old.told.open_quote ≡ None }
     ensures quiet { result ≡ false → Keeps (E.contents errors.old) (E.contents errors.new) }
 {
     let is_open = made.told.tell_open_quote(errors);
@@ -485,6 +489,7 @@ fn tell_faults<E: Write>(told: bool, made: &mut Made, errors: &mut E) -> bool
 // The same, and how many measures were rounded, where they are.
 fn tell_end<E: Write>(rounds: bool, told: bool, made: &mut Made, errors: &mut E) -> bool
     ensures told { result ≡ false → told ≡ false }
+    ensures closed { result ≡ false → made.old.told.open_quote ≡ None }
     ensures quiet { result ≡ false → rounds ≡ false → Keeps (E.contents errors.old) (E.contents errors.new) }
 {
     let has_told = tell_faults(told, made, errors);
@@ -504,6 +509,7 @@ fn end_lines<W: Write, E: Write>(
     ensures stops { IfErr result IsFailure }
     ensures wrote { EndsTaken job.now.wanted (table_of job.now.definition) result progress.old (W.contents output.old) (W.contents output.new) }
     ensures told { IfOk result (λ told. told ≡ false → progress.old.made.has_told ≡ false) }
+    ensures closed { result ≡ Ok false → progress.old.made.told.open_quote ≡ None }
     ensures quiet { result ≡ Ok false → job.now.wanted.rounds ≡ false → Keeps (E.contents errors.old) (E.contents errors.new) }
 {
     match write_rest(job, progress, output, errors) {
@@ -541,6 +547,7 @@ pub fn write_lines<R: Read, W: Write, E: Write, X: Rejecting>(
     ensures wrote { (table : CommandTree) × (IsAsked wanted.entry table ⊎ Keeps (W.contents output.old) (W.contents output.new))
         × ((told : List ℕ) × Consumes (R.remaining input.old) (R.remaining input.new) told
         × Ends wanted.entry table result told (R.remaining input.new) (W.contents output.old) (W.contents output.new)) }
+    ensures closed { result ≡ Ok false → EndsClosed wanted.entry.separator (R.remaining input.old) (R.remaining input.new) }
     ensures quiet { result ≡ Ok false → wanted.entry.rounds ≡ false → Keeps (E.contents errors.old) (E.contents errors.new) }
 {
     let session = wanted.session;

@@ -29,6 +29,7 @@ fn put_route<E: Write>(
     ensures stops { IfErr result (λ stop. stop ≡ Stop.OutOfMemory) }
     ensures put { OnOk result (PutsRoute job.now.wanted.session route.0.bytes route.1.ends lines.old.items lines.new.items) }
     ensures quiet { OnOk result (IsQuiet made.old.has_told made.new.has_told (E.contents errors.old) (E.contents errors.new)) }
+    ensures quote { made.new.told.open_quote ≡ made.old.told.open_quote }
 {
     let (name, extent) = route;
     match extent.ends {
@@ -46,6 +47,7 @@ fn route_lines<E: Write>(job: &Job<'_>, made: &mut Made, errors: &mut E) -> Resu
     ensures stops { IfErr result (λ stop. stop ≡ Stop.OutOfMemory) }
     ensures lines { IfOk result (λ lines. (events : List Placed) → HaveMet made.old.extents events → DefineRoutes job.now.wanted.session (IsMet events) lines.items) }
     ensures quiet { OnOk result (IsQuiet made.old.has_told made.new.has_told (E.contents errors.old) (E.contents errors.new)) }
+    ensures quote { made.new.told.open_quote ≡ made.old.told.open_quote }
 {
     let mut lines = Vec::new(job.alloc);
     let Some(extents) = made.extents.take() else {
@@ -87,6 +89,7 @@ pub fn write_rest<W: Write, E: Write>(
     ensures wrote { EndsTaken job.now.wanted (table_of job.now.definition) result progress.old (W.contents output.old) (W.contents output.new) }
     ensures told { IfOk result (λ told. told ≡ false → progress.old.made.has_told ≡ false) }
     ensures quiet { result ≡ Ok false → Keeps (E.contents errors.old) (E.contents errors.new) }
+    ensures quote { progress.new.made.told.open_quote ≡ progress.old.made.told.open_quote }
 {
     if !job.wanted.defines_routes {
         return Ok(progress.made.has_told);

@@ -1,6 +1,6 @@
 //! How many faults were met of each kind: the first ones are told, and the others counted.
 
-ghost use Rattle.std.specs.Prelude.{◌≡◌, ◌<◌, false};
+ghost use Rattle.std.specs.Prelude.{◌≡◌, ◌<◌, None, false};
 ghost use Rattle.std.specs.Io.KnownBytes.{Keeps};
 
 use crate::tell::{tell_count, tell_line, tell_route};
@@ -197,7 +197,9 @@ impl Told {
     }
 
     /// Counts a fault, and says whether it is one of the first of its kind, which are told.
-    pub fn meet(&mut self, kind: Kind) -> bool {
+    pub fn meet(&mut self, kind: Kind) -> bool
+        ensures { self.new.open_quote ≡ self.old.open_quote }
+    {
         let place = kind.place();
         let count = self.counts[place].saturating_add(1);
         self.counts[place] = count;
@@ -205,20 +207,25 @@ impl Told {
     }
 
     /// Tells that no measure was met on a route, where few such were told.
-    pub fn tell_unmet<E: Write>(&mut self, name: &str, errors: &mut E) {
+    pub fn tell_unmet<E: Write>(&mut self, name: &str, errors: &mut E)
+        ensures { self.new.open_quote ≡ self.old.open_quote }
+    {
         if self.meet(Kind::NoMeasure) {
             tell_route(errors, name);
         }
     }
 
     /// Keeps the line on which a quote opens that is not closed at the end of the input, where there is one.
-    pub fn end_input(&mut self, open_quote: Option<u64>) {
+    pub fn end_input(&mut self, open_quote: Option<u64>)
+        ensures { self.new.open_quote ≡ open_quote }
+    {
         self.open_quote = open_quote;
     }
 
     /// Tells of a quote that is not closed, and says whether there is one.
     pub fn tell_open_quote<E: Write>(&mut self, errors: &mut E) -> bool
-        ensures { result ≡ false → Keeps (E.contents errors.old) (E.contents errors.new) }
+        ensures closed { result ≡ false → self.old.open_quote ≡ None }
+        ensures quiet { result ≡ false → Keeps (E.contents errors.old) (E.contents errors.new) }
     {
         let Some(line) = self.open_quote else {
             return false;

@@ -1,4 +1,4 @@
-use Rattle.std.proofs.Common.{[], ℕ, List, inl, inr, subst, sym}
+use Rattle.std.proofs.Common.{[], ℕ, List, None, inl, inr, subst, sym}
 use Rattle.std.proofs.KnownBytes.{Consumes-nil, Keeps-refl}
 use Rattle.csv.specs.Reading.{strip_bom}
 use Rattle.rs_syntax.specs.Tree.{define_route}
@@ -35,3 +35,7 @@ returns-clause-wrote g c =
     let took =
     subst (λ (filter : FilterParts). TookAll c.args.wanted table (g.W.Write.contents c.args.output.now) filter.progress told (g.W.Write.contents c.read_all.new.output)) (sym c.filter.view_is) input.2.1 in
     (table, inl (asked c.args.wanted c.in-Ok.definition c.in-Ok.ensures.defines c.in-Ok.ensures.line), (input.0, input.1, ends_whole c.args.wanted table c.end_lines-result.result c.filter.inside.progress told _ _ _ _ input.2.0 took c.end_lines-result.ensures.wrote c.end_lines-result.ensures.told))
+
+pub returns-clause-closed : goal.returns-clause-closed
+returns-clause-closed g c = λ closed.
+    c.in_default-read_all.ensures.closed (subst (λ (filter : FilterParts). filter.progress.made.told.open_quote ≡ None) c.filter.view_is (c.end_lines-result.ensures.closed closed))

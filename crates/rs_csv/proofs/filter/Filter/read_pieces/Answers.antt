@@ -5,6 +5,7 @@ use Rattle.csv.specs.Reading.{strip_bom}
 use Rattle.rs_csv.specs.Output.{GoesFar, JobParts, SoFar, TakesRest, WroteSoFar, table_of}
 use Rattle.rs_csv.proofs.Cuts.{strip_more}
 use Rattle.rs_csv.proofs.Outputs.{quiet_trans}
+use Rattle.rs_csv.proofs.Places.{place_far}
 use Rattle.rs_csv.proofs.Steps.{far_ends, far_start, took_last, wrote_early}
 use Rattle.rs_csv.proofs.filter.Filter.read_pieces.Goals as goal
 
@@ -16,6 +17,14 @@ returns-in-Ok-true-clause-input g c =
     let head = c.in-Ok-true.ensures.far output (far_start wanted table c.args.batch.now c.args.self.now.progress output c.requires.no_record c.requires.no_plan c.requires.no_line c.requires.no_number c.requires.none_held c.requires.none_met) in
     let rest = subst (λ (job : JobParts). TakesRest job.wanted (table_of job.definition) c.take_end.result c.take_head.new.batch c.take_head.new.self.progress c.take_end.new.self.progress (g.W.Write.contents c.take_head.new.output) (g.W.Write.contents c.take_end.new.output)) c.in-Ok-true.ensures.job c.take_end.ensures.far in
     (head.0, head.1, took_last wanted table output c.take_end.result c.take_end.new.self.progress (strip_bom head.0) _ _ (head.2.1 c.in-Ok-true.field-0-test) (rest output (strip_bom head.0) head.2.0))
+
+pub returns-in-Ok-true-clause-place : goal.returns-in-Ok-true-clause-place
+returns-in-Ok-true-clause-place g c =
+    let wanted = c.args.self.now.job.wanted in
+    let table = table_of c.args.self.now.job.definition in
+    let output = g.W.Write.contents c.args.output.now in
+    let head = c.in-Ok-true.ensures.far output (far_start wanted table c.args.batch.now c.args.self.now.progress output c.requires.no_record c.requires.no_plan c.requires.no_line c.requires.no_number c.requires.none_held c.requires.none_met) in
+    place_far c.take_end.result wanted table output c.take_head.new.batch c.take_head.new.self.progress head.0 _ _ _ c.take_end.new.batch.place head.1 head.2.0 c.take_end.ensures.place
 
 pub returns-in-Err-clause-input : goal.returns-in-Err-clause-input
 returns-in-Err-clause-input g c =
@@ -50,6 +59,17 @@ returns-in-Ok-eq0-clause-input g c =
       subst (Consumes (g.R.Read.remaining c.args.input.now) (g.R.Read.remaining c.read.new.self)) (append-nil far.0) (Consumes-trans _ (g.R.Read.remaining c.pieces.input) _ far.0 [] far.1 nothing),
       took_last wanted table output last.result last.new.self.progress (strip_bom far.0) _ _ (c.in-Ok-eq0.ensures.bytes.1 none room) (rest output (strip_bom far.0) far.3),
     )
+
+pub returns-in-Ok-eq0-clause-place : goal.returns-in-Ok-eq0-clause-place
+returns-in-Ok-eq0-clause-place g c =
+    let wanted = c.args.self.now.job.wanted in
+    let table = table_of c.args.self.now.job.definition in
+    let far = c.pieces.invariant.far in
+    let nothing : Consumes (g.R.Read.remaining c.pieces.input) (g.R.Read.remaining c.read.new.self) [] =
+    subst (λ n. Consumes (g.R.Read.remaining c.pieces.input) (g.R.Read.remaining c.read.new.self) (take n c.read.new.buf)) c.in-Ok-eq0.field-0-test c.in-Ok-eq0.ensures.bytes.0 in
+    let last = c.take_end-in-Ok-eq0 in
+    place_far last.result wanted table (g.W.Write.contents c.args.output.now) c.pieces.batch c.pieces.self.progress far.0 _ _ _ last.new.batch.place
+    (subst (Consumes (g.R.Read.remaining c.args.input.now) (g.R.Read.remaining c.read.new.self)) (append-nil far.0) (Consumes-trans _ (g.R.Read.remaining c.pieces.input) _ far.0 [] far.1 nothing)) far.3 last.ensures.place
 
 pub returns-in-Err-take_piece-clause-input : goal.returns-in-Err-take_piece-clause-input
 returns-in-Err-take_piece-clause-input g c =
