@@ -11,6 +11,7 @@ pub mod Reading
 pub mod Listed
 pub mod Counted
 pub mod Rounds
+pub mod SpanLines
 pub mod Elements
 pub mod Mapped
 pub mod KeptNames

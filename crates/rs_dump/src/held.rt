@@ -1,18 +1,18 @@
-//! What is dumped: definitions and referents in memory, and the spans that are read route by route.
+//! What is dumped: definitions and referents in memory, and the events that are read route by route.
 //!
 //! What it shows is a relation, since it may keep what no value of its own says.
 
-ghost use Rattle.std.specs.Prelude.{◌≡◌, IfErr, IfOk, map};
+ghost use Rattle.std.specs.Prelude.{◌≡◌, IfErr, IfOk};
 ghost use Rattle.rs_catalog.specs.Definitions.{Definitions, Numbered};
 ghost use Rattle.rs_catalog.specs.Referents.{HeldReferents};
 ghost use Rattle.rs_dump.specs.Shown.{Shown};
-ghost use Rattle.rs_facts.specs.Spans.{seen};
 ghost use Rattle.rs_refusal.specs.declared.refusal.Refusal.{Refusal};
+ghost use Rattle.rs_table_reads.specs.Events.{AreEvents, SaysSpans};
 
 use rs_catalog::{Catalog, NamedRoute, RouteReferents};
-use rs_facts::Span;
 use rs_methods::Name;
 use rs_refusal::Refusal;
+use rs_table_reads::FoundEvents;
 use rs_value::Kind;
 use std::alloc::Global;
 
@@ -52,14 +52,15 @@ pub trait Held {
     fn referents(&self) -> &RouteReferents
         ensures { result.now ≡ referents self.now };
 
-    /// The spans of the table on the route.
-    fn listed_spans(
+    /// The events of the table on the route, which say the spans that are shown.
+    fn found_events(
         &mut self,
         alloc: Global,
         table: &NamedTable,
         route: &NamedRoute,
-    ) -> Result<Vec<Span>, Refusal>
-        ensures lists { (shown : Shown) → shows self.old shown → IfOk result (λ found. map seen found.items ≡ shown table.now.number table.now.kind route.now.route.number) }
+    ) -> Result<FoundEvents, Refusal>
+        ensures are { IfOk result AreEvents }
+        ensures says { (shown : Shown) → shows self.old shown → IfOk result (λ found. SaysSpans found (shown table.now.number table.now.kind route.now.route.number)) }
         ensures wants { IfErr result (λ why. wants why self.old self.new) }
         ensures catalog { catalog self.new ≡ catalog self.old }
         ensures referents { referents self.new ≡ referents self.old }

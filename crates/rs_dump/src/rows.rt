@@ -1,6 +1,6 @@
 //! The lines of rows, table by table and route by route.
 //!
-//! The spans of one table on one route are in memory at a time. The lines of a table are gathered, and written many at a time.
+//! The events of one table on one route are in memory at a time. The lines of a table are gathered, and written many at a time.
 
 ghost use Rattle.std.specs.Prelude.{◌≡◌, ℕ, List, [], IfErr, OnOk, map};
 ghost use Rattle.rs_dump.specs.Reads.{Reads};
@@ -9,18 +9,20 @@ ghost use Rattle.rs_dump.specs.Shown.{Shown};
 ghost use Rattle.rs_dump.specs.Stopping.{StopsReading};
 ghost use Rattle.rs_dump.specs.Written.{AddsBytes, PutsBytes, StopsWriting, WritesRead, line_bytes, lines_bytes};
 ghost use Rattle.rs_dump_laws.specs.Dump.{location_of};
-ghost use Rattle.rs_dump_lines.specs.Texts.{row_front};
-ghost use Rattle.rs_facts.specs.Spans.{seen};
+ghost use Rattle.rs_dump_lines.specs.Texts.{FileSays, row_front};
+ghost use Rattle.rs_facts.specs.Runs.{Stretch, stretch};
 ghost use Rattle.rs_syntax.specs.Tree.{insert};
+ghost use Rattle.rs_table_reads.specs.Events.{AreEvents, SaysSpans};
+ghost use Rattle.rs_value.specs.Row.{Row};
 
 use crate::held::{Held, NamedTable};
 use crate::stop::Stop;
 use rs_catalog::NamedRoute;
-use rs_dump_lines::rows::{ROW_BUFFER_BYTES, push_row_backwards};
+use rs_dump_lines::rows::{FileRow, ROW_BUFFER_BYTES, push_row_backwards};
 use rs_dump_lines::writing::push_row_front;
-use rs_facts::Span;
 use rs_machine::limits::LINE_BYTES;
 use rs_protocol::put_parts;
+use rs_table_reads::FoundEvents;
 use rs_value::Kind;
 use std::alloc::Global;
 use std::io::Write;
@@ -83,12 +85,12 @@ fn add_rows_on<H: Held, W: Write>(
         piece.old.items piece.new.items (W.contents output.old) (W.contents output.new) }
     ensures wants { IfErr result (λ stop. StopsReading H.Held stop held.old held.new) }
 {
-    match held.listed_spans(alloc, table, route) {
-        Ok(spans) => {
+    match held.found_events(alloc, table, route) {
+        Ok(found) => {
             let mut front = Vec::new(alloc);
             push_row_front(&mut front, table.kind, &table.name, &route.name)?;
             let mut buffer = [0; ROW_BUFFER_BYTES];
-            add_rows(table.kind, &front, &spans, &mut buffer, piece, output)
+            add_rows(table.kind, &front, &found, &mut buffer, piece, output)
         }
         Err(refusal) => {
             put_piece(piece, output)?;
@@ -97,21 +99,30 @@ fn add_rows_on<H: Held, W: Write>(
     }
 }
 
-/// Adds the lines of these spans, which are made in a buffer.
+/// Adds the lines of the spans of these events, which are made in a buffer.
 fn add_rows<W: Write>(
     kind: Kind,
     front: &[u8],
-    spans: &[Span],
+    found: &FoundEvents,
     buffer: &mut [u8],
     piece: &mut Vec<u8>,
     output: &mut W,
 ) -> Result<(), Stop>
-    ensures lines { (table route : List ℕ) → front.now ≡ row_front kind table route
-        → AddsBytes result (lines_bytes (rows_on table route kind (map seen spans.now))) piece.old.items piece.new.items (W.contents output.old) (W.contents output.new) }
+    requires are { AreEvents found.now }
+    ensures lines { (table route : List ℕ) (spans : List Stretch) → front.now ≡ row_front kind table route → SaysSpans found.now spans
+        → AddsBytes result (lines_bytes (rows_on table route kind spans)) piece.old.items piece.new.items (W.contents output.old) (W.contents output.new) }
     ensures stops { IfErr result StopsWriting }
 {
-    for span in spans {
-        add_row(kind, front, span, buffer, piece, output)?;
+    for place in 0..found.len() {
+        if let Some(span) = found.span_at(place) {
+            let row = FileRow {
+                lo: span.lo,
+                hi: span.hi,
+                columns: found.columns(),
+                bytes: span.row,
+            };
+            add_row(kind, front, &row, buffer, piece, output)?;
+        }
     }
     Ok(())
 }
@@ -120,16 +131,17 @@ fn add_rows<W: Write>(
 fn add_row<W: Write>(
     kind: Kind,
     front: &[u8],
-    span: &Span,
+    row: &FileRow<'_>,
     buffer: &mut [u8],
     piece: &mut Vec<u8>,
     output: &mut W,
 ) -> Result<(), Stop>
-    ensures line { (table route : List ℕ) → front.now ≡ row_front kind table route
-        → AddsBytes result (line_bytes (insert table route (location_of kind (seen span.now)) (seen span.now).row)) piece.old.items piece.new.items (W.contents output.old) (W.contents output.new) }
+    requires says { (said : Row) × FileSays row.now said }
+    ensures line { (table route : List ℕ) (said : Row) → front.now ≡ row_front kind table route → FileSays row.now said
+        → AddsBytes result (line_bytes (insert table route (location_of kind (stretch row.now.lo row.now.hi said)) said)) piece.old.items piece.new.items (W.contents output.old) (W.contents output.new) }
     ensures stops { IfErr result StopsWriting }
 {
-    push_row_backwards(piece, buffer, front, kind, span)?;
+    push_row_backwards(piece, buffer, front, kind, row)?;
     if piece.len() < PIECE_BYTES {
         return Ok(());
     }

@@ -1,10 +1,11 @@
 -- Texts that are appended one after another, and texts with a comma between them.
-use Rattle.std.proofs.Common.{◌≡◌, ◌≤◌, ◌+◌, ◌∙◌, ℕ, zero, suc, List, [], ◌∷◌, ◌++◌, ap, append-nil, append_assoc, arith, codes, drop, get_or, length, map, refl, sym}
+use Rattle.std.proofs.Common.{◌≡◌, ◌≤◌, ◌<◌, ◌+◌, ◌∙◌, ℕ, zero, suc, List, [], ◌∷◌, ◌++◌, ap, append-nil, append_assoc, arith, codes, drop, get_or, length, map, refl, sym}
 use Rattle.std.specs.List.{join_with_byte}
+use Rattle.std.proofs.lemmas.List.{drop_more}
 use Rattle.rs_dump_laws.specs.Lines.{COMMA, bracketed_texts, dump_line}
 use Rattle.rs_dump_laws.specs.Dump.{location_of}
 use Rattle.rs_dump_lines.specs.Texts.{measures_text, more_texts, place_word, row_front}
-use Rattle.rs_facts.specs.Runs.{Stretch}
+use Rattle.rs_facts.specs.Runs.{stretch}
 use Rattle.rs_syntax.specs.Tree.{insert}
 use Rattle.rs_value.specs.Row.{null, Row}
 use Rattle.rs_value.specs.Text.{datum_text}
@@ -24,13 +25,22 @@ pub joined_more : (text : List ℕ) (texts : List (List ℕ)) → join_with_byte
 joined_more text [] = sym (append-nil text)
 joined_more text (other ∷ texts) = ap (λ more. text ++ (COMMA ∷ more)) (joined_more other texts)
 
--- the first value of a row, and the others with a comma before each
-pub first_joined : (row : Row) (old new : List ℕ) → 1 ≤ length row → new ≡ old ++ datum_text (get_or row 0 null)
-    → new ++ more_texts (map datum_text (drop 1 row)) ≡ old ++ join_with_byte COMMA (map datum_text row)
-first_joined [] old new some put = absurd (omega (arith, some))
-first_joined (datum ∷ row) old new some put =
-    ap (λ t. t ++ more_texts (map datum_text row)) put ∙ append_assoc old (datum_text datum) (more_texts (map datum_text row))
-    ∙ ap (λ t. old ++ t) (sym (joined_more (datum_text datum) (map datum_text row)))
+-- a comma and a value are appended, and then the others
+pub one_pushed : (row : Row) (i : ℕ) (old mid new : List ℕ) → i < length row → mid ≡ old ++ COMMA ∷ [] → new ≡ mid ++ datum_text (get_or row i null)
+    → new ++ more_texts (map datum_text (drop (i + 1) row)) ≡ old ++ more_texts (map datum_text (drop i row))
+one_pushed row i old mid new within first more =
+    let texts = more_texts (map datum_text (drop (i + 1) row)) in
+    ap (λ t. t ++ texts) (more ∙ ap (λ t. t ++ datum_text (get_or row i null)) first)
+    ∙ append_assoc (old ++ COMMA ∷ []) (datum_text (get_or row i null)) texts ∙ append_assoc old (COMMA ∷ []) (datum_text (get_or row i null) ++ texts)
+    ∙ ap (λ r. old ++ more_texts (map datum_text r)) (sym (drop_more row i null within))
+
+-- the first value of a row is appended, and then the others with a comma before each
+pub first_pushed : (row : Row) (old mid new : List ℕ) → 1 ≤ length row → mid ≡ old ++ datum_text (get_or row 0 null)
+    → new ≡ mid ++ more_texts (map datum_text (drop 1 row)) → new ≡ old ++ join_with_byte COMMA (map datum_text row)
+first_pushed [] old mid new some first more = absurd (omega (arith, some))
+first_pushed (datum ∷ row) old mid new some first more =
+    let texts = more_texts (map datum_text row) in
+    more ∙ ap (λ t. t ++ texts) first ∙ append_assoc old (datum_text datum) texts ∙ ap (λ t. old ++ t) (sym (joined_more (datum_text datum) (map datum_text row)))
 
 -- texts of what things are seen as
 pub texts_of : {X Y : Type 0} (text : Y → List ℕ) (seen : X → Y) (xs : List X) → map (λ x. text (seen x)) xs ≡ map text (map seen xs)
@@ -44,10 +54,10 @@ front_and kind table route rest =
     (append_assoc table (codes " ON " ++ (route ++ place_word kind)) rest ∙ ap (λ t. table ++ (codes " ON " ++ t)) (append_assoc route (place_word kind) rest))
 
 -- the line of a row, of whatever kind its table is
-pub row_line : (kind : Kind) (table route : List ℕ) (span : Stretch) (row : Row)
-    → row_front kind table route ++ (measures_text kind span ++ (codes " VALUES" ++ bracketed_texts (map datum_text row))) ≡ dump_line (insert table route (location_of kind span) row)
-row_line Line table route span row = front_and Line table route _
-row_line Point table route span row = front_and Point table route _
+pub row_line : (kind : Kind) (table route : List ℕ) (lo hi : ℕ) (row : Row)
+    → row_front kind table route ++ (measures_text kind lo hi ++ (codes " VALUES" ++ bracketed_texts (map datum_text row))) ≡ dump_line (insert table route (location_of kind (stretch lo hi row)) row)
+row_line Line table route lo hi row = front_and Line table route _
+row_line Point table route lo hi row = front_and Point table route _
 
 -- ---- what is put before the rest
 
@@ -73,14 +83,14 @@ pub in_brackets : (texts : List (List ℕ)) (rest : List ℕ) → 40 ∷ (join_w
 in_brackets texts rest = ap (λ t. 40 ∷ t) (sym (append_assoc (join_with_byte COMMA texts) (codes ")") (codes "\n" ++ rest)))
 
 -- the line of a row and its end
-pub row_and_end : (kind : Kind) (table route : List ℕ) (span : Stretch) (row : Row)
-    → row_front kind table route ++ (measures_text kind span ++ (codes " VALUES" ++ (bracketed_texts (map datum_text row) ++ codes "\n")))
-    ≡ dump_line (insert table route (location_of kind span) row) ++ codes "\n"
-row_and_end kind table route span row =
+pub row_and_end : (kind : Kind) (table route : List ℕ) (lo hi : ℕ) (row : Row)
+    → row_front kind table route ++ (measures_text kind lo hi ++ (codes " VALUES" ++ (bracketed_texts (map datum_text row) ++ codes "\n")))
+    ≡ dump_line (insert table route (location_of kind (stretch lo hi row)) row) ++ codes "\n"
+row_and_end kind table route lo hi row =
     let front = row_front kind table route in
-    let measures = measures_text kind span in
+    let measures = measures_text kind lo hi in
     let values = bracketed_texts (map datum_text row) in
-    sym (ap (λ t. t ++ codes "\n") (sym (row_line kind table route span row))
+    sym (ap (λ t. t ++ codes "\n") (sym (row_line kind table route lo hi row))
     ∙ append_assoc front (measures ++ (codes " VALUES" ++ values)) (codes "\n")
     ∙ ap (λ t. front ++ t) (append_assoc measures (codes " VALUES" ++ values) (codes "\n")
     ∙ ap (λ t. measures ++ t) (append_assoc (codes " VALUES") values (codes "\n"))))

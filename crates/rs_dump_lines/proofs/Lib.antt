@@ -7,3 +7,4 @@ mod Alignments
 mod Inserts
 mod AllLines
 pub mod Joined
+mod SaidRows

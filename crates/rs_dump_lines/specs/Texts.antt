@@ -1,12 +1,14 @@
--- Texts of a dump: those of views, of lists, and of the place of a row.
+-- Texts of a dump: those of views, of lists, and of the place of a row; and what a file says of a row.
 use Rattle.std.specs.Prelude.{ℕ, List, [], ◌∷◌, ◌++◌, codes}
 use Rattle.rs_dump_laws.specs.Lines.{COMMA, shortest_text}
+use Rattle.rs_dump_lines.specs.declared.rows.FileRow.{FileRow}
 use Rattle.rs_facts.specs.Fact.{Name}
-use Rattle.rs_facts.specs.Runs.{Stretch}
 use Rattle.rs_syntax.specs.Tree.{define_view}
 use Rattle.rs_machine.specs.Lawful.{Each}
 use Rattle.rs_machine.specs.Request.{Asks, command}
 use Rattle.rs_machine.specs.State.{State}
+use Rattle.rs_value.specs.Encoding.{SaysRow}
+use Rattle.rs_value.specs.Row.{Row}
 use Rattle.rs_value.specs.declared.column.Kind.{Kind}
 use Rattle.rs_value.specs.declared.column.Kind.TheVariants.{Point, Line}
 
@@ -28,10 +30,14 @@ abbrev pub place_word : Kind → List ℕ
 place_word Line = codes " FROM "
 place_word Point = codes " AT "
 
-abbrev pub measures_text : Kind → Stretch → List ℕ
-measures_text Line span = ends_text span.lo span.hi
-measures_text Point span = shortest_text span.lo
+abbrev pub measures_text : Kind → ℕ → ℕ → List ℕ
+measures_text Line lo hi = ends_text lo hi
+measures_text Point lo hi = shortest_text lo
 
 -- what the lines of all rows of a table on a route begin with
 abbrev pub row_front : Kind → List ℕ → List ℕ → List ℕ
 row_front kind table route = codes "0 INSERT INTO " ++ (table ++ (codes " ON " ++ (route ++ place_word kind)))
+
+-- the bytes that the file has of a row say these values
+abbrev pub FileSays : FileRow → Row → Type 0
+FileSays row said = SaysRow row.columns.now row.bytes.now said

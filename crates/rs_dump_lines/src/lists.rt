@@ -5,6 +5,7 @@ ghost use Rattle.std.specs.List.{join_with_byte};
 ghost use Rattle.rs_dump_laws.specs.Lines.{COMMA, bracketed_texts, column_text, piece_text, type_text};
 ghost use Rattle.rs_dump_lines.specs.Texts.{more_texts};
 ghost use Rattle.rs_syntax.specs.View.{column_tree, piece_tree};
+ghost use Rattle.rs_value.specs.Encoding.{SaysRow};
 ghost use Rattle.rs_value.specs.Row.{Row};
 ghost use Rattle.rs_value.specs.Text.{datum_text};
 
@@ -14,7 +15,7 @@ use crate::values::push_value;
 use crate::writing::push_span;
 use itoa::Buffer;
 use rs_syntax::{ColumnDefinition, Piece};
-use rs_value::{ColumnType, KeptRow};
+use rs_value::{ColumnType, column_width, read_value};
 use std::alloc::AllocError;
 
 /// What has a text in a line.
@@ -60,28 +61,52 @@ pub(crate) fn push_bracketed<T: Written>(text: &mut Vec<u8>, items: &[T]) -> Res
     Ok(())
 }
 
-/// Appends the values of a row in brackets, with a comma between them.
-pub(crate) fn push_row(text: &mut Vec<u8>, row: &KeptRow) -> Result<(), AllocError>
-    ensures { OnOk result (text.new.items ≡ text.old.items ++ bracketed_texts (map datum_text row.now)) }
+/// Appends the values that these bytes say in brackets, with a comma between them.
+pub(crate) fn push_row(
+    text: &mut Vec<u8>,
+    columns: &[ColumnType],
+    values: &[u8],
+) -> Result<(), AllocError>
+    requires says { (said : Row) × SaysRow columns.now values.now said }
+    ensures { (said : Row) → SaysRow columns.now values.now said
+        → OnOk result (text.new.items ≡ text.old.items ++ bracketed_texts (map datum_text said)) }
 {
     text.push(b'(')?;
-    push_values(text, row)?;
+    push_values(text, columns, values)?;
     text.push(b')')?;
     Ok(())
 }
 
-/// Appends the values of a row with a comma between them.
-fn push_values(text: &mut Vec<u8>, row: &KeptRow) -> Result<(), AllocError>
-    ensures { OnOk result (text.new.items ≡ text.old.items ++ join_with_byte COMMA (map datum_text row.now)) }
+/// Appends the values that these bytes say with a comma between them.
+fn push_values(text: &mut Vec<u8>, columns: &[ColumnType], values: &[u8]) -> Result<(), AllocError>
+    requires says { (said : Row) × SaysRow columns.now values.now said }
+    ensures { (said : Row) → SaysRow columns.now values.now said
+        → OnOk result (text.new.items ≡ text.old.items ++ join_with_byte COMMA (map datum_text said)) }
 {
-    let width = row.width();
-    if width == 0 {
+    let Some((column, others)) = columns.split_first() else {
         return Ok(());
-    }
-    push_value(text, row.value_at(0))?;
-    for column in 1..width {
+    };
+    let (first, rest) = values.split_at(column_width(*column));
+    push_value(text, read_value(*column, first))?;
+    push_more_values(text, others, rest)
+}
+
+/// Appends each of the values that these bytes say, with a comma before it.
+fn push_more_values(
+    text: &mut Vec<u8>,
+    columns: &[ColumnType],
+    values: &[u8],
+) -> Result<(), AllocError>
+    requires says { (said : Row) × SaysRow columns.now values.now said }
+    ensures { (said : Row) → SaysRow columns.now values.now said
+        → OnOk result (text.new.items ≡ text.old.items ++ more_texts (map datum_text said)) }
+{
+    let mut rest = values;
+    for column in columns {
+        let (first, others) = rest.split_at(column_width(*column));
         text.push(b',')?;
-        push_value(text, row.value_at(column))?;
+        push_value(text, read_value(*column, first))?;
+        rest = others;
     }
     Ok(())
 }

@@ -5,16 +5,17 @@
 ghost use Rattle.std.specs.Prelude.{◌≡◌, ◌++◌, ℕ, List, OnOk, map};
 ghost use Rattle.rs_dump_laws.specs.Dump.{location_of};
 ghost use Rattle.rs_dump_laws.specs.Lines.{dump_line, kind_word, span_text};
-ghost use Rattle.rs_dump_lines.specs.Texts.{ends_text, measures_text, place_word, row_front};
-ghost use Rattle.rs_facts.specs.Spans.{seen};
+ghost use Rattle.rs_dump_lines.specs.Texts.{FileSays, ends_text, measures_text, place_word, row_front};
+ghost use Rattle.rs_facts.specs.Runs.{stretch};
 ghost use Rattle.rs_methods.specs.Position.{absolute};
 ghost use Rattle.rs_syntax.specs.Tree.{QueryTree, define_alignment, define_index, define_referent, define_route, define_table, define_view, insert};
 ghost use Rattle.rs_syntax.specs.View.{column_tree, piece_tree};
+ghost use Rattle.rs_value.specs.Row.{Row};
 
 use crate::lists::{push_bracketed, push_row};
 use crate::measures::push_measure;
 use crate::parts::push_text;
-use rs_facts::Span;
+use crate::rows::FileRow;
 use rs_measure::Measure;
 use rs_methods::Name;
 use rs_syntax::{ColumnDefinition, Piece};
@@ -85,21 +86,23 @@ pub fn push_row_front(
     push_text(text, place_word(kind))
 }
 
-/// Appends the line that inserts a row of a table of this kind along a span of a route, whose front `push_row_front` gives. Where memory
-/// runs out, a part may have been appended.
+/// Appends the line that inserts a row of a table of this kind on a route, whose front `push_row_front` gives. Where memory runs out, a
+/// part may have been appended.
 pub fn push_row_line(
     text: &mut Vec<u8>,
     front: &[u8],
     kind: Kind,
-    span: &Span,
+    row: &FileRow<'_>,
 ) -> Result<(), AllocError>
-    ensures { (table route : List ℕ) → front.now ≡ row_front kind table route → OnOk result (text.new.items ≡ text.old.items
-        ++ dump_line (insert table route (location_of kind (seen span.now)) (seen span.now).row)) }
+    requires says { (said : Row) × FileSays row.now said }
+    ensures { (table route : List ℕ) (said : Row) → front.now ≡ row_front kind table route → FileSays row.now said
+        → OnOk result (text.new.items ≡ text.old.items
+        ++ dump_line (insert table route (location_of kind (stretch row.now.lo row.now.hi said)) said)) }
 {
     text.extend_from_slice(front)?;
-    push_measures(text, kind, span)?;
+    push_measures(text, kind, row.lo, row.hi)?;
     text.extend_from_slice(b" VALUES")?;
-    push_row(text, &span.tuple)
+    push_row(text, row.columns, row.bytes)
 }
 
 /// Appends the line that defines an alignment of these pieces. Where memory runs out, a part may have been appended.
@@ -164,12 +167,12 @@ fn place_word(kind: Kind) -> &'static str
 }
 
 /// Appends the measures of a row of a table of this kind: a line's two, a point's one.
-fn push_measures(text: &mut Vec<u8>, kind: Kind, span: &Span) -> Result<(), AllocError>
-    ensures { OnOk result (text.new.items ≡ text.old.items ++ measures_text kind (seen span.now)) }
+fn push_measures(text: &mut Vec<u8>, kind: Kind, lo: u32, hi: u32) -> Result<(), AllocError>
+    ensures { OnOk result (text.new.items ≡ text.old.items ++ measures_text kind lo hi) }
 {
     match kind {
-        Kind::Line => push_ends(text, span.lo, span.hi),
-        Kind::Point => push_measure(text, span.lo),
+        Kind::Line => push_ends(text, lo, hi),
+        Kind::Point => push_measure(text, lo),
     }
 }
 

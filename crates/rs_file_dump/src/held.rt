@@ -6,10 +6,9 @@ ghost use Rattle.rs_file_dump.specs.Files.{whole_route};
 use rs_catalog::{Catalog, NamedRoute, RouteReferents};
 use rs_disk::Disk;
 use rs_dump::{Held, NamedTable};
-use rs_facts::Span;
 use rs_refusal::Refusal;
 use rs_store_source::rs_store::Store;
-use rs_table_reads::RouteWindow;
+use rs_table_reads::{FoundEvents, RouteWindow};
 use rs_value::Kind;
 use std::alloc::Global;
 
@@ -43,15 +42,14 @@ impl<D: Disk> Held for HeldFile<D> {
         self.store.referents()
     }
 
-    fn listed_spans(
+    fn found_events(
         &mut self,
         alloc: Global,
         table: &NamedTable,
         route: &NamedRoute,
-    ) -> Result<Vec<Span>, Refusal> {
+    ) -> Result<FoundEvents, Refusal> {
         let window = whole_route(table.kind, self.store.accepted(), route.route.number());
-        let (spans, _reads) = self.store.spans(alloc, table.number, window)?;
-        Ok(spans)
+        self.store.found_events(alloc, table.number, window)
     }
 
     ghost wants_later = { λ why a b c passed wanted. wants_later _ why a.store b.store c.store passed wanted };

@@ -22,8 +22,10 @@ use Rattle.rs_attr.specs.Entries.{FitsPages, HoldsIndex, IsColumn}
 use Rattle.rs_attr.specs.Tables.{HoldsTable, IndexState}
 use Rattle.rs_file.specs.Slots.{IsIndexOf, IsOfItem, indexes_on}
 use Rattle.rs_file_parts.specs.Parts.{IsReady}
+use Rattle.rs_table_reads.specs.Events.{SaysSpans}
 use Rattle.rs_table_reads.specs.Found.{FindsSpans, HoldsNoEntries, IsIndexed, spans_with}
 use Rattle.rs_table_reads.specs.Read.{HoldsNoEvents, ReadsSpans, spans_in}
+use Rattle.rs_table_reads.specs.declared.event_cells.FoundEvents.{FoundEvents}
 use Rattle.rs_table_reads.specs.declared.window.ColumnIndex.{ColumnIndex}
 use Rattle.rs_table_reads.specs.declared.window.RouteWindow.{RouteWindow}
 use Rattle.rs_value.specs.Row.{Datum}
@@ -46,6 +48,7 @@ use Rattle.rs_value.specs.declared.column.ColumnType.{ColumnType}
 use Rattle.rs_versioned.proofs.KeptRecords.{events_are_kept}
 use Rattle.rs_versioned.proofs.Present.{held_living}
 use Rattle.rs_versioned.specs.Events.{Event, kept_events}
+use Rattle.rs_versioned.specs.Records.{HoldsRecords}
 use Rattle.rs_store.specs.Kept.{IsAtRest, Keeps, StoreState}
 use Rattle.rs_store.specs.Placing.{HasNoNumber, IsNumberedAt}
 use Rattle.rs_store.specs.Reading.{GivesValue, HasNoIndex, HasRead, HasReadIndex, IsIndexAt, IsTableNumbered, ReadsStore, ReadsTable, lives}
@@ -76,6 +79,14 @@ module _ (window : RouteWindow) (map_of : PageMap) (opened : OpenedTable) where
       → IfOk result (λ found. map seen found.0.items ≡ spans_in window events)
   spans_open events lie (Ok found) are = are.each events lie.used lie.accepted lie.table.records
   spans_open events lie (Err why) are = tt
+
+  -- what was found says the spans of its events
+  pub found_open : (events : List Event) → HoldsOpen map_of opened events → (result : Result FoundEvents Refusal)
+      → IfOk result (λ found. (events : List Event) (used : ℕ → ℕ) (accepted : ℕ)
+      → HoldsRecords (kept_events opened.records.types) map_of opened.records.working accepted events used → SaysSpans found (spans_in window events))
+      → IfOk result (λ found. SaysSpans found (spans_in window events))
+  found_open events lie (Ok found) says = says events lie.used lie.accepted lie.table.records
+  found_open events lie (Err why) says = tt
 
   pub pages_open : {Z : Type 0} (file : OpenedFile) (number : ℕ) → IsTableNumbered file number opened → (result : Result (Vec Span Z × ℕ) Refusal)
       → IfOk result (λ found. ReadsSpans opened.records.types map_of opened.records.working window (map seen found.0.items) found.1) → IfOk result (λ found. ReadsTable map_of file number window found.1)

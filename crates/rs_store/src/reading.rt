@@ -1,6 +1,6 @@
 //! This module reads the rows of a store's tables, by the numbers of tables, indexes and routes.
 
-ghost use Rattle.std.specs.Prelude.{◌≡◌, ◌≢◌, ◌⊎◌, ◌≤◌, ℕ, Err, IfNone, IfOk, IfSome, MatchResult, Some, count_by, map};
+ghost use Rattle.std.specs.Prelude.{◌≡◌, ◌≢◌, Err, IfNone, IfOk, IfSome, MatchResult, Some, count_by, map};
 ghost use Rattle.std.specs.FinMap as names;
 ghost use Rattle.std.specs.List.{AllByRecursion};
 ghost use Rattle.rs_catalog.specs.Definitions.{TableItem};
@@ -8,6 +8,7 @@ ghost use Rattle.rs_catalog_pages.specs.Said.{said_catalogue, said_index};
 ghost use Rattle.rs_file.specs.Calls.{RefusesToLoad};
 ghost use Rattle.rs_file.specs.Contents.{Contents};
 ghost use Rattle.rs_file.specs.declared.opened.OpenedTable.{OpenedTable};
+ghost use Rattle.rs_table_reads.specs.Events.{AreEvents, SaysSpans};
 ghost use Rattle.rs_table_reads.specs.Found.{IsIndexed};
 ghost use Rattle.rs_table_reads.specs.Read.{spans_in};
 ghost use Rattle.rs_facts.specs.Fact.{Name};
@@ -30,7 +31,7 @@ use rs_disk::Disk;
 use rs_facts::Span;
 use rs_file::{OpenedFile, OpenedTable};
 use rs_refusal::Refusal;
-use rs_table_reads::{ColumnIndex, RouteWindow};
+use rs_table_reads::{ColumnIndex, FoundEvents, RouteWindow};
 use rs_value::Literal;
 use std::alloc::Global;
 
@@ -73,6 +74,31 @@ impl<D: Disk> Store<D> {
         match numbered(&self.file, table) {
             Some(opened) => rs_table_reads::spans(alloc, &mut self.pager, opened, window),
             None => Ok((Vec::new(alloc), 0)),
+        }
+    }
+
+    /// The events of the table with this number that overlap the window, in the order in which their spans are printed; none where no
+    /// table has the number. Their spans are those that `spans` gives, and it is refused as `spans` is. Nothing that is kept changes,
+    /// whatever is answered.
+    pub fn found_events(
+        &mut self,
+        alloc: Global,
+        table: u32,
+        window: RouteWindow,
+    ) -> Result<FoundEvents, Refusal>
+        ensures reads { ReadsStore D.Disk self.old self.new }
+        ensures count { MatchResult result (λ _. D.failures self.new.pager.disk ≡ D.failures self.old.pager.disk)
+            (λ why. CountsFault why (D.failures self.old.pager.disk) (D.failures self.new.pager.disk)) }
+        ensures are { IfOk result AreEvents }
+        ensures says { (contents : Contents) → Keeps D.Disk self.old contents
+            → IfOk result (λ found. SaysSpans found (spans_in window (events_of contents table))) }
+        ensures sound { (contents : Contents) → Keeps D.Disk self.old contents → result ≢ Err Refusal.DamagedFile }
+        ensures refused { RefusesToLoad result }
+    {
+        self.catalog.stand();
+        match numbered(&self.file, table) {
+            Some(opened) => rs_table_reads::found_events(alloc, &mut self.pager, opened, window),
+            None => Ok(FoundEvents::none(alloc, window)),
         }
     }
 

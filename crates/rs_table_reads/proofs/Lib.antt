@@ -1,5 +1,6 @@
 mod Entries
 mod Indexed
+mod Lends
 mod Overlaps
 mod Picks
 mod Within

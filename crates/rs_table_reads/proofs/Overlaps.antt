@@ -137,7 +137,7 @@ module _ (types : List ColumnType) where
 
   module _ (pages : PageMap) (standing : Standing) (window : RouteWindow) (found : List (List ℕ)) (reads : ℕ)
       (finds : FindsOverlapping (event_width types) pages standing.root window.route window.from window.to found reads) where
-    found_zip : (events : List Event) (used : ℕ → ℕ) (accepted : ℕ) → HoldsRecords (kept_events types) pages standing accepted events used → AllZip (SaysEvent types) found (filter (touches window) events)
+    pub found_zip : (events : List Event) (used : ℕ → ℕ) (accepted : ℕ) → HoldsRecords (kept_events types) pages standing accepted events used → AllZip (SaysEvent types) found (filter (touches window) events)
     found_zip events used accepted holds =
         found_said window found holds.cells events holds.say
         (finds.exact holds.cells used (records_of holds.cells events holds.say) holds.holds.tree (records_said holds.cells events holds.say))

@@ -1,6 +1,6 @@
 -- Which spans are picked of cells, one after another.
 use Rattle.std.proofs.Common.{◌≡◌, ◌<◌, ◌≤◌, ◌+◌, ◌-◌, ℕ, zero, suc, Bool, true, false, ◌&&◌, cond, nat_lt, Some, None, List, [], ◌∷◌, ◌++◌, drop, length, map, take, slice_get, append-nil, refl, sym, ap, ◌∙◌, subst, arith}
-use Rattle.std.proofs.lemmas.Bool.{lt-ltb}
+use Rattle.std.proofs.lemmas.Bool.{eqb-true, lt-ltb, ltb-true}
 use Rattle.std.proofs.lemmas.Bool.Decides.{nat_tests}
 use Rattle.std.proofs.lemmas.List.{length-drop, map-append, take_all}
 use Rattle.std.proofs.lemmas.List.Elements.{filter-append}
@@ -8,12 +8,14 @@ use Rattle.std.specs.Prelude.{filter}
 use Rattle.std.specs.List.{AllByRecursion, AllZip}
 use Rattle.rs_cell_versions.specs.Version.{sees}
 use Rattle.rs_facts.specs.Runs.{Stretch}
-use Rattle.rs_facts.specs.Spans.{seen}
+use Rattle.rs_facts.specs.Spans.{IsPlaced, seen}
 use Rattle.rs_facts.specs.declared.fact.Span.{Span}
 use Rattle.rs_tree.proofs.Lists.{take_next}
 use Rattle.rs_value.proofs.EncodingLaws.{said_typed}
 use Rattle.rs_value.specs.Values.{IsRowOf}
 use Rattle.rs_value.specs.declared.column.ColumnType.{ColumnType}
+use Rattle.rs_value.specs.declared.column.Kind.{Kind}
+use Rattle.rs_value.specs.declared.column.Kind.TheVariants.{Line, Point}
 use Rattle.rs_versioned.proofs.KeptRecords.{events_are_kept}
 use Rattle.rs_versioned.proofs.Overlapping.{sees_record}
 use Rattle.rs_versioned.specs.Events.{Event, SaysEvent, kept_events, span_of}
@@ -27,13 +29,13 @@ use Rattle.rs_table_reads.specs.declared.window.RouteWindow.{RouteWindow}
 pub rest_is : (wide : ℕ) (cell : List ℕ) → take (length cell - wide) (drop wide cell) ≡ drop wide cell
 rest_is wide cell = take_all (length cell - wide) (drop wide cell) (omega (arith, length-drop wide cell))
 
-and_none : (p : Bool) → (p && false) ≡ false
+pub and_none : (p : Bool) → (p && false) ≡ false
 and_none true = refl
 and_none false = refl
 
 module _ (types : List ColumnType) (window : RouteWindow) (cell : List ℕ) where
   -- the version sees the event where it sees the cell
-  picked_by : (b : Bool) → sees window.version cell ≡ b → (event : Event) → SaysEvent types cell event
+  pub picked_by : (b : Bool) → sees window.version cell ≡ b → (event : Event) → SaysEvent types cell event
       → is_picked window event ≡ ((b && nat_lt window.from event.hi) && is_placed window.kind (span_of event))
   picked_by b e event tells =
       ap (λ (t : Bool). (t && nat_lt window.from event.hi) && is_placed window.kind (span_of event)) (sym (sees_record (kept_events types) (events_are_kept types) window.version cell event tells) ∙ e)
@@ -62,6 +64,11 @@ module _ (types : List ColumnType) (window : RouteWindow) (cell : List ℕ) wher
       picked = tt;
       passed = λ event tells. picked_as event tells ∙ ap (λ (t : Bool). nat_lt window.from span.hi && t) isnt ∙ and_none (nat_lt window.from span.hi);
     }
+
+-- a span that is placed
+pub placed_is : (kind : Kind) (span : Stretch) → is_placed kind span ≡ true → IsPlaced kind span
+placed_is Line span is = ltb-true span.lo span.hi is
+placed_is Point span is = let same = eqb-true span.hi (span.lo + 1) is in omega (arith, same)
 
 -- the row of an event is one of these columns
 pub row_said : (types : List ColumnType) (cell : List ℕ) (span : Stretch) → ((event : Event) × SaysEvent types cell event) → ((event : Event) → SaysEvent types cell event → span ≡ span_of event) → IsRowOf types span.row

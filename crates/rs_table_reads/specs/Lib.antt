@@ -1,3 +1,4 @@
+pub mod Events
 pub mod Found
 pub mod Picked
 pub mod Read

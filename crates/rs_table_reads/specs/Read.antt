@@ -64,6 +64,6 @@ module _ {P : Type 0} (pages : Ghosts P) (table : OpenedTable) where
       → IfOk result (λ found. ReadsSpans table.records.types (pages.store old).map table.records.working window (map seen found.0.items) found.1)
 
   -- 94 only where no events of the table lie there
-  abbrev pub FindsNoEvents : Result (Vec Span Global × ℕ) Refusal → P → Type 0
+  abbrev pub FindsNoEvents : {A : Type 0} → Result A Refusal → P → Type 0
   FindsNoEvents result old = pages.is_tied old → result ≡ Err refusal.DamagedFile
       → HoldsNoEvents table.records.types (pages.store old).map table.records.working

@@ -5,6 +5,8 @@
 //! whatever it answers.
 #![tactic(auto)]
 
+pub mod event_cells;
+pub mod finding;
 mod keys;
 pub mod laws;
 mod picking;
@@ -12,6 +14,8 @@ pub mod reading;
 pub mod searching;
 pub mod window;
 
+pub use event_cells::FoundEvents;
+pub use finding::found_events;
 pub use reading::spans;
 pub use searching::spans_with;
 pub use window::{ColumnIndex, RouteWindow};

@@ -4,8 +4,10 @@ ghost use Rattle.std.specs.Prelude.{◌≡◌, ◌⊎◌, ◌+◌, IfErr, IfOk, 
 ghost use Rattle.std.specs.List.{AllByRecursion};
 ghost use Rattle.rs_table_reads.specs.Picked.{PicksOne, PicksSpans, SayNone};
 ghost use Rattle.rs_table_reads.specs.Read.{is_placed};
+ghost use Rattle.rs_facts.specs.Runs.{stretch};
 ghost use Rattle.rs_facts.specs.Spans.{ArePlaced, IsPlaced, seen};
 ghost use Rattle.rs_records.specs.Listed.{listed, record_width};
+ghost use Rattle.rs_value.specs.Row.{Row};
 ghost use Rattle.rs_value.specs.Values.{IsRowOf};
 ghost use Rattle.rs_versioned.specs.Events.{Event, SaysEvent, event_width};
 
@@ -60,18 +62,18 @@ fn picked_span(
         return Ok(None);
     }
     let span = span_of(alloc, schema, cell)?;
-    if window.from < span.hi && is_placed(window.kind, &span) {
+    if window.from < span.hi && is_placed(window.kind, span.lo, span.hi) {
         return Ok(Some(span));
     }
     Ok(None)
 }
 
-/// Whether a span is placed as the kind asks.
-fn is_placed(kind: Kind, span: &Span) -> bool
-    ensures { result ≡ is_placed kind (seen span.now) }
+/// Whether a span of whatever row is placed as the kind asks.
+pub(crate) fn is_placed(kind: Kind, lo: u32, hi: u32) -> bool
+    ensures { (row : Row) → result ≡ is_placed kind (stretch lo hi row) }
 {
     match kind {
-        Kind::Line => span.lo < span.hi,
-        Kind::Point => span.lo < span.hi && span.hi - span.lo == 1,
+        Kind::Line => lo < hi,
+        Kind::Point => lo < hi && hi - lo == 1,
     }
 }

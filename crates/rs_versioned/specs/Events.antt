@@ -13,6 +13,7 @@ use Rattle.rs_value.specs.Encoding.{SaysRow, row_width}
 use Rattle.rs_value.specs.Row.{Row}
 use Rattle.rs_cell_versions.specs.declared.cell.TheConstants.{LIVING}
 use Rattle.rs_versioned.specs.Records.{Kept}
+use Rattle.rs_versioned.specs.declared.event.LentSpan.{LentSpan}
 
 -- a row that holds on a route from one thousandth up to another, as versions from one up to another see it
 pub record Event : Type 0 where
@@ -58,6 +59,12 @@ is_on version route event = event.route == route && sees_event version event
 
 abbrev pub span_of : Event → Stretch
 span_of event = stretch event.lo event.hi event.row
+
+-- the lent span says this one, with a row of these columns
+pub record SaysSpan (types : List ColumnType) (lent : LentSpan) (span : Stretch) : Type 0 where
+  pub lo : lent.lo ≡ span.lo
+  pub hi : lent.hi ≡ span.hi
+  pub row : SaysRow types lent.row.now span.row
 
 -- the spans that a version sees on a route
 abbrev pub spans_at : ℕ → ℕ → List Event → List Stretch

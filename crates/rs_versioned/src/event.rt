@@ -9,7 +9,7 @@ ghost use Rattle.rs_refusal.specs.declared.refusal.Refusal.TheVariants as refusa
 ghost use Rattle.rs_value.specs.declared.column.ColumnType.{ColumnType};
 ghost use Rattle.rs_value.specs.Encoding.{SaysRow, row_width};
 ghost use Rattle.rs_value.specs.Values.{IsRowOf};
-ghost use Rattle.rs_versioned.specs.Events.{Event, SaysEvent, event_of, event_width, span_of};
+ghost use Rattle.rs_versioned.specs.Events.{Event, SaysEvent, SaysSpan, event_of, event_width, span_of};
 
 use rs_cell_versions::LIVING;
 use rs_facts::fact::Span;
@@ -26,6 +26,20 @@ const ROUTE_BYTES: usize = 4;
 
 /// The bytes before the row.
 const FRONT_BYTES: usize = 8;
+
+/// The bytes after the row.
+const BACK_BYTES: usize = EVENT_BYTES - FRONT_BYTES;
+
+/// The span of an event, whose row is lent as bytes.
+#[derive(Clone, Copy)]
+pub struct LentSpan<'a> {
+    /// The first thousandth.
+    pub lo: u32,
+    /// The first thousandth after it.
+    pub hi: u32,
+    /// The bytes of the row.
+    pub row: &'a [u8],
+}
 
 /// The cell of a living event.
 pub fn cell_of(
@@ -65,6 +79,21 @@ pub fn place_of(cell: &[u8]) -> (u32, u32)
     let at = cell.len() - AFTER_BIRTH_BYTES;
     let hi = number_of_four(&cell[at..at + 4]);
     (lo, hi)
+}
+
+/// The span of an event, its row lent as the bytes that the cell has of it. Takes no memory.
+pub fn lent_span(cell: &[u8]) -> LentSpan<'_>
+    requires width { EVENT_BYTES ≤ length cell.now }
+    ensures width { length result.row.now + EVENT_BYTES ≡ length cell.now }
+    ensures says { (types : List ColumnType) (event : Event) → SaysEvent types cell.now event → SaysSpan types result (span_of event) }
+{
+    let (lo, hi) = place_of(cell);
+    let end = cell.len() - BACK_BYTES;
+    LentSpan {
+        lo,
+        hi,
+        row: &cell[FRONT_BYTES..end],
+    }
 }
 
 /// Whether the cell says an event with a row of these columns. Takes no memory.

@@ -7,8 +7,8 @@ use Rattle.rs_dump.proofs.rows.add_rows_on.Goals as goal
 
 pub returns-in_err-push_row_front-in-Ok-clause-reads : goal.returns-in_err-push_row_front-in-Ok-clause-reads
 returns-in_err-push_row_front-in-Ok-clause-reads g c =
-    let read = c.listed_spans.ensures in
-    reads_next g.H.Held c.args.held.now c.args.held.now c.listed_spans.new.self (reads_nothing g.H.Held c.args.held.now) read.catalog read.referents read.shows read.passes
+    let read = c.found_events.ensures in
+    reads_next g.H.Held c.args.held.now c.args.held.now c.found_events.new.self (reads_nothing g.H.Held c.args.held.now) read.catalog read.referents read.shows read.passes
 
 pub returns-in_err-push_row_front-in-Ok-clause-lines : goal.returns-in_err-push_row_front-in-Ok-clause-lines
 returns-in_err-push_row_front-in-Ok-clause-lines g c = λ shown shows.
@@ -16,13 +16,13 @@ returns-in_err-push_row_front-in-Ok-clause-lines g c = λ shown shows.
 
 pub returns-in_ok-push_row_front-in-Ok-clause-reads : goal.returns-in_ok-push_row_front-in-Ok-clause-reads
 returns-in_ok-push_row_front-in-Ok-clause-reads g c =
-    let read = c.listed_spans.ensures in
-    reads_next g.H.Held c.args.held.now c.args.held.now c.listed_spans.new.self (reads_nothing g.H.Held c.args.held.now) read.catalog read.referents read.shows read.passes
+    let read = c.found_events.ensures in
+    reads_next g.H.Held c.args.held.now c.args.held.now c.found_events.new.self (reads_nothing g.H.Held c.args.held.now) read.catalog read.referents read.shows read.passes
 
 pub returns-in_err-put_piece-in-Err-clause-reads : goal.returns-in_err-put_piece-in-Err-clause-reads
 returns-in_err-put_piece-in-Err-clause-reads g c =
-    let read = c.listed_spans.ensures in
-    reads_next g.H.Held c.args.held.now c.args.held.now c.listed_spans.new.self (reads_nothing g.H.Held c.args.held.now) read.catalog read.referents read.shows read.passes
+    let read = c.found_events.ensures in
+    reads_next g.H.Held c.args.held.now c.args.held.now c.found_events.new.self (reads_nothing g.H.Held c.args.held.now) read.catalog read.referents read.shows read.passes
 
 pub returns-in_err-put_piece-in-Err-clause-lines : goal.returns-in_err-put_piece-in-Err-clause-lines
 returns-in_err-put_piece-in-Err-clause-lines g c = λ shown shows.
@@ -32,5 +32,5 @@ returns-in_err-put_piece-in-Err-clause-lines g c = λ shown shows.
 
 pub returns-in_ok-put_piece-in-Err-clause-reads : goal.returns-in_ok-put_piece-in-Err-clause-reads
 returns-in_ok-put_piece-in-Err-clause-reads g c =
-    let read = c.listed_spans.ensures in
-    reads_next g.H.Held c.args.held.now c.args.held.now c.listed_spans.new.self (reads_nothing g.H.Held c.args.held.now) read.catalog read.referents read.shows read.passes
+    let read = c.found_events.ensures in
+    reads_next g.H.Held c.args.held.now c.args.held.now c.found_events.new.self (reads_nothing g.H.Held c.args.held.now) read.catalog read.referents read.shows read.passes
